@@ -1,0 +1,4 @@
+pub mod Bodies
+pub mod Valid
+pub mod Machine
+pub mod Running

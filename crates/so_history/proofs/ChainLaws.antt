@@ -1,0 +1,229 @@
+-- The entries of the picks, and that a run that is not over goes on.
+use Rattle.std.proofs.Common.{◌≡◌, ℕ, zero, suc, ◌+◌, ◌<◌, ◌≤◌, List, [], ◌∷◌, length, Bool, true, false, not, ◌&&◌, cond, Option, Some, None, arith, refl, sym, ◌∙◌, ap, subst, inl, inr}
+use Rattle.std.specs.Prelude.{◌==◌, ◌⊎◌}
+use Rattle.std.specs.List.{filter, find, AllByRecursion}
+use Rattle.std.specs.Option.{option_map}
+use Rattle.std.proofs.lemmas.Bool.{cases_Bool, and_parts, eq-eqb, false≢true}
+use Rattle.so_ids.specs.declared.CoopId.{CoopId}
+use Rattle.so_ids.specs.declared.PartyId.{PartyId}
+use Rattle.so_ids.specs.declared.LaneId.{LaneId}
+use Rattle.so_ids.specs.declared.Reason.{Reason}
+use Rattle.so_ids.specs.declared.Reason.TheVariants.{Shutdown}
+use Rattle.so_ids.specs.Ids.{party_of}
+use Rattle.so_lists.specs.Lists.{is_empty, or_else, head, first_below}
+use Rattle.so_lists.proofs.Filters.{each-weaker, each-filter}
+use Rattle.so_lists.proofs.First.{or_else-none, or_else-last, or_else-swap, first_below-none, none-first_below, first_below-from, first_below-some, option_map-none, empty-list}
+use Rattle.so_scene.specs.declared.parts.SceneParts.{SceneParts}
+use Rattle.so_scene.specs.Parts.{IsScene}
+use Rattle.so_scene.specs.Lanes.{lanes, key_of, serves}
+use Rattle.so_scene.proofs.LaneLaws.{some_lane}
+use Rattle.so_history.specs.declared.entry.Entry.{Entry}
+use Rattle.so_history.specs.declared.entry.EntryKind.{EntryKind}
+use Rattle.so_history.specs.declared.entry.EntryKind.TheVariants.{Register, Begin, Act, End, Leaving, Left, Stop}
+use Rattle.so_history.specs.declared.entry.StopCause.{StopCause}
+use Rattle.so_history.specs.declared.entry.StopCause.TheVariants.{Idle}
+use Rattle.so_history.specs.declared.entry.Demand.{Demand}
+use Rattle.so_history.specs.Demands.{waiting}
+use Rattle.so_history.specs.Turns.{Started, Course, running, running_at, running_on, running_with, lane_number, key_number, course}
+use Rattle.so_history.specs.Coops.{tried, present, leaving, stopped, has_reason}
+use Rattle.so_history.specs.Units.{fits}
+use Rattle.so_history.specs.Order.{is_free, may_take, pick, taking}
+use Rattle.so_history.specs.Steps.{the_coop, may_leave, is_idle, finished, IsStep, Legal}
+use Rattle.so_history.specs.Chain.{by_main, next_of, turn_entry, turn_on, begin_entry, registration, leaving_entry, left_entry, stop_entry, tidying, lane_entry, first, fitting, next_entry, StopsAtLimit}
+use Rattle.so_history.proofs.DemandLaws.{pick-free, waiting_of}
+use Rattle.so_history.proofs.TurnLaws.{running_looked_up, at_looked_up, running_nowhere, running_at-nil}
+use Rattle.so_history.proofs.CourseLaws.{has_course}
+
+registered_cond : (b : Bool) (e : Entry) → cond b None (Some (by_main (Register the_coop))) ≡ Some e → e ≡ by_main (Register the_coop)
+registered_cond true e h = cc
+registered_cond false e h = cc
+
+-- what main registers
+pub registered : (h : List Entry) (e : Entry) → registration h ≡ Some e → e ≡ by_main (Register the_coop)
+unfolding registration
+registered h e r = registered_cond (tried h) e r
+
+-- what is tidied is one of three
+abbrev pub IsTidying : EntryKind → Type 0
+IsTidying (Leaving coop reason) = Unit {0}
+IsTidying (Left coop) = Unit {0}
+IsTidying (Stop cause) = Unit {0}
+IsTidying _ = ⊥
+
+abbrev Tidied : Option Entry → Type 0
+Tidied None = ⊥
+Tidied (Some x) = IsTidying x.kind
+
+of_tidying : (a b c : Bool) (e : Entry) →
+    or_else (cond a (Some (by_main (Leaving the_coop Shutdown))) None) (or_else (cond b (Some (by_main (Left the_coop))) None) (cond c (Some (by_main (Stop Idle))) None)) ≡ Some e → IsTidying e.kind
+of_tidying true b c e h = subst Tidied h tt
+of_tidying false true c e h = subst Tidied h tt
+of_tidying false false true e h = subst Tidied h tt
+of_tidying false false false e h = cc
+
+pub tidied : (s : SceneParts) (h : List Entry) (e : Entry) → tidying s h ≡ Some e → IsTidying e.kind
+unfolding tidying
+tidied s h e t = of_tidying (has_reason h) (may_leave s h) (not (stopped h) && is_idle s h) e t
+
+pub not_tidied : (kind : EntryKind) → IsTidying kind → ((coop : CoopId) (reason : Reason) → kind ≡ Leaving coop reason → ⊥) → ((coop : CoopId) → kind ≡ Left coop → ⊥) → ((cause : StopCause) → kind ≡ Stop cause → ⊥) → ⊥
+not_tidied (Leaving coop reason) t a b c = a coop reason refl
+not_tidied (Left coop) t a b c = b coop refl
+not_tidied (Stop cause) t a b c = c cause refl
+not_tidied (Register coop) t a b c = t
+not_tidied (Begin lane demand opening agent) t a b c = t
+not_tidied (Act turn effect answer) t a b c = t
+not_tidied (End turn) t a b c = t
+
+-- the stop for idleness is tried last, and only where nothing waits: so it may be tried before the Begins
+regroup : (l f s b : Option Entry) → or_else s b ≡ or_else b s → or_else (or_else l (or_else f s)) b ≡ or_else l (or_else f (or_else b s))
+regroup (Some x) f s b h = refl
+regroup None (Some x) s b h = refl
+regroup None None s b h = h
+
+stops_idle : (b c : Bool) (e : Entry) → cond (b && c) (Some (by_main (Stop Idle))) None ≡ Some e → c ≡ true
+stops_idle true true e h = refl
+stops_idle true false e h = cc
+stops_idle false c e h = cc
+
+idle_waits : (s : SceneParts) (h : List Entry) → is_idle s h ≡ true → is_empty (waiting s h) ≡ true
+unfolding is_idle
+idle_waits s h i = (and_parts (is_empty (waiting s h)) _ (and_parts (tried h) _ i).1).0
+
+nothing_found : (s : SceneParts) (h : List Entry) (lane : LaneId) (ds : List Demand) → is_empty ds ≡ true → find (may_take s h lane) ds ≡ None
+nothing_found s h lane [] e = refl
+nothing_found s h lane (d ∷ ds) e = cc
+
+none_cond : (b : Bool) (r : Option Demand) → r ≡ None → cond b r None ≡ None
+none_cond true r e = e
+none_cond false r e = refl
+
+nothing_picked : (s : SceneParts) (h : List Entry) (lane : LaneId) → is_empty (waiting s h) ≡ true → pick s h lane ≡ None
+unfolding pick
+nothing_picked s h lane e = none_cond (is_free h lane) _ (nothing_found s h lane (waiting s h) e)
+
+no_begin : (s : SceneParts) (h : List Entry) (lane : LaneId) → is_empty (waiting s h) ≡ true → begin_entry s h lane ≡ None
+no_begin s h lane e = rw (nothing_picked s h lane e) refl
+
+-- where no turn runs, the first step is a registration, else what is to be tidied, else a Begin
+pub first-free : (s : SceneParts) (h : List Entry) → ((l : ℕ) → l < lanes s → running_at lane_number h l ≡ []) →
+    first s h ≡ or_else (registration h) (or_else (tidying s h) (first_below (λ l. begin_entry s h (record { 0 = l })) (lanes s)))
+unfolding first tidying
+first-free s h free =
+    let none : first_below (λ l. turn_entry s h (turn_on h (record { 0 = l }))) (lanes s) ≡ None = first_below-none _ (lanes s) (λ l k. ap (λ ts. turn_entry s h (head ts)) (free l k)) in
+    let begins : (e : Entry) → stop_entry s h ≡ Some e → first_below (λ l. begin_entry s h (record { 0 = l })) (lanes s) ≡ None =
+    λ e stop. first_below-none _ (lanes s) (λ l k. no_begin s h (record { 0 = l }) (idle_waits s h (stops_idle (not (stopped h)) (is_idle s h) e stop))) in
+    rw none (ap (or_else (registration h)) (sym (regroup (leaving_entry h) (left_entry s h) (stop_entry s h) _ (or_else-swap (stop_entry s h) _ begins))))
+
+-- and where the first turn that runs is on this lane, it is that turn's move
+pub first-turn : (s : SceneParts) (h : List Entry) (lane : ℕ) (x : Entry) → lane < lanes s → turn_entry s h (turn_on h (record { 0 = lane })) ≡ Some x → ((l : ℕ) → l < lane → running_at lane_number h l ≡ []) → first s h ≡ Some x
+unfolding first
+first-turn s h lane x l e before = rw (first_below-some (λ i. turn_entry s h (turn_on h (record { 0 = i }))) (lanes s) lane x l e (λ i k. ap (λ ts. turn_entry s h (head ts)) (before i k))) refl
+
+-- the entry of a lane where no turn runs on it
+pub lane_entry-free : (s : SceneParts) (h : List Entry) (lane : LaneId) → running_on h lane ≡ [] → lane_entry s h lane ≡ begin_entry s h lane
+unfolding lane_entry
+lane_entry-free s h lane free = rw free refl
+
+-- and where one does
+pub lane_entry-turn : (s : SceneParts) (h : List Entry) (lane : LaneId) (x : Entry) → turn_entry s h (turn_on h lane) ≡ Some x → lane_entry s h lane ≡ Some x
+unfolding lane_entry
+lane_entry-turn s h lane x e = rw e refl
+
+abbrev HasCourseHere : SceneParts → List Entry → Started → Type 0
+HasCourseHere s h t = (c : Course) × (course s h t.place ≡ Some c)
+
+-- a lane that has no move has no turn
+no_move : (s : SceneParts) (h : List Entry) (ts : List Started) → AllByRecursion (λ t. HasCourseHere s h t) ts → turn_entry s h (head ts) ≡ None → ts ≡ []
+no_move s h [] a e = refl
+no_move s h (t ∷ ts) a e =
+    let it : option_map (next_of s h t) (course s h t.place) ≡ Some (next_of s h t a.0.0) = ap (option_map (next_of s h t)) a.0.1 in
+    let none : Some (next_of s h t a.0.0) ≡ None = sym it ∙ e in
+    absurd cc
+
+no_turn : (s : SceneParts) (h : List Entry) (lane : LaneId) → turn_entry s h (turn_on h lane) ≡ None → running_on h lane ≡ []
+no_turn s h lane e =
+    no_move s h (running_on h lane)
+    (each-weaker _ _ (λ t p. let it = has_course s h t p.0 in (it.reached, it.has)) (running_on h lane) (at_looked_up lane_number h lane.0)) e
+
+-- where no lane may take a demand and no turn runs, none waits
+nothing_waits : (s : SceneParts) (h : List Entry) (ds : List Demand) → IsScene s → running h ≡ [] → AllByRecursion (λ d. d.agent.0 < length s.agents) ds → ((l : ℕ) → l < lanes s → find (may_take s h (record { 0 = l })) ds ≡ None) → ds ≡ []
+nothing_waits s h [] scene quiet a e = refl
+nothing_waits s h (d ∷ ds) scene quiet a e =
+    let lane = some_lane s d.agent scene a.0 in
+    let free : is_empty (running_with s h (key_of s d.agent)) ≡ true = ap is_empty (running_at-nil (key_number s) h (key_of s d.agent).0 quiet) in
+    let may : may_take s h lane.lane d ≡ true = rw (lane.serves, free) refl in
+    let none : find (may_take s h lane.lane) (d ∷ ds) ≡ None = e lane.lane.0 lane.in_range in
+    let some : Some d ≡ None = rw may at none in
+    absurd cc
+
+if_none : (b : Bool) (e : Entry) → cond b (Some e) None ≡ None → b ≡ false
+if_none true e h = cc
+if_none false e h = refl
+
+unless_none : (b : Bool) (e : Entry) → cond b None (Some e) ≡ None → b ≡ true
+unless_none true e h = refl
+unless_none false e h = cc
+
+-- the marks of a run in which nothing is to be done
+over_cases : (t st p l : Bool) → t ≡ true → (st && (p && not l)) ≡ false → (l && (true && true)) ≡ false → (not st && (t && (true && (true && (true && true))))) ≡ false → (st && (not p && true)) ≡ true
+over_cases false st p l a b c d = cc
+over_cases true true p true a b c d = cc
+over_cases true true true false a b c d = cc
+over_cases true true false false a b c d = refl
+over_cases true false p l a b c d = cc
+
+registered_none : (h : List Entry) → registration h ≡ None → tried h ≡ true
+unfolding registration
+registered_none h e = unless_none (tried h) _ e
+
+record Untidied (s : SceneParts) (h : List Entry) : Type 0 where
+  no_reason : has_reason h ≡ false
+  stays : may_leave s h ≡ false
+  busy : (not (stopped h) && is_idle s h) ≡ false
+
+tidied_none : (s : SceneParts) (h : List Entry) → tidying s h ≡ None → Untidied s h
+unfolding tidying
+tidied_none s h e =
+    let a = or_else-none (leaving_entry h) (or_else (left_entry s h) (stop_entry s h)) e in
+    let b = or_else-none (left_entry s h) (stop_entry s h) a.1 in
+    record { no_reason = if_none (has_reason h) _ a.0; stays = if_none (may_leave s h) _ b.0; busy = if_none (not (stopped h) && is_idle s h) _ b.1 }
+
+over : (s : SceneParts) (h : List Entry) → waiting s h ≡ [] → running h ≡ [] → tried h ≡ true → Untidied s h → finished s h ≡ true
+unfolding has_reason may_leave is_idle finished
+over s h w r t u =
+    let stays : (leaving h && (true && true)) ≡ false = rw (w, r) at u.stays in
+    let busy : (not (stopped h) && (tried h && (true && (true && (true && true))))) ≡ false = rw (u.no_reason, u.stays, w, r) at u.busy in
+    rw w (over_cases (tried h) (stopped h) (present h) (leaving h) t u.no_reason stays busy)
+
+moves_none : (s : SceneParts) (h : List Entry) → first s h ≡ None → (l : ℕ) → l < lanes s → running_at lane_number h l ≡ []
+unfolding first
+moves_none s h none l k =
+    no_turn s h (record { 0 = l }) (none-first_below (λ i. turn_entry s h (turn_on h (record { 0 = i }))) (lanes s)
+    (or_else-none (first_below (λ i. turn_entry s h (turn_on h (record { 0 = i }))) (lanes s)) _ none).0 l k)
+
+-- after a legal history that is not over there is a first step
+pub goes_on : (s : SceneParts) (h : List Entry) → IsScene s → Legal s h → first s h ≡ None → finished s h ≡ true
+goes_on s h scene legal none =
+    let free = moves_none s h none in
+    let quiet : running h ≡ [] = running_nowhere s h legal free in
+    let parts = or_else-none (registration h) _ (sym (first-free s h free) ∙ none) in
+    let rest = or_else-none (tidying s h) _ parts.1 in
+    let unpicked : (l : ℕ) → l < lanes s → find (may_take s h (record { 0 = l })) (waiting s h) ≡ None =
+    λ l k.
+    let entry : begin_entry s h (record { 0 = l }) ≡ None = none-first_below (λ i. begin_entry s h (record { 0 = i })) (lanes s) rest.1 l k in
+    sym (pick-free s h (record { 0 = l }) (ap is_empty (free l k))) ∙ option_map-none _ (pick s h (record { 0 = l })) entry in
+    over s h (nothing_waits s h (waiting s h) scene quiet (waiting_of s h scene) unpicked) quiet (registered_none h parts.0) (tidied_none s h rest.0)
+
+-- a simulation that stops before the run is over stops at a first step that doesn't fit
+end_fits : (s : SceneParts) (limit : ℕ) (h : List Entry) (x : Entry) (b : Bool) → fits s limit h x ≡ b → cond b (Some x) None ≡ None → fits s limit h x ≡ false
+end_fits s limit h x true f e = cc
+end_fits s limit h x false f e = f
+
+end_case : (s : SceneParts) (limit : ℕ) (h : List Entry) (o : Option Entry) → first s h ≡ o → (o ≡ None → ⊥) → fitting s limit h o ≡ None → StopsAtLimit s limit h
+end_case s limit h None is some e = absurd (some refl)
+end_case s limit h (Some x) is some e = record { entry = x; next = is; too_large = end_fits s limit h x (fits s limit h x) refl e }
+
+pub stops_at : (s : SceneParts) (limit : ℕ) (h : List Entry) → IsScene s → Legal s h → next_entry s limit h ≡ None → finished s h ≡ false → StopsAtLimit s limit h
+unfolding next_entry
+stops_at s limit h scene legal none going =
+    end_case s limit h (first s h) refl (λ n. false≢true (sym going ∙ goes_on s h scene legal n)) (rw going at none)

@@ -1,0 +1,11 @@
+pub mod PlacesLemmas
+pub mod NameLaws
+pub mod DemandLaws
+pub mod TurnLaws
+pub mod CourseLaws
+pub mod ChainLaws
+pub mod PlaceLaws
+pub mod OverlapLaws
+pub mod OrderLaws
+pub mod CoopLaws
+pub mod FactLaws

@@ -1,0 +1,179 @@
+-- Demands of one queue are taken in order, and each turn begins as its demand says.
+use Rattle.std.proofs.Common.{◌≡◌, ℕ, ◌+◌, ◌<◌, ◌≤◌, List, [], ◌∷◌, ◌++◌, length, Bool, true, false, not, ◌&&◌, ◌||◌, cond, Option, Some, None, arith, refl, sym, ◌∙◌, ap, subst, inl, inr}
+use Rattle.std.specs.Prelude.{◌==◌, ◌⊎◌}
+use Rattle.std.specs.List.{filter, find, AllByRecursion}
+use Rattle.std.proofs.lemmas.List.{append-nil}
+use Rattle.std.proofs.lemmas.Bool.{cases_Bool, or_cases, and_parts, and_left, ne_eqb, false≢true}
+use Rattle.std.proofs.lemmas.Option.{same_Some}
+use Rattle.so_ids.specs.declared.AgentId.{AgentId}
+use Rattle.so_ids.specs.declared.LaneId.{LaneId}
+use Rattle.so_ids.specs.declared.KeyId.{KeyId}
+use Rattle.so_ids.specs.declared.DemandId.{DemandId}
+use Rattle.so_ids.specs.declared.Opening.{Opening}
+use Rattle.so_ids.specs.declared.Opening.TheVariants.{Start as OpenStart}
+use Rattle.so_ids.specs.declared.PartyId.{PartyId}
+use Rattle.so_ids.specs.Ids.{same_demand, is_earlier}
+use Rattle.so_lists.specs.Lists.{is_empty}
+use Rattle.so_lists.proofs.Filters.{each-weaker, find-filter, find_front}
+use Rattle.so_scene.specs.declared.parts.SceneParts.{SceneParts}
+use Rattle.so_scene.specs.Lanes.{key_of, serves}
+use Rattle.so_history.specs.declared.entry.Entry.{Entry}
+use Rattle.so_history.specs.declared.entry.EntryKind.{EntryKind}
+use Rattle.so_history.specs.declared.entry.EntryKind.TheVariants.{Register, Begin, Act, End, Leaving, Left, Stop}
+use Rattle.so_history.specs.declared.entry.Demand.{Demand}
+use Rattle.so_history.specs.Places.{entry_at, before}
+use Rattle.so_history.specs.Demands.{queued_by, demands, takes, taken, waiting}
+use Rattle.so_history.specs.Turns.{running_with}
+use Rattle.so_history.specs.Order.{may_take, pick, taking, opening_of}
+use Rattle.so_history.specs.Steps.{IsBegin, IsRow, IsStep, Legal}
+use Rattle.so_history.specs.Facts.{StandsAt, named, TakesAt, TakenBefore, InOrder, BeginsWith, ByChoice}
+use Rattle.so_history.proofs.NameLaws.{same_place, earlier_differs, found_by_name, found_least}
+use Rattle.so_history.proofs.DemandLaws.{queued_here, waiting_sorted, picked, takes_waiting, taken_early}
+use Rattle.so_history.proofs.TurnLaws.{may_be_taken}
+use Rattle.so_history.proofs.PlaceLaws.{Where, is_last, is_early, place_of_entry, inside, entry_at-last, entry_at-early, steps_at}
+
+or_true : (b : Bool) → (b || true) ≡ true
+or_true true = refl
+or_true false = refl
+
+-- what is taken at a place is taken, and the other way round
+pub takes_taken : (h : List Entry) (d : DemandId) (place : ℕ) → TakesAt h place d → taken h d ≡ true
+unfolding taken
+takes_taken [] d place it = let e = it.here in absurd cc
+takes_taken (x ∷ h) d place it =
+    let P : Entry → Type 0 = λ y. takes y.kind d ≡ true in
+    elim (place_of_entry x h place it.entry it.here) [
+      | is_last at same ↦ (let now : takes x.kind d ≡ true = subst P (sym same) it.takes in rw now refl)
+      | is_early early there ↦
+          (let before : taken h d ≡ true = takes_taken h d place (record { entry = it.entry; here = there; takes = it.takes }) in
+          rw before (or_true (takes x.kind d)))
+    ]
+
+wider : (e : Entry) (h : List Entry) (d : DemandId) (place : ℕ) → place ≤ length h → TakenBefore h d place → TakenBefore (e ∷ h) d place
+wider e h d place l it = record {
+  when = it.when;
+  earlier = it.earlier;
+  takes = record { entry = it.takes.entry; here = entry_at-early e h it.when (omega (arith, it.earlier)) ∙ it.takes.here; takes = it.takes.takes };
+}
+
+taken_somewhere : (h : List Entry) (d : DemandId) → taken h d ≡ true → TakenBefore h d (length h)
+unfolding taken
+taken_somewhere [] d e = absurd cc
+taken_somewhere (x ∷ h) d e =
+    elim (or_cases (takes x.kind d) (taken h d) e) [
+      | inl now ↦ record { when = length h; earlier = omega arith; takes = record { entry = x; here = entry_at-last x h; takes = now } }
+      | inr before ↦
+          (let it = wider x h d (length h) (omega arith) (taken_somewhere h d before) in
+          record { when = it.when; earlier = omega (arith, it.earlier); takes = it.takes })
+    ]
+
+-- a demand of a place before the end is not among those that are queued at the end
+pub named-early : (s : SceneParts) (e : Entry) (h : List Entry) (id : DemandId) → id.place.0 < length h → named id (demands s (e ∷ h)) ≡ named id (demands s h)
+unfolding demands
+named-early s e h id early =
+    find_front (λ d. same_demand id d.id) (demands s h) (queued_by s h e.kind)
+    (each-weaker _ (λ d. same_demand id d.id ≡ false) (λ d at. let here : d.id.place.0 ≡ length h = at in and_left (id.place.0 == d.id.place.0) (id.k == d.id.k) (ne_eqb id.place.0 d.id.place.0 (λ same. omega arith))) (queued_by s h e.kind) (queued_here s h e.kind))
+
+-- a demand that is there and not taken waits under its name
+named_waits : (s : SceneParts) (h : List Entry) (d : Demand) → named d.id (demands s h) ≡ Some d → taken h d.id ≡ false → named d.id (waiting s h) ≡ Some d
+unfolding waiting
+named_waits s h d there untaken = find-filter (λ x. same_demand d.id x.id) (λ x. not (taken h x.id)) (demands s h) d (rw untaken refl) there
+
+-- a demand of the queue that is earlier than the one taken is not waiting any more
+earlier_taken : (s : SceneParts) (h : List Entry) (lane : LaneId) (c d : Demand) → pick s h lane ≡ Some d → named c.id (demands s h) ≡ Some c → key_of s c.agent ≡ key_of s d.agent → is_earlier c.id d.id ≡ true → taken h c.id ≡ true
+earlier_taken s h lane c d picks there key earlier =
+    elim (cases_Bool (taken h c.id)) [
+      | inl was ↦ was
+      | inr waits ↦
+          (let found = (picked s h lane d picks).1 in
+          let may : may_take s h lane d ≡ true = may_be_taken s h lane (waiting s h) d found in
+          let P : KeyId → Type 0 = λ k. (serves s lane k && is_empty (running_with s h k)) ≡ true in
+          let its : may_take s h lane c ≡ true = subst P (sym key) may in
+          let not_earlier = found_least (may_take s h lane) (waiting s h) d c (waiting_sorted s h) its found (named_waits s h c there waits) in
+          absurd (false≢true (sym not_earlier ∙ earlier)))
+    ]
+
+-- what a Begin takes
+record Taken (s : SceneParts) (h : List Entry) (id : DemandId) : Type 0 where
+  lane : LaneId
+  demand : Demand
+  picked : pick s h lane ≡ Some demand
+  is : demand.id ≡ id
+
+what_begin : (s : SceneParts) (h : List Entry) (by : PartyId) (lane : LaneId) (kind : EntryKind) → IsBegin s h by lane kind → (d : DemandId) → takes kind d ≡ true → Taken s h d
+what_begin s h by lane kind row d t = record { lane = lane; demand = row.demand; picked = row.picked; is = same_place row.demand.id d (sym (ap (λ k. takes k d) row.is) ∙ t) }
+
+what : (s : SceneParts) (h : List Entry) (by : PartyId) (kind : EntryKind) → IsRow s h by kind → (d : DemandId) → takes kind d ≡ true → Taken s h d
+what s h by (Begin lane demand opening agent) row d t = what_begin s h by lane (Begin lane demand opening agent) row d t
+what s h by (Register coop) row d t = absurd cc
+what s h by (Act turn effect answer) row d t = absurd cc
+what s h by (End turn) row d t = absurd cc
+what s h by (Leaving coop reason) row d t = absurd cc
+what s h by (Left coop) row d t = absurd cc
+what s h by (Stop cause) row d t = absurd cc
+
+place_before : (a b : DemandId) → is_earlier a b ≡ true → a.place.0 ≤ b.place.0
+place_before a b e = grind arith
+
+-- the entry takes the later demand
+now_case : (s : SceneParts) (e : Entry) (h : List Entry) (c d : Demand) → Legal s h → IsStep s h e → named c.id (demands s (e ∷ h)) ≡ Some c → named d.id (demands s (e ∷ h)) ≡ Some d → key_of s c.agent ≡ key_of s d.agent →
+    is_earlier c.id d.id ≡ true → takes e.kind d.id ≡ true → TakenBefore (e ∷ h) c.id (length h)
+now_case s e h c d legal step has_c has_d key earlier t =
+    let it = what s h e.by e.kind step.row d.id t in
+    let waits = takes_waiting s h e.by e.kind step.row d.id t in
+    let before_c : c.id.place.0 < length h = omega (arith, place_before c.id d.id earlier, waits.0) in
+    let there_c : named c.id (demands s h) ≡ Some c = sym (named-early s e h c.id before_c) ∙ has_c in
+    let there_d : named d.id (demands s h) ≡ Some d = sym (named-early s e h d.id waits.0) ∙ has_d in
+    let waits_d : named d.id (waiting s h) ≡ Some d = named_waits s h d there_d waits.1 in
+    let by_name : named it.demand.id (waiting s h) ≡ Some it.demand = found_by_name (may_take s h it.lane) (waiting s h) it.demand (waiting_sorted s h) (picked s h it.lane it.demand it.picked).1 in
+    let same : Some it.demand ≡ Some d = sym by_name ∙ (ap (λ i. named i (waiting s h)) it.is ∙ waits_d) in
+    let demand : it.demand ≡ d = same_Some it.demand d same in
+    let picks : pick s h it.lane ≡ Some d = it.picked ∙ ap Some demand in
+    wider e h c.id (length h) (omega arith) (taken_somewhere h c.id (earlier_taken s h it.lane c d picks there_c key earlier))
+
+order_case : (s : SceneParts) (e : Entry) (h : List Entry) (c d : Demand) (place : ℕ) → Legal s (e ∷ h) → named c.id (demands s (e ∷ h)) ≡ Some c → named d.id (demands s (e ∷ h)) ≡ Some d → key_of s c.agent ≡ key_of s d.agent →
+    is_earlier c.id d.id ≡ true → (takes : TakesAt (e ∷ h) place d.id) → Where e h place takes.entry → InOrder s h → TakenBefore (e ∷ h) c.id place
+order_case s e h c d place legal has_c has_d key earlier t (is_last at same) ih =
+    let P : Entry → Type 0 = λ y. takes y.kind d.id ≡ true in
+    let it = now_case s e h c d legal.0 legal.1 has_c has_d key earlier (subst P (sym same) t.takes) in
+    record { when = it.when; earlier = omega (arith, it.earlier, at); takes = it.takes }
+order_case s e h c d place legal has_c has_d key earlier t (is_early early there) ih =
+    let old : TakesAt h place d.id = record { entry = t.entry; here = there; takes = t.takes } in
+    let before_d : d.id.place.0 < length h = taken_early s h legal.0 d.id (takes_taken h d.id place old) in
+    let before_c : c.id.place.0 < length h = omega (arith, place_before c.id d.id earlier, before_d) in
+    wider e h c.id place (omega (arith, early)) (ih c d place (sym (named-early s e h c.id before_c) ∙ has_c) (sym (named-early s e h d.id before_d) ∙ has_d) key earlier old)
+
+pub in_order : (s : SceneParts) (h : List Entry) → Legal s h → InOrder s h
+in_order s [] legal = λ c d place has_c has_d key earlier t. absurd (let e = t.here in cc)
+in_order s (e ∷ h) legal = λ c d place has_c has_d key earlier t. order_case s e h c d place legal has_c has_d key earlier t (place_of_entry e h place t.entry t.here) (in_order s h legal.0)
+
+-- how a Begin reads
+demand_in : EntryKind → Option DemandId
+demand_in (Begin lane demand opening agent) = demand
+demand_in other = None
+
+opening_in : EntryKind → Opening
+opening_in (Begin lane demand opening agent) = opening
+opening_in other = OpenStart
+
+agent_in : EntryKind → AgentId
+agent_in (Begin lane demand opening agent) = agent
+agent_in other = record { 0 = 0 }
+
+chosen : (s : SceneParts) (h : List Entry) (by : PartyId) (lane : LaneId) (id : DemandId) (opening : Opening) (agent : AgentId) → IsBegin s h by lane (Begin lane (Some id) opening agent) → BeginsWith s h id opening agent
+unfolding demand_in opening_in agent_in
+chosen s h by lane id opening agent row =
+    let same : id ≡ row.demand.id = same_Some id row.demand.id (ap demand_in row.is) in
+    let by_name : named row.demand.id (waiting s h) ≡ Some row.demand = found_by_name (may_take s h lane) (waiting s h) row.demand (waiting_sorted s h) (picked s h lane row.demand row.picked).1 in
+    record {
+      demand = row.demand;
+      waits = ap (λ i. named i (waiting s h)) same ∙ by_name;
+      chosen = ap opening_in row.is;
+      its_agent = ap agent_in row.is;
+    }
+
+pub by_choice : (s : SceneParts) (h : List Entry) → Legal s h → ByChoice s h
+by_choice s h legal = λ place lane id opening agent stands.
+    let at = steps_at s h place stands.entry legal stands.here in
+    let row : IsRow s (before h place) stands.entry.by (Begin lane (Some id) opening agent) = subst (IsRow s (before h place) stands.entry.by) stands.is at.step.row in
+    chosen s (before h place) stands.entry.by lane id opening agent row

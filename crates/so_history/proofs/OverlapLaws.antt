@@ -1,0 +1,129 @@
+-- Two turns of one queue don't overlap.
+use Rattle.std.proofs.Common.{◌≡◌, ℕ, ◌+◌, ◌<◌, ◌≤◌, List, [], ◌∷◌, ◌++◌, length, Bool, true, false, not, ◌||◌, cond, Option, Some, None, arith, refl, sym, ◌∙◌, ap, subst, inl, inr}
+use Rattle.std.specs.Prelude.{◌==◌, ◌⊎◌}
+use Rattle.std.specs.List.{filter, find, AllByRecursion}
+use Rattle.std.proofs.lemmas.Bool.{cases_Bool, or_cases, ne_eqb, eq-eqb, eqb-true, false≢true}
+use Rattle.std.proofs.lemmas.Option.{same_Some}
+use Rattle.so_ids.specs.declared.AgentId.{AgentId}
+use Rattle.so_ids.specs.declared.LaneId.{LaneId}
+use Rattle.so_ids.specs.declared.KeyId.{KeyId}
+use Rattle.so_ids.specs.declared.DemandId.{DemandId}
+use Rattle.so_ids.specs.declared.Opening.{Opening}
+use Rattle.so_ids.specs.declared.PartyId.{PartyId}
+use Rattle.so_scene.specs.declared.parts.SceneParts.{SceneParts}
+use Rattle.so_scene.specs.Lanes.{key_of}
+use Rattle.so_history.specs.declared.entry.Entry.{Entry}
+use Rattle.so_history.specs.declared.entry.EntryKind.{EntryKind}
+use Rattle.so_history.specs.declared.entry.EntryKind.TheVariants.{Register, Begin, Act, End, Leaving, Left, Stop}
+use Rattle.so_history.specs.Places.{entry_at}
+use Rattle.so_history.specs.Turns.{Started, started_by, turns, ends, ended, running, running_at, key_number}
+use Rattle.so_history.specs.Steps.{IsRow, IsStep, Legal}
+use Rattle.so_history.specs.Facts.{StandsAt, BeginsAt, EndsBefore, NoOverlap}
+use Rattle.so_history.proofs.PlaceLaws.{Where, is_last, is_early, place_of_entry, inside, entry_at-last, entry_at-early}
+use Rattle.so_history.proofs.TurnLaws.{ends_early, turns_early, keys_free}
+
+-- what ends before a place ends there in a longer history too
+later : (e : Entry) (h : List Entry) (i j : ℕ) → j ≤ length h → EndsBefore h i j → EndsBefore (e ∷ h) i j
+later e h i j l it = record {
+  place = it.place;
+  later = it.later;
+  earlier = it.earlier;
+  entry = it.entry;
+  here = entry_at-early e h it.place (omega (arith, it.earlier)) ∙ it.here;
+  ends = it.ends;
+}
+
+wider : (h : List Entry) (i j k : ℕ) → j ≤ k → EndsBefore h i j → EndsBefore h i k
+wider h i j k l it = record { place = it.place; later = it.later; earlier = omega (arith, it.earlier); entry = it.entry; here = it.here; ends = it.ends }
+
+-- an ended turn ends at some place after its Begin
+ends_somewhere : (s : SceneParts) (h : List Entry) (t : ℕ) → Legal s h → ended h t ≡ true → EndsBefore h t (length h)
+unfolding ended
+ends_somewhere s [] t legal e = absurd cc
+ends_somewhere s (x ∷ h) t legal e =
+    elim (or_cases (ends x.kind t) (ended h t) e) [
+      | inl now ↦
+          (let early : t < length h = ends_early s h x.by x.kind legal.1.row t now in
+          record { place = length h; later = early; earlier = omega arith; entry = x; here = entry_at-last x h; ends = now })
+      | inr before ↦ wider (x ∷ h) t (length h) (length (x ∷ h)) (omega arith) (later x h t (length h) (omega arith) (ends_somewhere s h t legal.0 before))
+    ]
+
+-- place_of_entry no turn runs at a number, each turn there has ended
+ended_case : (f : Started → ℕ) (h : List Entry) (n : ℕ) (t : Started) (ts : List Started) (b c : Bool) → ended h t.place ≡ b → (f t == n) ≡ c →
+    filter (λ t. f t == n) (cond (not b) (t ∷ filter (λ t. not (ended h t.place)) ts) (filter (λ t. not (ended h t.place)) ts)) ≡ [] →
+    (filter (λ t. f t == n) (filter (λ t. not (ended h t.place)) ts) ≡ [] → AllByRecursion (λ t. f t ≡ n → ended h t.place ≡ true) ts) →
+    AllByRecursion (λ t. f t ≡ n → ended h t.place ≡ true) (t ∷ ts)
+ended_case f h n t ts true c is on e rest = ((λ here. is), rest e)
+ended_case f h n t ts false true is on e rest =
+    let some : t ∷ filter (λ x. f x == n) (filter (λ x. not (ended h x.place)) ts) ≡ [] = rw on at e in cc
+ended_case f h n t ts false false is on e rest =
+    ((λ here. absurd (false≢true (sym on ∙ eq-eqb (f t) n here))), rest (rw on at e))
+
+all_ended : (f : Started → ℕ) (h : List Entry) (n : ℕ) (ts : List Started) → filter (λ t. f t == n) (filter (λ t. not (ended h t.place)) ts) ≡ [] → AllByRecursion (λ t. f t ≡ n → ended h t.place ≡ true) ts
+all_ended f h n [] e = tt
+all_ended f h n (t ∷ ts) e = ended_case f h n t ts (ended h t.place) (f t == n) refl refl e (all_ended f h n ts)
+
+pub all_ended_at : (f : Started → ℕ) (h : List Entry) (n : ℕ) → running_at f h n ≡ [] → AllByRecursion (λ t. f t ≡ n → ended h t.place ≡ true) (turns h)
+unfolding running
+all_ended_at f h n e = all_ended f h n (turns h) e
+
+-- a turn that begins at a place is among the turns
+record Among (h : List Entry) (place : ℕ) (agent : AgentId) (P : Started → Type 0) : Type 0 where
+  turn : Started
+  place_is : turn.place ≡ place
+  agent_is : turn.agent ≡ agent
+  holds : P turn
+
+front : (P : Started → Type 0) (xs ys : List Started) → AllByRecursion P (xs ++ ys) → AllByRecursion P xs
+front P [] ys a = tt
+front P (x ∷ xs) ys a = (a.0, front P xs ys a.1)
+
+back : (P : Started → Type 0) (xs ys : List Started) → AllByRecursion P (xs ++ ys) → AllByRecursion P ys
+back P [] ys a = a
+back P (x ∷ xs) ys a = back P xs ys a.1
+
+begun_here : (h : List Entry) (by : PartyId) (lane : LaneId) (demand : Option DemandId) (opening : Opening) (agent : AgentId) (P : Started → Type 0) → AllByRecursion P (started_by (length h) by (Begin lane demand opening agent)) → Among h (length h) agent P
+begun_here h by lane demand opening agent P a = record { turn = record { place = length h; by = by; lane = lane; agent = agent; opening = opening }; place_is = refl; agent_is = refl; holds = a.0 }
+
+among_case : (e : Entry) (h : List Entry) (place : ℕ) (lane : LaneId) (demand : Option DemandId) (opening : Opening) (agent : AgentId) (P : Started → Type 0) (x : Entry) → x.kind ≡ Begin lane demand opening agent → Where e h place x →
+    AllByRecursion P (turns (e ∷ h)) → (entry_at h place ≡ Some x → AllByRecursion P (turns h) → Among h place agent P) → Among (e ∷ h) place agent P
+unfolding turns
+among_case e h place lane demand opening agent P x kind (is_last at same) a ih =
+    let its : e.kind ≡ Begin lane demand opening agent = ap (λ (y : Entry). y.kind) same ∙ kind in
+    let started : AllByRecursion P (started_by (length h) e.by (Begin lane demand opening agent)) = subst (λ (k : EntryKind). AllByRecursion P (started_by (length h) e.by k)) its (back P (turns h) (started_by (length h) e.by e.kind) a) in
+    let it = begun_here h e.by lane demand opening agent P started in
+    record { turn = it.turn; place_is = it.place_is ∙ sym at; agent_is = it.agent_is; holds = it.holds }
+among_case e h place lane demand opening agent P x kind (is_early early there) a ih =
+    let it = ih there (front P (turns h) (started_by (length h) e.by e.kind) a) in
+    record { turn = it.turn; place_is = it.place_is; agent_is = it.agent_is; holds = it.holds }
+
+among : (h : List Entry) (place : ℕ) (lane : LaneId) (demand : Option DemandId) (opening : Opening) (agent : AgentId) (P : Started → Type 0) (x : Entry) → x.kind ≡ Begin lane demand opening agent → entry_at h place ≡ Some x → AllByRecursion P (turns h) → Among h place agent P
+unfolding turns
+among [] place lane demand opening agent P x kind e a = absurd cc
+among (y ∷ h) place lane demand opening agent P x kind e a = among_case y h place lane demand opening agent P x kind (place_of_entry y h place x e) a (among h place lane demand opening agent P x kind)
+
+-- place_of_entry a turn of a queue begins, each earlier turn of the queue has ended
+newest : (s : SceneParts) (h : List Entry) (e : Entry) (i : ℕ) (a b : AgentId) (lane : LaneId) (demand : Option DemandId) (opening : Opening) → e.kind ≡ Begin lane demand opening b → Legal s h → IsStep s h e → BeginsAt h i a → key_of s a ≡ key_of s b → EndsBefore h i (length h)
+newest s h e i a b lane demand opening kind legal step begins key =
+    let row : IsRow s h e.by (Begin lane demand opening b) = subst (IsRow s h e.by) kind step.row in
+    let free : running_at (key_number s) h (key_of s b).0 ≡ [] = (keys_free s h e.by (Begin lane demand opening b) row).0 in
+    let it = among h i begins.lane begins.demand begins.opening a (λ t. key_number s t ≡ (key_of s b).0 → ended h t.place ≡ true) begins.stands.entry begins.stands.is begins.stands.here (all_ended_at (key_number s) h (key_of s b).0 free) in
+    let its : key_number s it.turn ≡ (key_of s b).0 = ap (λ x. (key_of s x).0) it.agent_is ∙ ap (λ (k : KeyId). k.0) key in
+    let over : ended h i ≡ true = ap (ended h) (sym it.place_is) ∙ it.holds its in
+    ends_somewhere s h i legal over
+
+earlier_begin : (e : Entry) (h : List Entry) (i : ℕ) (a : AgentId) → i < length h → BeginsAt (e ∷ h) i a → BeginsAt h i a
+earlier_begin e h i a l it = record { lane = it.lane; demand = it.demand; opening = it.opening; stands = record { entry = it.stands.entry; here = sym (entry_at-early e h i l) ∙ it.stands.here; is = it.stands.is } }
+
+overlap_case : (s : SceneParts) (e : Entry) (h : List Entry) (i j : ℕ) (a b : AgentId) → Legal s (e ∷ h) → i < j → BeginsAt (e ∷ h) i a → (begins : BeginsAt (e ∷ h) j b) → key_of s a ≡ key_of s b → Where e h j begins.stands.entry → NoOverlap s h → EndsBefore (e ∷ h) i j
+overlap_case s e h i j a b legal l first begins key (is_last at same) ih =
+    let early : i < length h = omega arith in
+    let kind : e.kind ≡ Begin begins.lane begins.demand begins.opening b = ap (λ (y : Entry). y.kind) same ∙ begins.stands.is in
+    let it = newest s h e i a b begins.lane begins.demand begins.opening kind legal.0 legal.1 (earlier_begin e h i a early first) key in
+    wider (e ∷ h) i (length h) j (omega arith) (later e h i (length h) (omega arith) it)
+overlap_case s e h i j a b legal l first begins key (is_early early there) ih =
+    later e h i j (omega arith) (ih i j a b l (earlier_begin e h i a (omega arith) first) (earlier_begin e h j b early begins) key)
+
+pub no_overlap : (s : SceneParts) (h : List Entry) → Legal s h → NoOverlap s h
+no_overlap s [] legal = λ i j a b l first begins key. absurd (let e = begins.stands.here in cc)
+no_overlap s (e ∷ h) legal = λ i j a b l first begins key. overlap_case s e h i j a b legal l first begins key (place_of_entry e h j begins.stands.entry begins.stands.here) (no_overlap s h legal.0)

@@ -1,0 +1,68 @@
+-- Which demands an entry queues, which were taken, and which wait.
+use Rattle.std.specs.Prelude.{ℕ, suc, ◌+◌, List, [], ◌∷◌, ◌++◌, length, map, Bool, true, false, not, ◌||◌, Option, Some, None, if◌then◌else◌}
+use Rattle.std.specs.List.{filter}
+use Rattle.so_ids.specs.declared.AgentId.{AgentId}
+use Rattle.so_ids.specs.declared.CoopId.{CoopId}
+use Rattle.so_ids.specs.declared.DemandId.{DemandId}
+use Rattle.so_ids.specs.Ids.{same_demand}
+use Rattle.so_scene.specs.declared.parts.SceneParts.{SceneParts}
+use Rattle.so_scene.specs.Parts.{agents_of}
+use Rattle.so_history.specs.declared.entry.Entry.{Entry}
+use Rattle.so_history.specs.declared.entry.EntryKind.{EntryKind}
+use Rattle.so_history.specs.declared.entry.EntryKind.TheVariants.{Register, Begin, Leaving}
+use Rattle.so_history.specs.declared.entry.Demand.{Demand}
+use Rattle.so_history.specs.declared.entry.DemandKind.{DemandKind}
+use Rattle.so_history.specs.declared.entry.DemandKind.TheVariants.{Start, Finish}
+
+-- what is asked of an agent
+pub record Asked : Type 0 where
+  pub agent : AgentId
+  pub kind : DemandKind
+
+-- the same of each of these agents
+abbrev pub ask_each : DemandKind → List AgentId → List Asked
+ask_each kind agents = map (λ a. record { agent = a; kind = kind }) agents
+
+-- what an entry asks: each agent of a cooperation is to start where it is registered, and to finish where it leaves
+abbrev pub asked_by : SceneParts → EntryKind → List Asked
+asked_by s (Register coop) = ask_each Start (agents_of s coop)
+asked_by s (Leaving coop reason) = ask_each Finish (agents_of s coop)
+asked_by s _ = []
+
+-- the demands of what the entry at a place asks, from number k on
+abbrev pub demands_from : ℕ → ℕ → List Asked → List Demand
+demands_from place k [] = []
+demands_from place k (a ∷ rest) =
+    record { id = record { place = record { 0 = place }; k = k }; agent = a.agent; kind = a.kind } ∷ demands_from place (k + 1) rest
+
+-- the demands that an entry queues after this history
+abbrev pub queued_by : SceneParts → List Entry → EntryKind → List Demand
+queued_by s h kind = demands_from (length h) 0 (asked_by s kind)
+
+-- all demands that were queued
+unfoldable pub demands : SceneParts → List Entry → List Demand
+demands s [] = []
+demands s (e ∷ h) = demands s h ++ queued_by s h e.kind
+
+abbrev pub names : Option DemandId → DemandId → Bool
+names None d = false
+names (Some c) d = same_demand c d
+
+-- an entry takes a demand
+abbrev pub takes : EntryKind → DemandId → Bool
+takes (Begin lane demand opening agent) d = names demand d
+takes _ d = false
+
+-- some entry took the demand
+unfoldable pub taken : List Entry → DemandId → Bool
+taken [] d = false
+taken (e ∷ h) d = takes e.kind d || taken h d
+
+-- the demands that were queued and not taken
+unfoldable pub waiting : SceneParts → List Entry → List Demand
+waiting s h = filter (λ d. not (taken h d.id)) (demands s h)
+
+-- a list of demands without the first of this name
+abbrev pub without : DemandId → List Demand → List Demand
+without id [] = []
+without id (d ∷ ds) = if same_demand id d.id then ds else d ∷ without id ds

@@ -1,0 +1,122 @@
+-- What a legal history has, in plain words.
+use Rattle.std.specs.Prelude.{◌≡◌, ℕ, ◌==◌, ◌<◌, ◌≤◌, List, [], ◌∷◌, Bool, true, Option, Some, None, count_by}
+use Rattle.std.specs.List.{filter, find, last_or}
+use Rattle.so_ids.specs.declared.AgentId.{AgentId}
+use Rattle.so_ids.specs.declared.CoopId.{CoopId}
+use Rattle.so_ids.specs.declared.LaneId.{LaneId}
+use Rattle.so_ids.specs.declared.DemandId.{DemandId}
+use Rattle.so_ids.specs.declared.Opening.{Opening}
+use Rattle.so_ids.specs.declared.Reason.{Reason}
+use Rattle.so_ids.specs.Ids.{same_demand, is_earlier}
+use Rattle.so_lists.specs.Lists.{head}
+use Rattle.so_scene.specs.declared.parts.SceneParts.{SceneParts}
+use Rattle.so_scene.specs.Parts.{agents_of}
+use Rattle.so_scene.specs.Lanes.{key_of}
+use Rattle.so_history.specs.declared.entry.Entry.{Entry}
+use Rattle.so_history.specs.declared.entry.EntryKind.{EntryKind}
+use Rattle.so_history.specs.declared.entry.EntryKind.TheVariants.{Register, Begin, Leaving, Left}
+use Rattle.so_history.specs.declared.entry.Demand.{Demand}
+use Rattle.so_history.specs.declared.entry.DemandKind.TheVariants.{Start, Finish}
+use Rattle.so_history.specs.Places.{entry_at, before}
+use Rattle.so_history.specs.Demands.{ask_each, demands_from, demands, takes, waiting}
+use Rattle.so_history.specs.Turns.{ends, running}
+use Rattle.so_history.specs.Order.{opening_of}
+
+-- an entry of this kind stands at a place
+pub record StandsAt (h : List Entry) (place : ℕ) (kind : EntryKind) : Type 0 where
+  pub entry : Entry
+  pub here : entry_at h place ≡ Some entry
+  pub is : entry.kind ≡ kind
+
+-- a turn of an agent begins at a place
+pub record BeginsAt (h : List Entry) (place : ℕ) (agent : AgentId) : Type 0 where
+  pub lane : LaneId
+  pub demand : Option DemandId
+  pub opening : Opening
+  pub stands : StandsAt h place (Begin lane demand opening agent)
+
+-- the turn that began at place i ends before place j
+pub record EndsBefore (h : List Entry) (i j : ℕ) : Type 0 where
+  pub place : ℕ
+  pub later : i < place
+  pub earlier : place < j
+  pub entry : Entry
+  pub here : entry_at h place ≡ Some entry
+  pub ends : ends entry.kind i ≡ true
+
+-- no overlap: of two turns whose events stand in one queue, the earlier ends before the later begins
+abbrev pub NoOverlap : SceneParts → List Entry → Type 0
+NoOverlap s h =
+    (i j : ℕ) (a b : AgentId) → i < j → BeginsAt h i a → BeginsAt h j b → key_of s a ≡ key_of s b → EndsBefore h i j
+
+-- how often a demand was taken
+abbrev pub takings : List Entry → DemandId → ℕ
+takings h d = count_by (λ e. takes e.kind d) h
+
+-- each demand is taken at most once
+abbrev pub TakenOnce : List Entry → Type 0
+TakenOnce h = (d : DemandId) → takings h d ≤ 1
+
+-- the demand of a name, among these
+abbrev pub named : DemandId → List Demand → Option Demand
+named id ds = find (λ d. same_demand id d.id) ds
+
+-- the entry at a place takes a demand
+pub record TakesAt (h : List Entry) (place : ℕ) (d : DemandId) : Type 0 where
+  pub entry : Entry
+  pub here : entry_at h place ≡ Some entry
+  pub takes : takes entry.kind d ≡ true
+
+-- the demand was taken before a place
+pub record TakenBefore (h : List Entry) (d : DemandId) (place : ℕ) : Type 0 where
+  pub when : ℕ
+  pub earlier : when < place
+  pub takes : TakesAt h when d
+
+-- in order: of two demands of one queue the later is taken only after the earlier
+abbrev pub InOrder : SceneParts → List Entry → Type 0
+InOrder s h =
+    (c d : Demand) (place : ℕ) → named c.id (demands s h) ≡ Some c → named d.id (demands s h) ≡ Some d → key_of s c.agent ≡ key_of s d.agent →
+    is_earlier c.id d.id ≡ true → TakesAt h place d.id → TakenBefore h c.id place
+
+-- the demand that a turn takes waits, and the turn begins as that demand says
+pub record BeginsWith (s : SceneParts) (h : List Entry) (id : DemandId) (opening : Opening) (agent : AgentId) : Type 0 where
+  pub demand : Demand
+  pub waits : named id (waiting s h) ≡ Some demand
+  pub chosen : opening ≡ opening_of demand.kind
+  pub its_agent : agent ≡ demand.agent
+
+-- by choice: each turn begins with what is chosen for its demand in the history before it
+abbrev pub ByChoice : SceneParts → List Entry → Type 0
+ByChoice s h =
+    (place : ℕ) (lane : LaneId) (id : DemandId) (opening : Opening) (agent : AgentId) → StandsAt h place (Begin lane (Some id) opening agent) →
+    BeginsWith s (before h place) id opening agent
+
+-- the demands that the entry at a place queued
+abbrev pub queued_at : SceneParts → List Entry → ℕ → List Demand
+queued_at s h place = filter (λ d. d.id.place.0 == place) (demands s h)
+
+-- whole cooperations: each agent is to start where its cooperation is registered, and to finish where it leaves;
+-- and when it has left, no demand waits and no turn runs
+pub record WholeCoops (s : SceneParts) (h : List Entry) : Type 0 where
+  pub starts : (place : ℕ) (coop : CoopId) → StandsAt h place (Register coop) → queued_at s h place ≡ demands_from place 0 (ask_each Start (agents_of s coop))
+  pub finishes : (place : ℕ) (coop : CoopId) (reason : Reason) → StandsAt h place (Leaving coop reason) → queued_at s h place ≡ demands_from place 0 (ask_each Finish (agents_of s coop))
+  pub leaves : (place : ℕ) (coop : CoopId) → StandsAt h place (Left coop) → (waiting s (before h place) ≡ []) × (running (before h place) ≡ [])
+
+-- the demands of an agent
+abbrev pub demands_for : SceneParts → List Entry → AgentId → List Demand
+demands_for s h a = filter (λ d. d.agent.0 == a.0) (demands s h)
+
+-- start and finish: an agent's first demand is to start, and its last, when its cooperation has left, is to finish
+pub record StartsAndFinishes (s : SceneParts) (h : List Entry) : Type 0 where
+  pub first : (a : AgentId) (d : Demand) → head (demands_for s h a) ≡ Some d → d.kind ≡ Start
+  pub last : (place : ℕ) (coop : CoopId) (a : AgentId) (d : Demand) → StandsAt h place (Left coop) → last_or None (demands_for s (before h place) a) ≡ Some d → d.kind ≡ Finish
+
+-- the six facts
+pub record HasFacts (s : SceneParts) (h : List Entry) : Type 0 where
+  pub overlap : NoOverlap s h
+  pub once : TakenOnce h
+  pub order : InOrder s h
+  pub choice : ByChoice s h
+  pub coops : WholeCoops s h
+  pub ends : StartsAndFinishes s h

@@ -1,0 +1,10 @@
+pub mod Kept
+pub mod Places
+pub mod Demands
+pub mod Turns
+pub mod Coops
+pub mod Units
+pub mod Order
+pub mod Steps
+pub mod Chain
+pub mod Facts

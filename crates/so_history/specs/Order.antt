@@ -1,0 +1,38 @@
+-- Which demand a lane may take, and what it then begins.
+use Rattle.std.specs.Prelude.{ℕ, List, Bool, ◌&&◌, Option, Some, None, if◌then◌else◌}
+use Rattle.std.specs.List.{find}
+use Rattle.so_ids.specs.declared.LaneId.{LaneId}
+use Rattle.so_ids.specs.declared.Opening.{Opening}
+use Rattle.so_ids.specs.declared.Opening.TheVariants as opening
+use Rattle.so_lists.specs.Lists.{is_empty}
+use Rattle.so_scene.specs.declared.parts.SceneParts.{SceneParts}
+use Rattle.so_scene.specs.Lanes.{key_of, serves}
+use Rattle.so_history.specs.declared.entry.Entry.{Entry}
+use Rattle.so_history.specs.declared.entry.EntryKind.{EntryKind}
+use Rattle.so_history.specs.declared.entry.EntryKind.TheVariants.{Begin}
+use Rattle.so_history.specs.declared.entry.Demand.{Demand}
+use Rattle.so_history.specs.declared.entry.DemandKind.{DemandKind}
+use Rattle.so_history.specs.declared.entry.DemandKind.TheVariants.{Start, Finish}
+use Rattle.so_history.specs.Demands.{waiting}
+use Rattle.so_history.specs.Turns.{running_on, running_with}
+
+-- a lane is free where none of its turns runs
+abbrev pub is_free : List Entry → LaneId → Bool
+is_free h lane = is_empty (running_on h lane)
+
+-- the lane serves the demand's queue, and no turn of that queue runs
+abbrev pub may_take : SceneParts → List Entry → LaneId → Demand → Bool
+may_take s h lane d = serves s lane (key_of s d.agent) && is_empty (running_with s h (key_of s d.agent))
+
+-- the demand that a lane may take: the first that waits
+unfoldable pub pick : SceneParts → List Entry → LaneId → Option Demand
+pick s h lane = if is_free h lane then find (may_take s h lane) (waiting s h) else None
+
+-- how a turn begins with a demand
+abbrev pub opening_of : DemandKind → Opening
+opening_of Start = opening.Start
+opening_of Finish = opening.Finish
+
+-- the entry by which a lane takes a demand
+abbrev pub taking : LaneId → Demand → EntryKind
+taking lane d = Begin lane (Some d.id) (opening_of d.kind) d.agent

@@ -1,0 +1,98 @@
+-- Which turns began, which run, and how far each has come.
+use Rattle.std.specs.Prelude.{ℕ, ◌==◌, List, [], ◌∷◌, ◌++◌, length, Bool, true, false, not, ◌||◌, Option, Some, None, if◌then◌else◌}
+use Rattle.std.specs.List.{filter, find}
+use Rattle.std.specs.Option.{option_map}
+use Rattle.so_ids.specs.declared.PartyId.{PartyId}
+use Rattle.so_ids.specs.declared.LaneId.{LaneId}
+use Rattle.so_ids.specs.declared.KeyId.{KeyId}
+use Rattle.so_ids.specs.declared.AgentId.{AgentId}
+use Rattle.so_ids.specs.declared.Opening.{Opening}
+use Rattle.so_code.specs.declared.frame.Frame.{Frame}
+use Rattle.so_code.specs.declared.effect.Answer.{Answer}
+use Rattle.so_code.specs.declared.effect.Move.{Move}
+use Rattle.so_code.specs.Machine.{begun, after, answered}
+use Rattle.so_scene.specs.declared.parts.SceneParts.{SceneParts}
+use Rattle.so_scene.specs.Parts.{code_of}
+use Rattle.so_scene.specs.Lanes.{key_of}
+use Rattle.so_history.specs.declared.entry.Entry.{Entry}
+use Rattle.so_history.specs.declared.entry.EntryKind.{EntryKind}
+use Rattle.so_history.specs.declared.entry.EntryKind.TheVariants.{Begin, Act, End}
+
+-- a turn: the place of its Begin, and what stands there
+pub record Started : Type 0 where
+  pub place : ℕ
+  pub by : PartyId
+  pub lane : LaneId
+  pub agent : AgentId
+  pub opening : Opening
+
+abbrev pub started_by : ℕ → PartyId → EntryKind → List Started
+started_by place by (Begin lane demand opening agent) =
+    record { place = place; by = by; lane = lane; agent = agent; opening = opening } ∷ []
+started_by place by _ = []
+
+-- all turns that began
+unfoldable pub turns : List Entry → List Started
+turns [] = []
+turns (e ∷ h) = turns h ++ started_by (length h) e.by e.kind
+
+abbrev pub ends : EntryKind → ℕ → Bool
+ends (End turn) t = turn.0 == t
+ends _ t = false
+
+-- the turn at a place has ended
+unfoldable pub ended : List Entry → ℕ → Bool
+ended [] t = false
+ended (e ∷ h) t = ends e.kind t || ended h t
+
+-- the turns that have not ended
+unfoldable pub running : List Entry → List Started
+running h = filter (λ t. not (ended h t.place)) (turns h)
+
+-- those that a number is told of
+abbrev pub running_at : (Started → ℕ) → List Entry → ℕ → List Started
+running_at f h n = filter (λ t. f t == n) (running h)
+
+-- those on a lane
+abbrev pub lane_number : Started → ℕ
+lane_number t = t.lane.0
+
+abbrev pub running_on : List Entry → LaneId → List Started
+running_on h lane = running_at lane_number h lane.0
+
+-- those of agents whose events stand in one queue
+abbrev pub key_number : SceneParts → Started → ℕ
+key_number s t = (key_of s t.agent).0
+
+abbrev pub running_with : SceneParts → List Entry → KeyId → List Started
+running_with s h key = running_at (key_number s) h key.0
+
+-- the running turn at a place
+abbrev pub turn_at : List Entry → ℕ → Option Started
+turn_at h place = find (λ t. t.place == place) (running h)
+
+-- how far a turn has come: whose it is, and its frame
+pub record Course : Type 0 where
+  pub agent : AgentId
+  pub frame : Frame
+
+-- its next move, with the frame after it
+abbrev pub move_of : SceneParts → Course → Move × Frame
+move_of s c = after (code_of s c.agent) c.frame
+
+-- the course after the answer to its move's effect
+abbrev pub answer_to : SceneParts → Answer → Course → Course
+answer_to s answer c = record c { frame = answered answer (move_of s c).1 }
+
+-- the course of the turn at place t after one more entry, at a place
+abbrev pub advanced : SceneParts → ℕ → EntryKind → ℕ → Option Course → Option Course
+advanced s place (Begin lane demand opening agent) t c =
+    if place == t then Some (record { agent = agent; frame = begun opening }) else c
+advanced s place (Act turn effect answer) t c =
+    if turn.0 == t then option_map (answer_to s answer) c else c
+advanced s place _ t c = c
+
+-- the course of the turn that began at a place: its frame is moved by the turn's own acts
+unfoldable pub course : SceneParts → List Entry → ℕ → Option Course
+course s [] t = None
+course s (e ∷ h) t = advanced s (length h) e.kind t (course s h t)

@@ -1,0 +1,85 @@
+//! The entries of a history, and the demands that they queue.
+
+use so_code::{Answer, Effect};
+use so_ids::{AgentId, CoopId, DemandId, LaneId, Opening, PartyId, Place, Reason};
+
+/// Why the run stops.
+#[derive(Clone, Copy, Debug, PartialEq, Eq)]
+pub enum StopCause {
+    /// Nothing is left to do.
+    Idle,
+}
+
+/// What happened.
+#[derive(Clone, Copy, Debug, PartialEq, Eq)]
+pub enum EntryKind {
+    /// Main registered a cooperation.
+    Register {
+        coop: CoopId,
+    },
+    /// A lane took a demand, and a turn of its agent begins.
+    Begin {
+        lane: LaneId,
+        demand: Option<DemandId>,
+        opening: Opening,
+        agent: AgentId,
+    },
+    /// A turn had an effect, and got an answer.
+    Act {
+        turn: Place,
+        effect: Effect,
+        answer: Answer,
+    },
+    /// A turn ended.
+    End {
+        turn: Place,
+    },
+    /// A cooperation begins to leave: its agents are to finish.
+    Leaving {
+        coop: CoopId,
+        reason: Reason,
+    },
+    /// A cooperation has left.
+    Left {
+        coop: CoopId,
+    },
+    /// The run stops: what is there is to leave.
+    Stop {
+        cause: StopCause,
+    },
+}
+
+/// What happened, and which party made it happen. A turn is named by the place of its Begin.
+#[derive(Clone, Copy, Debug, PartialEq, Eq)]
+pub struct Entry {
+    pub by: PartyId,
+    pub kind: EntryKind,
+}
+
+/// What a demand asks of its agent.
+#[derive(Clone, Copy, Debug, PartialEq, Eq)]
+pub enum DemandKind {
+    /// To run its start handler.
+    Start,
+    /// To run its finish handler.
+    Finish,
+}
+
+/// A demand: it waits in the queue of its agent's events until a turn takes it.
+#[derive(Clone, Copy, Debug, PartialEq, Eq)]
+pub struct Demand {
+    pub id: DemandId,
+    pub agent: AgentId,
+    pub kind: DemandKind,
+}
+
+/// Which step is to be made.
+#[derive(Clone, Copy, Debug, PartialEq, Eq)]
+pub enum Pick {
+    /// Main's next registration.
+    Register,
+    /// The next step of the lane's turn, or a turn's begin there.
+    Lane(LaneId),
+    /// What main is to tidy: a cooperation leaves, has left, or the run stops.
+    Tidy,
+}

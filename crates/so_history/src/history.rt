@@ -1,0 +1,85 @@
+//! The entries of a run, in memory that is reserved at the start.
+
+ghost use Rattle.std.specs.Prelude.{◌≡◌, ◌+◌, ◌-◌, ◌<◌, ◌≤◌, ◌^◌, List, [], ◌∷◌, length, reverse, vec_len, vec_capacity, IfOk, Some, None};
+ghost use Rattle.so_history.specs.Places.{entry_at};
+
+use crate::entry::Entry;
+use so_ids::{NoMemory, Place};
+use std::alloc::Global;
+use std::marker::Model;
+
+/// The entries of a run, with room for a number of them. Contracts see the newest first.
+#[derive(Drop)]
+pub struct History {
+    entries: Vec<Entry>,
+    limit: u32,
+}
+
+impl Model for History {
+    ghost use Rattle.std.specs.Prelude.{◌≤◌, ◌<◌, ◌^◌, reverse, vec_len, vec_capacity};
+    ghost use Rattle.so_history.specs.Kept.{Kept};
+
+    ghost Value = { Kept };
+
+    ghost view = { λ h. record { entries = reverse h.entries.items; limit = h.limit } };
+
+    ghost invariant = { λ h. (vec_len h.entries ≤ h.limit) × (h.limit ≤ vec_capacity h.entries) × (h.limit < 2 ^ 32) };
+}
+
+impl History {
+    /// An empty history.
+    pub fn with_units(alloc: Global, units: u32) -> Result<History, NoMemory>
+        ensures entries { IfOk result (λ h. h.entries ≡ []) }
+        ensures limit { IfOk result (λ h. h.limit ≡ units) }
+    {
+        match Vec::with_capacity(alloc, units as usize) {
+            Ok(entries) => Ok(History {
+                entries,
+                limit: units,
+            }),
+            Err(_) => Err(NoMemory),
+        }
+    }
+
+    /// How many entries there are.
+    pub fn len(&self) -> u32
+        ensures value { result ≡ length self.now.entries }
+        ensures within { length self.now.entries ≤ self.now.limit }
+    {
+        self.entries.len() as u32
+    }
+
+    /// How many entries there may be.
+    pub fn limit(&self) -> u32
+        ensures { result ≡ self.now.limit }
+    {
+        self.limit
+    }
+
+    /// For how many more entries there is room.
+    pub fn room(&self) -> u32
+        ensures { result ≡ self.now.limit - length self.now.entries }
+    {
+        self.limit - self.entries.len() as u32
+    }
+
+    /// Adds an entry.
+    pub fn push(&mut self, entry: Entry)
+        requires { length self.old.entries < self.old.limit }
+        ensures entries { self.new.entries ≡ entry ∷ self.old.entries }
+        ensures limit { self.new.limit ≡ self.old.limit }
+    {
+        match self.entries.push(entry) {
+            Ok(()) => {}
+            Err(_) => unreachable!(),
+        }
+    }
+
+    /// The entry at a place.
+    pub fn get(&self, place: Place) -> Entry
+        requires { place.0 < length self.now.entries }
+        ensures { entry_at self.now.entries place.0 ≡ Some result }
+    {
+        self.entries[place.0 as usize]
+    }
+}

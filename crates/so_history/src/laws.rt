@@ -1,0 +1,44 @@
+//! What holds of every legal history. Each law is the contract of a function that does nothing.
+
+ghost use Rattle.std.specs.Prelude.{◌≡◌, List, None, true};
+ghost use Rattle.so_scene.specs.declared.parts.SceneParts.{SceneParts};
+ghost use Rattle.so_scene.specs.Parts.{IsScene};
+ghost use Rattle.so_history.specs.declared.entry.Entry.{Entry};
+ghost use Rattle.so_history.specs.Steps.{finished, Legal};
+ghost use Rattle.so_history.specs.Chain.{first};
+ghost use Rattle.so_history.specs.Facts.{NoOverlap, TakenOnce, InOrder, ByChoice, WholeCoops, StartsAndFinishes};
+
+/// Of two turns whose events stand in one queue, the earlier ends before the later begins.
+pub fn no_overlap()
+    ensures { (s : SceneParts) (h : List Entry) → Legal s h → NoOverlap s h }
+{}
+
+/// Each demand is taken at most once.
+pub fn taken_once()
+    ensures { (s : SceneParts) (h : List Entry) → Legal s h → TakenOnce h }
+{}
+
+/// Of two demands of one queue the later is taken only after the earlier.
+pub fn in_order()
+    ensures { (s : SceneParts) (h : List Entry) → Legal s h → InOrder s h }
+{}
+
+/// Each turn begins with what is chosen for its demand at that moment.
+pub fn by_choice()
+    ensures { (s : SceneParts) (h : List Entry) → Legal s h → ByChoice s h }
+{}
+
+/// A registration asks each agent to start, a leaving asks each to finish, and nothing is left when it has left.
+pub fn whole_coops()
+    ensures { (s : SceneParts) (h : List Entry) → Legal s h → WholeCoops s h }
+{}
+
+/// An agent's first demand is to start, and its last is to finish.
+pub fn starts_and_finishes()
+    ensures { (s : SceneParts) (h : List Entry) → Legal s h → StartsAndFinishes s h }
+{}
+
+/// A run that isn't over goes on: after its history there is a first step.
+pub fn goes_on()
+    ensures { (s : SceneParts) (h : List Entry) → IsScene s → Legal s h → first s h ≡ None → finished s h ≡ true }
+{}

@@ -1,0 +1,9 @@
+//! The history of a run, and what it means for one to be legal.
+#![tactic(auto)]
+
+mod entry;
+mod history;
+pub mod laws;
+
+pub use entry::{Demand, DemandKind, Entry, EntryKind, Pick, StopCause};
+pub use history::History;

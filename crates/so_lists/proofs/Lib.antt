@@ -1,0 +1,3 @@
+pub mod EachBelow
+pub mod Filters
+pub mod First

@@ -1,0 +1,89 @@
+//! A scene whose parts were checked.
+
+ghost use Rattle.std.specs.Prelude.{◌≡◌, ◌<◌, ◌≤◌, length, slice_get, Some};
+ghost use Rattle.so_scene.specs.Parts.{agent_of, text_of, IsScene};
+
+use crate::parts::{AgentDef, CoopDef, SceneParts};
+use so_ids::{AgentId, CoopId, TextId};
+use std::marker::Model;
+
+/// A scene: agents of one cooperation, and the texts that they log.
+#[derive(Debug, Drop)]
+pub struct Scene {
+    parts: SceneParts,
+}
+
+impl Model for Scene {
+    ghost use Rattle.so_scene.specs.declared.parts.SceneParts.{SceneParts};
+    ghost use Rattle.so_scene.specs.Parts.{IsScene};
+
+    ghost Value = { SceneParts };
+
+    ghost view = { λ scene. scene.parts };
+
+    ghost invariant = { λ scene. IsScene scene.parts };
+}
+
+impl Scene {
+    /// The scene of these parts.
+    pub fn new(parts: SceneParts) -> Scene
+        requires { IsScene parts }
+        ensures { result ≡ parts }
+    {
+        Scene { parts }
+    }
+
+    /// Its parts.
+    pub fn parts(&self) -> &SceneParts
+        ensures value { result.now ≡ self.now }
+        ensures keeps { IsScene self.now }
+    {
+        &self.parts
+    }
+
+    /// How many agents there are.
+    pub fn agents(&self) -> u32
+        ensures { result ≡ length self.now.agents }
+    {
+        self.parts.agents.len() as u32
+    }
+
+    /// How many cooperations there are.
+    pub fn coops(&self) -> u32
+        ensures { result ≡ length self.now.coops }
+    {
+        self.parts.coops.len() as u32
+    }
+
+    /// How many texts there are.
+    pub fn texts(&self) -> u32
+        ensures { result ≡ length self.now.texts }
+    {
+        self.parts.texts.len() as u32
+    }
+
+    /// An agent by its number.
+    pub fn agent(&self, agent: AgentId) -> &AgentDef
+        requires { agent.0 < length self.now.agents }
+        ensures { result.now ≡ agent_of self.now agent }
+    {
+        &self.parts.agents.as_slice()[agent.0 as usize]
+    }
+
+    /// A cooperation by its number.
+    pub fn coop(&self, coop: CoopId) -> &CoopDef
+        requires { coop.0 < length self.now.coops }
+        ensures { slice_get self.now.coops coop.0 ≡ Some result.now }
+    {
+        &self.parts.coops.as_slice()[coop.0 as usize]
+    }
+
+    /// The bytes of a text by its number.
+    pub fn text(&self, text: TextId) -> &[u8]
+        requires { text.0 < length self.now.texts }
+        ensures value { result.now ≡ text_of self.now text }
+        ensures short { length result.now ≤ 64 }
+    {
+        self.parts.texts.as_slice()[text.0 as usize].bytes()
+    }
+}
