@@ -1,5 +1,5 @@
 -- The course of a turn after one more entry.
-use Rattle.std.proofs.Common.{◌≡◌, ℕ, ◌+◌, ◌<◌, ◌≤◌, List, [], ◌∷◌, ◌++◌, length, Bool, true, false, not, cond, Option, Some, None, arith, refl, sym, ◌∙◌, ap, eqb, inl, inr}
+use Rattle.std.proofs.Common.{◌≡◌, ℕ, ◌+◌, ◌<◌, ◌≤◌, List, [], ◌∷◌, ◌++◌, length, Bool, true, false, not, cond, Option, Some, None, arith, refl, sym, ◌∙◌, ap, subst, eqb, inl, inr}
 use Rattle.std.specs.Prelude.{◌==◌, ◌⊎◌}
 use Rattle.std.specs.Option.{option_map}
 use Rattle.std.proofs.lemmas.Bool.{cases_Bool, ne_eqb, eq-eqb, eqb-true}
@@ -8,7 +8,10 @@ use Rattle.so_ids.specs.declared.PartyId.{PartyId}
 use Rattle.so_ids.specs.declared.AgentId.{AgentId}
 use Rattle.so_code.specs.declared.effect.Answer.{Answer}
 use Rattle.so_code.specs.declared.effect.Effect.{Effect}
+use Rattle.so_ids.specs.declared.Opening.{Opening}
+use Rattle.so_ids.specs.declared.Opening.TheVariants as opening
 use Rattle.so_code.specs.Machine.{begun, answered}
+use Rattle.so_code.specs.Running.{IsAwake}
 use Rattle.so_scene.specs.declared.parts.SceneParts.{SceneParts}
 use Rattle.so_history.specs.declared.entry.Entry.{Entry}
 use Rattle.so_history.specs.declared.entry.EntryKind.{EntryKind}
@@ -21,6 +24,11 @@ pub course-acted : (s : SceneParts) (h : List Entry) (by : PartyId) (t : ℕ) (e
     course s (record { by = by; kind = Act (record { 0 = t }) effect answer } ∷ h) t ≡ Some (answer_to s answer c)
 unfolding course
 course-acted s h by t effect answer c e = rw (eq-eqb t t refl, e) refl
+
+-- a Begin makes a course
+pub course-begun : (s : SceneParts) (h : List Entry) (e : Entry) (c : Course) → ((g : Option Course) → advanced s (length h) e.kind (length h) g ≡ Some c) → course s (e ∷ h) (length h) ≡ Some c
+unfolding course
+course-begun s h e c begins = begins (course s h (length h))
 
 -- an entry that acts for no turn spares its course
 abbrev pub acts_for : EntryKind → ℕ → Bool
@@ -93,3 +101,40 @@ reaches s (x ∷ h) p t e = course_case s h x p t (length h == p) refl e (reache
 
 pub has_course : (s : SceneParts) (h : List Entry) (t : Started) → turn_of h t.place ≡ Some t → HasCourse s h t
 has_course s h t e = let it = reaches s h t.place t e in record { reached = it.reached; has = it.has; whose = it.whose }
+
+-- between its moves a turn waits for no answer
+begun_awake : (opening : Opening) → IsAwake (begun opening).todo
+begun_awake opening.Start = tt
+begun_awake opening.Finish = tt
+begun_awake opening.Thread = tt
+begun_awake (opening.Time to) = tt
+begun_awake (opening.Event chosen) = tt
+
+abbrev AreAwake : Option Course → Type 0
+AreAwake None = Unit {0}
+AreAwake (Some c) = IsAwake c.frame.todo
+
+cond_awake : (b : Bool) (x y : Option Course) → AreAwake x → AreAwake y → AreAwake (cond b x y)
+cond_awake true x y a b = a
+cond_awake false x y a b = b
+
+answered_awake : (s : SceneParts) (answer : Answer) (c : Option Course) → AreAwake (option_map (answer_to s answer) c)
+answered_awake s answer None = tt
+answered_awake s answer (Some c) = tt
+
+advanced_awake : (s : SceneParts) (place : ℕ) (kind : EntryKind) (t : ℕ) (c : Option Course) → AreAwake c → AreAwake (advanced s place kind t c)
+advanced_awake s place (Begin lane demand opening agent) t c a = cond_awake (place == t) _ c (begun_awake opening) a
+advanced_awake s place (Act turn effect answer) t c a = cond_awake (turn.0 == t) _ c (answered_awake s answer c) a
+advanced_awake s place (Register coop) t c a = a
+advanced_awake s place (End turn) t c a = a
+advanced_awake s place (Leaving coop reason) t c a = a
+advanced_awake s place (Left coop) t c a = a
+advanced_awake s place (Stop cause) t c a = a
+
+all_awake : (s : SceneParts) (h : List Entry) (t : ℕ) → AreAwake (course s h t)
+unfolding course
+all_awake s [] t = tt
+all_awake s (e ∷ h) t = advanced_awake s (length h) e.kind t (course s h t) (all_awake s h t)
+
+pub course_awake : (s : SceneParts) (h : List Entry) (t : ℕ) (c : Course) → course s h t ≡ Some c → IsAwake c.frame.todo
+course_awake s h t c has = subst AreAwake has (all_awake s h t)

@@ -14,7 +14,10 @@ use Rattle.so_ids.specs.Ids.{same_demand, is_earlier}
 use Rattle.so_lists.specs.Lists.{is_empty}
 use Rattle.so_lists.proofs.Filters.{each-append, each-weaker, each-filter, each_passes, found, filter_keeps, filter-filter, either_way, ap2_append}
 use Rattle.so_scene.specs.declared.parts.SceneParts.{SceneParts}
-use Rattle.so_scene.specs.Parts.{agents_of, IsScene}
+use Rattle.so_scene.specs.Parts.{coop_of, agents_of, IsScene}
+use Rattle.so_lists.proofs.EachBelow.{length-each_below}
+use Rattle.so_ids.specs.declared.CoopId.{CoopId}
+use Rattle.std.proofs.lemmas.List.{length-map}
 use Rattle.so_scene.proofs.AgentLaws.{agents_in_range}
 use Rattle.so_history.specs.declared.entry.DemandKind.{DemandKind}
 use Rattle.so_history.specs.declared.entry.Entry.{Entry}
@@ -205,3 +208,10 @@ waiting_of s h scene = each-filter _ _ (demands s h) (demands_of s h scene)
 
 pub picked_of : (s : SceneParts) (h : List Entry) (lane : LaneId) (d : Demand) → IsScene s → pick s h lane ≡ Some d → d.agent.0 < length s.agents
 picked_of s h lane d scene e = (found (λ x. x.agent.0 < length s.agents) (may_take s h lane) (waiting s h) d (waiting_of s h scene) (picked s h lane d e).1).0
+
+pub length-asked : (s : SceneParts) (coop : CoopId) (kind : DemandKind) → length (ask_each kind (agents_of s coop)) ≡ (coop_of s coop).count
+length-asked s coop kind = length-map (agents_of s coop) (λ (a : AgentId). record { agent = a; kind = kind }) ∙ length-each_below (λ k. record { 0 = (coop_of s coop).first.0 + k }) (coop_of s coop).count
+
+-- what a cooperation's entry costs
+pub cost-asked : (s : SceneParts) (h : List Entry) (coop : CoopId) (kind : DemandKind) → 1 + length (demands_from (length h) 0 (ask_each kind (agents_of s coop))) ≡ 1 + (coop_of s coop).count
+cost-asked s h coop kind = ap (λ n. 1 + n) (length-demands_from (length h) 0 (ask_each kind (agents_of s coop)) ∙ length-asked s coop kind)

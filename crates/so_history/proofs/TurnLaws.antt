@@ -16,6 +16,7 @@ use Rattle.so_lists.specs.Lists.{is_empty}
 use Rattle.so_lists.proofs.Filters.{each-append, each-weaker, each-filter, each_passes, both_each, found, filter_keeps, filter-filter, find-filter, find-append, find_last, lone, filter-swap, filter-short, either_way, ap2_append}
 use Rattle.so_lists.proofs.First.{empty-list}
 use Rattle.so_scene.specs.declared.parts.SceneParts.{SceneParts}
+use Rattle.so_scene.specs.Parts.{IsScene}
 use Rattle.so_scene.specs.Lanes.{lanes, key_of, serves}
 use Rattle.so_history.specs.declared.entry.Entry.{Entry}
 use Rattle.so_history.specs.declared.entry.EntryKind.{EntryKind}
@@ -25,7 +26,7 @@ use Rattle.so_history.specs.Demands.{waiting}
 use Rattle.so_history.specs.Turns.{Started, started_by, turns, ends, ended, running, running_at, running_on, running_with, lane_number, key_number, turn_at}
 use Rattle.so_history.specs.Order.{is_free, may_take, taking}
 use Rattle.so_history.specs.Steps.{IsMove, IsBegin, IsRow, IsStep, Legal}
-use Rattle.so_history.proofs.DemandLaws.{picked}
+use Rattle.so_history.proofs.DemandLaws.{picked, picked_of}
 
 started_here : (place : ℕ) (by : PartyId) (kind : EntryKind) → AllByRecursion (λ t. t.place ≡ place) (started_by place by kind)
 started_here place by (Begin lane demand opening agent) = (refl, tt)
@@ -352,3 +353,26 @@ turn-spared s h e place t legal spares runs =
           rw (running-ended h e none)
           (find-filter (λ x. x.place == place) (λ x. not (ends e.kind x.place)) (running h) t (rw (itself, spares) refl) runs))
     ]
+
+-- turns are of agents of the scene
+started_of : (s : SceneParts) (h : List Entry) (place : ℕ) (by : PartyId) (kind : EntryKind) → IsScene s → IsRow s h by kind → AllByRecursion (λ t. t.agent.0 < length s.agents) (started_by place by kind)
+unfolding agent_number
+started_of s h place by (Begin lane demand opening agent) scene row =
+    let same : agent.0 ≡ row.demand.agent.0 = ap agent_number row.is in
+    let known : row.demand.agent.0 < length s.agents = picked_of s h lane row.demand scene row.picked in
+    (omega arith, tt)
+started_of s h place by (Register coop) scene row = tt
+started_of s h place by (Leaving coop reason) scene row = tt
+started_of s h place by (Act turn effect answer) scene row = tt
+started_of s h place by (End turn) scene row = tt
+started_of s h place by (Left coop) scene row = tt
+started_of s h place by (Stop cause) scene row = tt
+
+turns_of : (s : SceneParts) (h : List Entry) → IsScene s → Legal s h → AllByRecursion (λ t. t.agent.0 < length s.agents) (turns h)
+unfolding turns
+turns_of s [] scene legal = tt
+turns_of s (e ∷ h) scene legal = each-append _ (turns h) _ (turns_of s h scene legal.0) (started_of s h (length h) e.by e.kind scene legal.1.row)
+
+pub turn_agent : (s : SceneParts) (h : List Entry) (place : ℕ) (t : Started) → IsScene s → Legal s h → turn_at h place ≡ Some t → t.agent.0 < length s.agents
+unfolding running
+turn_agent s h place t scene legal e = (found (λ x. x.agent.0 < length s.agents) (λ x. x.place == place) (running h) t (each-filter _ _ (turns h) (turns_of s h scene legal)) e).0

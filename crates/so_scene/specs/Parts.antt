@@ -23,9 +23,13 @@ no_coop = record { name = []; first = record { 0 = 0 }; count = 0 }
 abbrev pub coop_of : SceneParts → CoopId → CoopDef
 coop_of s c = slice_index_or s.coops c.0 no_coop
 
+-- so many agents, from the first on
+abbrev pub agents_from : AgentId → ℕ → List AgentId
+agents_from first count = each_below (λ k. record { 0 = first.0 + k }) count
+
 -- the agents of a cooperation, in order
 abbrev pub agents_of : SceneParts → CoopId → List AgentId
-agents_of s c = each_below (λ k. record { 0 = (coop_of s c).first.0 + k }) (coop_of s c).count
+agents_of s c = agents_from (coop_of s c).first (coop_of s c).count
 
 -- the code of an agent
 abbrev pub code_of : SceneParts → AgentId → List Instr

@@ -1,7 +1,7 @@
 //! A scene whose parts were checked.
 
-ghost use Rattle.std.specs.Prelude.{◌≡◌, ◌<◌, ◌≤◌, length, slice_get, Some};
-ghost use Rattle.so_scene.specs.Parts.{agent_of, text_of, IsScene};
+ghost use Rattle.std.specs.Prelude.{◌≡◌, ◌<◌, ◌≤◌, ◌+◌, length};
+ghost use Rattle.so_scene.specs.Parts.{agent_of, coop_of, text_of, IsScene};
 
 use crate::parts::{AgentDef, CoopDef, SceneParts};
 use so_ids::{AgentId, CoopId, TextId};
@@ -70,10 +70,11 @@ impl Scene {
         &self.parts.agents.as_slice()[agent.0 as usize]
     }
 
-    /// A cooperation by its number.
+    /// A cooperation by its number. Its agents are agents of the scene.
     pub fn coop(&self, coop: CoopId) -> &CoopDef
         requires { coop.0 < length self.now.coops }
-        ensures { slice_get self.now.coops coop.0 ≡ Some result.now }
+        ensures value { result.now ≡ coop_of self.now coop }
+        ensures range { result.now.first.0 + result.now.count ≤ length self.now.agents }
     {
         &self.parts.coops.as_slice()[coop.0 as usize]
     }

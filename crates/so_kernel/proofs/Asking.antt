@@ -1,0 +1,50 @@
+-- What is asked of one agent more.
+use Rattle.std.proofs.Common.{◌≡◌, ℕ, suc, ◌+◌, List, [], ◌∷◌, ◌++◌, length, arith, refl, sym, ◌∙◌, ap, add-one, append_assoc}
+use Rattle.std.specs.Prelude.{map}
+use Rattle.std.proofs.lemmas.List.{map-append, append-nil}
+use Rattle.so_ids.specs.declared.AgentId.{AgentId}
+use Rattle.so_lists.specs.Lists.{each_below}
+use Rattle.so_scene.specs.Parts.{agents_from}
+use Rattle.so_lists.proofs.EachBelow.{length-each_below}
+use Rattle.so_history.specs.declared.entry.Demand.{Demand}
+use Rattle.so_history.specs.declared.entry.DemandKind.{DemandKind}
+use Rattle.so_history.specs.Demands.{Asked, ask_each, demands_from}
+use Rattle.so_history.proofs.NameLaws.{demands_from-append, length-demands_from}
+
+each_below-next : (f : ℕ → AgentId) (k : ℕ) → each_below f (k + 1) ≡ each_below f k ++ f k ∷ []
+unfolding each_below
+each_below-next f k = ap (each_below f) (add-one k)
+
+agents_from-next : (first : AgentId) (k : ℕ) → agents_from first (k + 1) ≡ agents_from first k ++ record { 0 = first.0 + k } ∷ []
+agents_from-next first k = each_below-next (λ i. record { 0 = first.0 + i }) k
+
+length-asked : (kind : DemandKind) (agents : List AgentId) → length (ask_each kind agents) ≡ length agents
+length-asked kind [] = refl
+length-asked kind (a ∷ agents) = ap suc (length-asked kind agents)
+
+pub length-asked_from : (kind : DemandKind) (first : AgentId) (k : ℕ) → length (ask_each kind (agents_from first k)) ≡ k
+length-asked_from kind first k = length-asked kind (agents_from first k) ∙ length-each_below (λ i. record { 0 = first.0 + i }) k
+
+pub asked-next : (place : ℕ) (kind : DemandKind) (first : AgentId) (k : ℕ) → demands_from place 0 (ask_each kind (agents_from first (k + 1))) ≡
+    demands_from place 0 (ask_each kind (agents_from first k)) ++ record { id = record { place = record { 0 = place }; k = k }; agent = record { 0 = first.0 + k }; kind = kind } ∷ []
+asked-next place kind first k =
+    let n : 0 + length (ask_each kind (agents_from first k)) ≡ k = omega (arith, length-asked_from kind first k) in
+    let last : AgentId = record { 0 = first.0 + k } in
+    ap (λ agents. demands_from place 0 (ask_each kind agents)) (agents_from-next first k)
+    ∙ (ap (demands_from place 0) (map-append (λ a. record { agent = a; kind = kind }) (agents_from first k) (last ∷ []))
+    ∙ (demands_from-append place 0 (ask_each kind (agents_from first k)) (ask_each kind (last ∷ []))
+    ∙ ap (λ m. demands_from place 0 (ask_each kind (agents_from first k)) ++ demands_from place m (ask_each kind (last ∷ []))) n))
+
+pub length-demands_asked : (place : ℕ) (kind : DemandKind) (first : AgentId) (k : ℕ) → length (demands_from place 0 (ask_each kind (agents_from first k))) ≡ k
+length-demands_asked place kind first k = length-demands_from place 0 (ask_each kind (agents_from first k)) ∙ length-asked_from kind first k
+
+-- the waiting demands while the asking goes on
+pub queue_next : (queue : List Demand) (place : ℕ) (kind : DemandKind) (first : AgentId) (k : ℕ) → (queue ++ demands_from place 0 (ask_each kind (agents_from first k))) ++ record { id = record { place = record { 0 = place }; k = k }; agent = record { 0 = first.0 + k }; kind = kind } ∷ []
+    ≡ queue ++ demands_from place 0 (ask_each kind (agents_from first (k + 1)))
+queue_next queue place kind first k = append_assoc queue _ _ ∙ ap (λ ds. queue ++ ds) (sym (asked-next place kind first k))
+
+pub queue_none : (queue : List Demand) (place : ℕ) (kind : DemandKind) (first : AgentId) → queue ++ demands_from place 0 (ask_each kind (agents_from first 0)) ≡ queue
+unfolding each_below
+queue_none queue place kind first = append-nil queue
+
+pub ruleset asked = (length-asked_from)

@@ -1,0 +1,5 @@
+pub mod KeptLaws
+pub mod TableLaws
+pub mod GateLaws
+pub mod HeldLaws
+pub mod Asking

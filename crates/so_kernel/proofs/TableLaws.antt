@@ -1,0 +1,175 @@
+-- The tables after one more entry: one law for each kind.
+use Rattle.std.proofs.Common.{◌≡◌, ℕ, ◌+◌, ◌<◌, ◌≤◌, List, [], ◌∷◌, ◌++◌, length, Bool, true, false, not, cond, Option, Some, None, arith, refl, sym, ◌∙◌, ap, eqb, inl, inr, get_or, subst}
+use Rattle.std.specs.Prelude.{◌==◌, ◌⊎◌, ◌↔◌, ◌&&◌, IsTrue, slice_set, slice_index_or}
+use Rattle.std.specs.List.{filter, find, All, AllByRecursion}
+use Rattle.std.specs.Option.{is_none}
+use Rattle.std.proofs.lemmas.List.{append-nil, length-append}
+use Rattle.std.proofs.lemmas.Bool.{cases_Bool, and_parts, false≢true, ne_eqb, eq-eqb, eqb-true}
+use Rattle.so_ids.specs.declared.AgentId.{AgentId}
+use Rattle.so_ids.specs.declared.CoopId.{CoopId}
+use Rattle.so_ids.specs.declared.LaneId.{LaneId}
+use Rattle.so_ids.specs.declared.KeyId.{KeyId}
+use Rattle.so_ids.specs.declared.DemandId.{DemandId}
+use Rattle.so_ids.specs.declared.Place.{Place}
+use Rattle.so_ids.specs.declared.Opening.{Opening}
+use Rattle.so_ids.specs.declared.Reason.{Reason}
+use Rattle.so_code.specs.declared.effect.Effect.{Effect}
+use Rattle.so_code.specs.declared.effect.Answer.{Answer}
+use Rattle.so_lists.specs.Lists.{is_empty, each_below}
+use Rattle.so_lists.proofs.First.{empty-list}
+use Rattle.so_lists.proofs.EachBelow.{length-each_below, get_or-each_below, each_below-same, each_below-set, each_below-replicate}
+use Rattle.so_scene.specs.declared.parts.SceneParts.{SceneParts}
+use Rattle.so_scene.specs.Parts.{agents_of, coop_of}
+use Rattle.so_scene.specs.Lanes.{lanes, keys, key_of, serves}
+use Rattle.so_scene.proofs.LaneLaws.{key_in_range}
+use Rattle.so_history.specs.declared.entry.Entry.{Entry}
+use Rattle.so_history.specs.declared.entry.EntryKind.{EntryKind}
+use Rattle.so_history.specs.declared.entry.EntryKind.TheVariants.{Register, Begin, Act, End, Leaving, Left, Stop}
+use Rattle.so_history.specs.declared.entry.Demand.{Demand}
+use Rattle.so_history.specs.declared.entry.DemandKind.{DemandKind}
+use Rattle.so_history.specs.declared.entry.DemandKind.TheVariants.{Start, Finish}
+use Rattle.so_history.specs.declared.entry.StopCause.{StopCause}
+use Rattle.so_history.specs.Demands.{ask_each, demands_from, queued_by, demands, taken, takes, waiting}
+use Rattle.so_history.specs.Units.{units}
+use Rattle.so_history.specs.Turns.{Started, started_by, ends, turns, running, running_at, running_on, running_with, lane_number, key_number, turn_at}
+use Rattle.so_history.specs.Coops.{tried, present, leaving, stopped}
+use Rattle.so_history.specs.Order.{is_free, may_take, pick, opening_of, taking}
+use Rattle.so_history.specs.Steps.{Legal}
+use Rattle.so_history.proofs.DemandLaws.{waiting-queued, waiting-same, waiting-taken, picked, cost-asked}
+use Rattle.so_history.proofs.NameLaws.{length-demands_from}
+use Rattle.so_history.proofs.TurnLaws.{Frees, running_at-begun, running_at-same, running_at-ended, running_at-other, alone, turn_found, running_nowhere, running_at-nil, lanes_free, keys_free, may_be_taken}
+use Rattle.so_kernel.specs.Tables.{tables_of, places, first_place, marks_of, fresh, may_take_by, after_register, after_begin, after_act, after_end, after_leaving, after_left, after_stop}
+
+-- where turns run after an entry that begins and ends nothing
+places-same : (f : Started → ℕ) (s : SceneParts) (h : List Entry) (e : Entry) (n : ℕ) → Legal s h → started_by (length h) e.by e.kind ≡ [] → ((t : ℕ) → ends e.kind t ≡ false) →
+    places f (e ∷ h) n ≡ places f h n
+places-same f s h e n legal none quiet =
+    each_below-same _ _ n (λ l _. ap first_place (running_at-same f s h e l legal none quiet))
+
+pub tables-fresh : (s : SceneParts) (room : ℕ) → tables_of s room [] ≡ fresh (lanes s) (keys s) room
+unfolding waiting demands taken units tried present leaving stopped running turns
+tables-fresh s room = rw (each_below-replicate (λ i. first_place (running_at lane_number [] i)) (lanes s) None (λ i. refl), each_below-replicate (λ i. first_place (running_at (key_number s) [] i)) (keys s) None (λ i. refl)) refl
+
+pub tables-register : (s : SceneParts) (room : ℕ) (h : List Entry) (e : Entry) (coop : CoopId) → e.kind ≡ Register coop → Legal s h →
+    tables_of s room (e ∷ h) ≡ after_register (length h) (agents_of s coop) (tables_of s room h)
+unfolding tried present leaving stopped units
+tables-register s room h e coop is legal =
+    rw (waiting-queued s h e legal (λ d. rw is refl), places-same lane_number s h e (lanes s) legal (rw is refl) (λ t. rw is refl), places-same (key_number s) s h e (keys s) legal (rw is refl) (λ t. rw is refl), is, length-demands_from (length h) 0 (ask_each Start (agents_of s coop))) refl
+
+pub tables-leaving : (s : SceneParts) (room : ℕ) (h : List Entry) (e : Entry) (coop : CoopId) (reason : Reason) → e.kind ≡ Leaving coop reason → Legal s h →
+    tables_of s room (e ∷ h) ≡ after_leaving (length h) (agents_of s coop) (tables_of s room h)
+unfolding tried present leaving stopped units
+tables-leaving s room h e coop reason is legal =
+    rw (waiting-queued s h e legal (λ d. rw is refl), places-same lane_number s h e (lanes s) legal (rw is refl) (λ t. rw is refl), places-same (key_number s) s h e (keys s) legal (rw is refl) (λ t. rw is refl), is, length-demands_from (length h) 0 (ask_each Finish (agents_of s coop))) refl
+
+pub tables-act : (s : SceneParts) (room : ℕ) (h : List Entry) (e : Entry) → (turn : Place) × (effect : Effect) × (answer : Answer) × (e.kind ≡ Act turn effect answer) → Legal s h →
+    tables_of s room (e ∷ h) ≡ after_act (tables_of s room h)
+unfolding tried present leaving stopped units
+tables-act s room h e is legal =
+    rw (waiting-same s h e legal (rw is.3 refl) (λ d. rw is.3 refl), places-same lane_number s h e (lanes s) legal (rw is.3 refl) (λ t. rw is.3 refl), places-same (key_number s) s h e (keys s) legal (rw is.3 refl) (λ t. rw is.3 refl), is.3) refl
+
+pub tables-left : (s : SceneParts) (room : ℕ) (h : List Entry) (e : Entry) → (coop : CoopId) × (e.kind ≡ Left coop) → Legal s h →
+    tables_of s room (e ∷ h) ≡ after_left (tables_of s room h)
+unfolding tried present leaving stopped units
+tables-left s room h e is legal =
+    rw (waiting-same s h e legal (rw is.1 refl) (λ d. rw is.1 refl), places-same lane_number s h e (lanes s) legal (rw is.1 refl) (λ t. rw is.1 refl), places-same (key_number s) s h e (keys s) legal (rw is.1 refl) (λ t. rw is.1 refl), is.1) refl
+
+pub tables-stop : (s : SceneParts) (room : ℕ) (h : List Entry) (e : Entry) → (cause : StopCause) × (e.kind ≡ Stop cause) → Legal s h →
+    tables_of s room (e ∷ h) ≡ after_stop (tables_of s room h)
+unfolding tried present leaving stopped units
+tables-stop s room h e is legal =
+    rw (waiting-same s h e legal (rw is.1 refl) (λ d. rw is.1 refl), places-same lane_number s h e (lanes s) legal (rw is.1 refl) (λ t. rw is.1 refl), places-same (key_number s) s h e (keys s) legal (rw is.1 refl) (λ t. rw is.1 refl), is.1) refl
+
+-- a Begin where no turn runs
+places-begin : (f : Started → ℕ) (s : SceneParts) (h : List Entry) (e : Entry) (n i : ℕ) (t : Started) → Legal s h → ((x : ℕ) → ends e.kind x ≡ false) → started_by (length h) e.by e.kind ≡ t ∷ [] → t.place ≡ length h → f t ≡ i → i < n → running_at f h i ≡ [] →
+    places f (e ∷ h) n ≡ slice_set (places f h n) i (Some (record { 0 = length h }))
+places-begin f s h e n i t legal quiet starts at number in_range free =
+    let after = λ (l : ℕ). running_at-begun f s h e l legal quiet in
+    each_below-set _ _ n i _ in_range
+    (rw (after i, starts, free, eq-eqb (f t) i number, at) refl)
+    (λ j _ other. let apart : (f t == j) ≡ false = ne_eqb (f t) j (λ same. other (sym same ∙ number)) in rw (after j, starts, apart, append-nil) refl)
+
+free_lane : (s : SceneParts) (h : List Entry) (lane : LaneId) (d : Demand) → pick s h lane ≡ Some d → running_on h lane ≡ []
+free_lane s h lane d picks = empty-list (running_on h lane) (picked s h lane d picks).0
+
+free_key : (s : SceneParts) (h : List Entry) (lane : LaneId) (d : Demand) → pick s h lane ≡ Some d → running_with s h (key_of s d.agent) ≡ []
+free_key s h lane d picks =
+    let may = may_be_taken s h lane (waiting s h) d (picked s h lane d picks).1 in
+    empty-list (running_with s h (key_of s d.agent)) (and_parts (serves s lane (key_of s d.agent)) _ may).1
+
+pub tables-begin : (s : SceneParts) (room : ℕ) (h : List Entry) (e : Entry) (lane : LaneId) (d : Demand) → e.kind ≡ taking lane d → Legal s h → lane.0 < lanes s → pick s h lane ≡ Some d →
+    tables_of s room (e ∷ h) ≡ after_begin (record { 0 = length h }) lane (key_of s d.agent) d (tables_of s room h)
+unfolding tried present leaving stopped units
+tables-begin s room h e lane d is legal in_range picks =
+    let t : Started = record { place = length h; by = e.by; lane = lane; agent = d.agent; opening = opening_of d.kind } in
+    let starts : started_by (length h) e.by e.kind ≡ t ∷ [] = rw is refl in
+    rw (
+      waiting-taken s h e d.id (rw is refl) (λ x. rw is refl),
+      places-begin lane_number s h e (lanes s) lane.0 t legal (λ x. rw is refl) starts refl refl in_range (free_lane s h lane d picks),
+      places-begin (key_number s) s h e (keys s) (key_of s d.agent).0 t legal (λ x. rw is refl) starts refl refl (key_in_range s d.agent) (free_key s h lane d picks),
+      is,
+    ) refl
+
+-- an End of a running turn
+places-end : (f : Started → ℕ) (s : SceneParts) (h : List Entry) (e : Entry) (n : ℕ) (place : Place) (t : Started) → Frees f s → e.kind ≡ End place → Legal s h → f t < n → turn_at h place.0 ≡ Some t →
+    places f (e ∷ h) n ≡ slice_set (places f h n) (f t) None
+places-end f s h e n place t frees is legal in_range runs =
+    let itself : (place.0 == t.place) ≡ true = eq-eqb place.0 t.place (sym (turn_found h place.0 t runs).0) in
+    each_below-set _ _ n (f t) None in_range
+    (rw (running_at-ended f h e (f t) (rw is refl), alone f s h place.0 t frees legal runs, is, itself) refl)
+    (λ j _ other. ap first_place (running_at-other f h e place.0 j t (rw is refl) (λ x. rw is refl) runs (λ same. other (sym same))))
+
+pub tables-end : (s : SceneParts) (room : ℕ) (h : List Entry) (e : Entry) (place : Place) (t : Started) → e.kind ≡ End place → Legal s h → t.lane.0 < lanes s → turn_at h place.0 ≡ Some t →
+    tables_of s room (e ∷ h) ≡ after_end t.lane (key_of s t.agent) (tables_of s room h)
+unfolding tried present leaving stopped units
+tables-end s room h e place t is legal in_range runs =
+    rw (
+      waiting-same s h e legal (rw is refl) (λ d. rw is refl),
+      places-end lane_number s h e (lanes s) place t (lanes_free s) is legal in_range runs,
+      places-end (key_number s) s h e (keys s) place t (keys_free s) is legal (key_in_range s t.agent) runs,
+      is,
+    ) refl
+
+-- all lanes are free exactly where no turn runs
+first_none : (xs : List Started) → first_place xs ≡ None → xs ≡ []
+first_none [] e = refl
+first_none (t ∷ ts) e = cc
+
+nowhere : (s : SceneParts) (h : List Entry) → Legal s h → All (λ p. p ≡ None) (places lane_number h (lanes s)) → running h ≡ []
+nowhere s h legal all =
+    running_nowhere s h legal (λ l in_range.
+    let within : l < length (places lane_number h (lanes s)) = omega (arith, length-each_below (λ i. first_place (running_at lane_number h i)) (lanes s)) in
+    first_none (running_at lane_number h l) (sym (get_or-each_below (λ i. first_place (running_at lane_number h i)) (lanes s) l None in_range) ∙ all l None within))
+
+everywhere : (s : SceneParts) (h : List Entry) → running h ≡ [] → All (λ p. p ≡ None) (places lane_number h (lanes s))
+everywhere s h none l d within =
+    let in_range : l < lanes s = omega (arith, length-each_below (λ i. first_place (running_at lane_number h i)) (lanes s)) in
+    get_or-each_below (λ i. first_place (running_at lane_number h i)) (lanes s) l d in_range ∙ ap first_place (running_at-nil lane_number h l none)
+
+pub free-running : (s : SceneParts) (h : List Entry) (b : Bool) → Legal s h → (IsTrue b ↔ All (λ p. p ≡ None) (places lane_number h (lanes s))) → b ≡ is_empty (running h)
+free-running s h true legal both = let all : All (λ p. p ≡ None) (places lane_number h (lanes s)) = both.0 refl in
+    let none : running h ≡ [] = nowhere s h legal all in
+    rw none refl
+free-running s h false legal both =
+    elim (cases_Bool (is_empty (running h))) [
+      | inl e ↦
+          (let wrong : false ≡ true = both.1 (everywhere s h (empty-list (running h) e)) in
+          absurd (false≢true wrong))
+      | inr f ↦ sym f
+    ]
+
+-- a place says whether a number is free
+none_first : (xs : List Started) → is_none (first_place xs) ≡ is_empty xs
+none_first [] = refl
+none_first (t ∷ ts) = refl
+
+pub free-place : (f : Started → ℕ) (h : List Entry) (n i : ℕ) → i < n → is_none (get_or (places f h n) i None) ≡ is_empty (running_at f h i)
+free-place f h n i in_range = ap is_none (get_or-each_below (λ l. first_place (running_at f h l)) n i None in_range) ∙ none_first (running_at f h i)
+
+-- what may be taken by the table of queues is what may be taken
+pub may_take-table : (s : SceneParts) (h : List Entry) (lane : LaneId) (d : Demand) → may_take_by s (places (key_number s) h (keys s)) lane d ≡ may_take s h lane d
+may_take-table s h lane d = ap (λ b. serves s lane (key_of s d.agent) && b) (free-place (key_number s) h (keys s) (key_of s d.agent).0 (key_in_range s d.agent))
+
+pub find-table : (s : SceneParts) (h : List Entry) (lane : LaneId) (ds : List Demand) → find (may_take_by s (places (key_number s) h (keys s)) lane) ds ≡ find (may_take s h lane) ds
+find-table s h lane [] = refl
+find-table s h lane (d ∷ ds) = rw (may_take-table s h lane d, find-table s h lane ds) refl

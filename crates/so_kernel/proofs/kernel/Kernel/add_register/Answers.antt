@@ -1,0 +1,27 @@
+use Rattle.std.proofs.Common.{◌≡◌, ◌+◌, ◌<◌, ◌≤◌, ◌^◌, refl, ap, sym, ◌∙◌, length, arith}
+use Rattle.so_history.specs.declared.entry.DemandKind.TheVariants.{Start}
+use Rattle.so_history.proofs.DemandLaws.{cost-asked}
+use Rattle.so_kernel.proofs.KeptLaws.{kept_after, has_room, has_place, registered_coop}
+use Rattle.so_kernel.proofs.TableLaws.{tables-register}
+use Rattle.so_kernel.proofs.kernel.Kernel.add_register.Goals as goal
+
+pub coop-coop-requires : goal.coop-coop-requires
+coop-coop-requires c = registered_coop c.args.entry c.args.coop c.self.invariant (rw c.self.view_is c.requires.ready) c.requires.is
+
+pub registered-requires-clause-agents : goal.registered-requires-clause-agents
+registered-requires-clause-agents c = omega (arith, c.coop-coop.ensures.range, c.self.invariant.scene.few_agents)
+
+pub registered-requires-clause-room : goal.registered-requires-clause-room
+registered-requires-clause-room c =
+    rw c.coop-coop.ensures.value
+    (has_room c.args.entry _ c.self.invariant (rw c.self.view_is c.requires.ready)
+    (rw c.requires.is (cost-asked c.self.inside.scene.now c.self.inside.history.entries c.args.coop Start)))
+
+pub push-requires : goal.push-requires
+push-requires c = has_place c.args.entry c.self.invariant (rw c.self.view_is c.requires.ready)
+
+pub invariant_of-self : goal.invariant_of-self
+invariant_of-self c =
+    rw (c.push.ensures.entries, c.push.ensures.limit)
+    (kept_after c.args.entry c.registered.new.self c.self.invariant (rw c.self.view_is c.requires.ready)
+    (c.registered.ensures ∙ rw (c.len.ensures.value, c.coop-coop.ensures.value, c.self.invariant.tables) (sym (tables-register c.self.inside.scene.now c.self.inside.history.limit c.self.inside.history.entries c.args.entry c.args.coop c.requires.is c.self.invariant.legal))))

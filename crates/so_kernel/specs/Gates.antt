@@ -1,0 +1,107 @@
+-- The answer of a step, and the kernel after it.
+use Rattle.std.specs.Prelude.{◌≡◌, ℕ, List, [], ◌∷◌, Bool, true, false, Option, Some, None, Result, Ok, Err, if◌then◌else◌}
+use Rattle.std.specs.Option.{option_map}
+use Rattle.so_ids.specs.declared.PartyId.{PartyId}
+use Rattle.so_ids.specs.declared.LaneId.{LaneId}
+use Rattle.so_code.specs.declared.effect.Effect.{Effect}
+use Rattle.so_code.specs.declared.effect.Move.{Move}
+use Rattle.so_code.specs.declared.frame.Frame.{Frame}
+use Rattle.so_code.specs.Machine.{after, answered}
+use Rattle.so_scene.specs.declared.parts.SceneParts.{SceneParts}
+use Rattle.so_scene.specs.Parts.{code_of}
+use Rattle.so_history.specs.declared.entry.Entry.{Entry}
+use Rattle.so_history.specs.declared.entry.EntryKind.TheVariants.{Act, End}
+use Rattle.so_history.specs.Turns.{Started, turn_at, course}
+use Rattle.so_history.specs.Units.{fits}
+use Rattle.so_history.specs.Order.{pick, taking}
+use Rattle.so_history.specs.Steps.{answer_of, finished}
+use Rattle.so_kernel.specs.Shapes.{Core}
+use Rattle.so_kernel.specs.declared.answers.Refused.{Refused}
+use Rattle.so_kernel.specs.declared.answers.Refused.TheVariants.{Nothing, Full, Over}
+use Rattle.so_kernel.specs.declared.answers.Stepped.{Stepped}
+use Rattle.so_kernel.specs.declared.answers.Stepped.TheVariants as stepped_answer
+use Rattle.so_kernel.specs.declared.answers.Begun.{Begun}
+use Rattle.so_kernel.specs.declared.answers.Begun.TheVariants as begun_answer
+use Rattle.so_kernel.specs.declared.answers.Acted.{Acted}
+use Rattle.so_kernel.specs.declared.answers.Acted.TheVariants as acted_answer
+use Rattle.so_kernel.specs.declared.answers.Ended.{Ended}
+use Rattle.so_kernel.specs.declared.answers.Ended.TheVariants as ended_answer
+use Rattle.so_kernel.specs.declared.answers.Turn.{Turn}
+
+-- the entry that may be added, where the step would add this one, or why none may
+abbrev pub gated_entry : Core → Option Entry → Result Entry Refused
+gated_entry k None = Err Nothing
+gated_entry k (Some e) = if fits k.scene k.limit k.history e then Ok e else Err Full
+
+-- in the order of the answers: the run is over, an earlier step didn't fit, there is no step, this one doesn't fit
+unfoldable pub gated : Core → Option Entry → Result Entry Refused
+gated k next = if finished k.scene k.history then Err Over else (if k.full then Err Full else gated_entry k next)
+
+-- the kernel after that
+abbrev pub core_after : Core → Result Entry Refused → Core
+core_after k (Ok e) = record k { history = e ∷ k.history }
+core_after k (Err Full) = record k { full = true }
+core_after k (Err Nothing) = k
+core_after k (Err Over) = k
+
+-- what a step of main answers
+abbrev pub stepped : Result Entry Refused → Stepped
+stepped (Ok e) = stepped_answer.Added
+stepped (Err Nothing) = stepped_answer.Nothing
+stepped (Err Full) = stepped_answer.Full
+stepped (Err Over) = stepped_answer.Over
+
+-- the Begin that may be made on a lane
+abbrev pub begin_by : Core → PartyId → LaneId → Option Entry
+begin_by k by lane = option_map (λ d. record { by = by; kind = taking lane d }) (pick k.scene k.history lane)
+
+-- a turn that is held is running, and its frame is the one that the history gives
+pub record IsHeld (s : SceneParts) (h : List Entry) (t : Turn) : Type 0 where
+  pub turn : Started
+  pub runs : turn_at h t.begun.0 ≡ Some turn
+  pub by : turn.by ≡ t.by
+  pub lane : turn.lane ≡ t.lane
+  pub course : course s h t.begun.0 ≡ Some (record { agent = t.agent; frame = t.frame })
+
+-- a turn that has made this move: its frame is the one after the move
+pub record HasMoved (s : SceneParts) (h : List Entry) (t : Turn) (move : Move) : Type 0 where
+  pub before : Frame
+  pub held : IsHeld s h (record t { frame = before })
+  pub moves : after (code_of s t.agent) before ≡ (move, t.frame)
+
+abbrev pub begun : Result Entry Refused → Begun
+begun (Ok e) = begun_answer.Nothing
+begun (Err Nothing) = begun_answer.Nothing
+begun (Err Full) = begun_answer.Full
+begun (Err Over) = begun_answer.Over
+
+-- what a begin answers: a turn that is held, or why there is none
+abbrev pub IsBegun : Core → PartyId → LaneId → Result Entry Refused → Begun → Type 0
+IsBegun k by lane (Ok e) (begun_answer.Turn t) = IsHeld k.scene k.history t × (t.by ≡ by) × (t.lane ≡ lane)
+IsBegun k by lane (Ok e) _ = ⊥
+IsBegun k by lane (Err why) r = r ≡ begun (Err why)
+
+abbrev pub act_entry : Core → Turn → Effect → Entry
+act_entry k t effect = record { by = t.by; kind = Act t.begun effect (answer_of k.scene k.history effect) }
+
+-- what an act answers
+abbrev pub acted : Result Entry Refused → Acted
+acted (Ok e) = acted_answer.Went
+acted (Err Nothing) = acted_answer.Full
+acted (Err Full) = acted_answer.Full
+acted (Err Over) = acted_answer.Over
+
+-- an act that went gives the frame its answer
+abbrev pub turn_after : Core → Result Entry Refused → Turn → Effect → Turn
+turn_after k (Ok e) t effect = record t { frame = answered (answer_of k.scene k.history effect) t.frame }
+turn_after k (Err why) t effect = t
+
+abbrev pub end_entry : Turn → Entry
+end_entry t = record { by = t.by; kind = End t.begun }
+
+-- what an end answers
+abbrev pub ended : Result Entry Refused → Turn → Ended
+ended (Ok e) t = ended_answer.Done
+ended (Err Nothing) t = ended_answer.Full t
+ended (Err Full) t = ended_answer.Full t
+ended (Err Over) t = ended_answer.Over t

@@ -1,0 +1,5 @@
+pub mod Shapes
+pub mod Tables
+pub mod Kept
+pub mod Gates
+pub mod Held

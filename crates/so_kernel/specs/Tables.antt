@@ -1,0 +1,97 @@
+-- The tables of a history, and what each entry makes of them.
+use Rattle.std.specs.Prelude.{◌≡◌, ℕ, ◌+◌, ◌<◌, ◌≤◌, ◌^◌, ◌&&◌, List, [], ◌∷◌, ◌++◌, length, Bool, true, false, Option, Some, None, slice_set, slice_index_or, replicate}
+use Rattle.std.specs.Option.{is_none}
+use Rattle.so_ids.specs.declared.AgentId.{AgentId}
+use Rattle.so_ids.specs.declared.KeyId.{KeyId}
+use Rattle.so_ids.specs.declared.LaneId.{LaneId}
+use Rattle.so_ids.specs.declared.Place.{Place}
+use Rattle.so_lists.specs.Lists.{each_below}
+use Rattle.so_scene.specs.declared.parts.SceneParts.{SceneParts}
+use Rattle.so_scene.specs.Lanes.{lanes, keys, key_of, serves}
+use Rattle.so_history.specs.declared.entry.Entry.{Entry}
+use Rattle.so_history.specs.declared.entry.Demand.{Demand}
+use Rattle.so_history.specs.declared.entry.DemandKind.TheVariants.{Start, Finish}
+use Rattle.so_history.specs.Demands.{Asked, ask_each, demands_from, without, waiting}
+use Rattle.so_history.specs.Turns.{Started, running_at, lane_number, key_number}
+use Rattle.so_history.specs.Units.{units}
+use Rattle.so_history.specs.Coops.{tried, present, leaving, stopped}
+use Rattle.so_kernel.specs.declared.tables.Marks.{Marks}
+use Rattle.so_kernel.specs.declared.tables.Tables.{Tables}
+
+-- where the first of these turns began
+abbrev pub first_place : List Started → Option Place
+first_place [] = None
+first_place (t ∷ ts) = Some (record { 0 = t.place })
+
+-- the turn that runs at each number
+abbrev pub places : (Started → ℕ) → List Entry → ℕ → List (Option Place)
+places f h n = each_below (λ i. first_place (running_at f h i)) n
+
+-- the lane serves the demand's queue, and by these places no turn of that queue runs
+abbrev pub may_take_by : SceneParts → List (Option Place) → LaneId → Demand → Bool
+may_take_by s places lane d = serves s lane (key_of s d.agent) && is_none (slice_index_or places (key_of s d.agent).0 None)
+
+abbrev pub marks_of : List Entry → Marks
+marks_of h = record { tried = tried h; present = present h; leaving = leaving h; stopped = stopped h }
+
+-- the tables of a history
+abbrev pub tables_of : SceneParts → ℕ → List Entry → Tables
+tables_of s room h =
+    record {
+      waiting = record { items = waiting s h; room = room };
+      lanes = places lane_number h (lanes s);
+      keys = places (key_number s) h (keys s);
+      marks = marks_of h;
+      units = units s h;
+    }
+
+-- those of the empty history
+abbrev pub fresh : ℕ → ℕ → ℕ → Tables
+fresh lanes keys room =
+    record {
+      waiting = record { items = []; room = room };
+      lanes = replicate lanes None;
+      keys = replicate keys None;
+      marks = record { tried = false; present = false; leaving = false; stopped = false };
+      units = 0;
+    }
+
+-- an entry that queues this many demands fits
+pub record HasRoom (t : Tables) (n : ℕ) : Type 0 where
+  pub queue : length t.waiting.items + n ≤ t.waiting.room
+  pub units : t.units + (1 + n) < 2 ^ 32
+
+-- what is asked is queued, and paid for with its entry
+abbrev pub queued : ℕ → List Asked → Tables → Tables
+queued place asked t =
+    record t {
+      waiting = record t.waiting { items = t.waiting.items ++ demands_from place 0 asked };
+      units = t.units + (1 + length asked);
+    }
+
+abbrev pub after_register : ℕ → List AgentId → Tables → Tables
+after_register place agents t = record (queued place (ask_each Start agents) t) { marks = record t.marks { tried = true; present = true } }
+
+abbrev pub after_begin : Place → LaneId → KeyId → Demand → Tables → Tables
+after_begin place lane key d t =
+    record t {
+      waiting = record t.waiting { items = without d.id t.waiting.items };
+      lanes = slice_set t.lanes lane.0 (Some place);
+      keys = slice_set t.keys key.0 (Some place);
+      units = t.units + 1;
+    }
+
+abbrev pub after_act : Tables → Tables
+after_act t = record t { units = t.units + 1 }
+
+abbrev pub after_end : LaneId → KeyId → Tables → Tables
+after_end lane key t = record t { lanes = slice_set t.lanes lane.0 None; keys = slice_set t.keys key.0 None; units = t.units + 1 }
+
+abbrev pub after_leaving : ℕ → List AgentId → Tables → Tables
+after_leaving place agents t = record (queued place (ask_each Finish agents) t) { marks = record t.marks { leaving = true } }
+
+abbrev pub after_left : Tables → Tables
+after_left t = record t { marks = record t.marks { present = false; leaving = false }; units = t.units + 1 }
+
+abbrev pub after_stop : Tables → Tables
+after_stop t = record t { marks = record t.marks { stopped = true }; units = t.units + 1 }

@@ -1,0 +1,229 @@
+//! The kernel and its public steps. Each adds at most one entry, the one that its definition gives.
+
+ghost use Rattle.std.specs.Prelude.{◌≡◌, ◌<◌, ◌≤◌, ◌↔◌, [], ◌∷◌, true, false, IfOk, IfSome, IfErr, OnOk, Some, Ok, Err};
+ghost use Rattle.so_scene.specs.Parts.{IsScene};
+ghost use Rattle.so_scene.specs.Lanes.{lanes};
+ghost use Rattle.so_code.specs.declared.effect.Move.{Move};
+ghost use Rattle.so_code.specs.declared.effect.Move.TheVariants.{Do, Done};
+ghost use Rattle.so_history.specs.Units.{units};
+ghost use Rattle.so_history.specs.Steps.{finished, IsRow, IsSigner, Legal};
+ghost use Rattle.so_history.specs.Chain.{registration, tidying};
+
+use crate::answers::{Acted, Begun, Ended, Refused, RunState, Stepped, Turn};
+use crate::decide::answer_to;
+use crate::tables::Tables;
+use so_code::Effect;
+use so_history::{Entry, EntryKind, History};
+use so_ids::{CoopId, LaneId, NoMemory, PartyId};
+use so_scene::Scene;
+use std::alloc::Global;
+use std::marker::Model;
+
+/// The core of a run of a scene.
+#[derive(Drop)]
+pub struct Kernel<'a> {
+    pub(crate) scene: &'a Scene,
+    pub(crate) history: History,
+    pub(crate) tables: Tables,
+    pub(crate) full: bool,
+}
+
+impl<'a> Model for Kernel<'a> {
+    ghost use Rattle.so_kernel.specs.Shapes.{Core};
+    ghost use Rattle.so_kernel.specs.Kept.{IsKept};
+
+    ghost Value = { Core };
+
+    ghost view = { λ k. record { scene = k.scene.now; limit = k.history.limit; history = k.history.entries; full = k.full } };
+
+    ghost invariant = { λ k. IsKept k.scene.now k.history.limit k.history.entries k.tables k.full };
+}
+
+impl<'a> Kernel<'a> {
+    ghost use Rattle.so_kernel.specs.Kept.{IsReady};
+    ghost use Rattle.so_kernel.specs.Gates.{gated, core_after, stepped, begin_by, IsHeld, HasMoved, act_entry, end_entry, IsBegun, acted, turn_after, ended};
+
+    /// A kernel with an empty history, which may spend so many units. Nothing after it takes memory.
+    pub fn make(alloc: Global, scene: &'a Scene, units: u32) -> Result<Kernel<'a>, NoMemory>
+        requires { units ≤ 1000000 }
+        ensures { IfOk result (λ k. k ≡ record { scene = scene.now; limit = units; history = []; full = false }) }
+    {
+        let _parts = scene.parts();
+        Ok(Kernel {
+            scene,
+            history: History::with_units(alloc, units)?,
+            tables: Tables::with(alloc, scene.lanes(), scene.keys(), units)?,
+            full: false,
+        })
+    }
+
+    /// The scene. It also tells what the kernel keeps: the history is legal and within its units.
+    pub fn scene(&self) -> &'a Scene
+        ensures value { result.now ≡ self.now.scene }
+        ensures scene { IsScene self.now.scene }
+        ensures legal { Legal self.now.scene self.now.history }
+        ensures within { units self.now.scene self.now.history ≤ self.now.limit }
+        ensures few { self.now.limit ≤ 1000000 }
+    {
+        self.scene
+    }
+
+    /// The history so far.
+    pub fn history(&self) -> &History
+        ensures entries { result.now.entries ≡ self.now.history }
+        ensures limit { result.now.limit ≡ self.now.limit }
+    {
+        &self.history
+    }
+
+    /// Gives the history up.
+    pub fn close(self) -> History
+        ensures entries { result.entries ≡ self.entry.history }
+        ensures limit { result.limit ≡ self.entry.limit }
+        ensures legal { Legal self.entry.scene self.entry.history }
+    {
+        let Kernel {
+            scene: _,
+            history,
+            tables: _,
+            full: _,
+        } = self;
+        history
+    }
+
+    /// How the run stands. Full says that a step didn't fit.
+    pub fn state(&self) -> RunState
+        ensures full { (result ≡ RunState.Full) ↔ ((self.now.full ≡ true) × (finished self.now.scene self.now.history ≡ false)) }
+        ensures finished { (result ≡ RunState.Finished) ↔ (finished self.now.scene self.now.history ≡ true) }
+    {
+        if self.is_finished() {
+            RunState::Finished
+        } else if self.full {
+            RunState::Full
+        } else {
+            RunState::Going
+        }
+    }
+
+    /// Main's next registration. Nothing where none is left.
+    pub fn register_next(&mut self) -> Stepped
+        ensures answer { result ≡ stepped (gated self.old (registration self.old.history)) }
+        ensures after { self.new ≡ core_after self.old (gated self.old (registration self.old.history)) }
+    {
+        let next = self.registration();
+        match self.gate(next) {
+            Ok(entry) => {
+                self.add_register(entry, CoopId(0));
+                Stepped::Added
+            }
+            Err(why) => why.stepped(),
+        }
+    }
+
+    /// The first of: the cooperation leaves, it has left, the run stops since nothing is left to do.
+    pub fn tidy(&mut self) -> Stepped
+        ensures answer { result ≡ stepped (gated self.old (tidying self.old.scene self.old.history)) }
+        ensures after { self.new ≡ core_after self.old (gated self.old (tidying self.old.scene self.old.history)) }
+    {
+        let next = self.tidying();
+        match self.gate(next) {
+            Ok(entry) => {
+                self.add_tidying(entry);
+                Stepped::Added
+            }
+            Err(why) => why.stepped(),
+        }
+    }
+
+    /// Begins a turn of the first demand that a free lane may take.
+    pub fn begin(&mut self, by: PartyId, lane: LaneId) -> Begun
+        requires lane { lane.0 < lanes self.old.scene }
+        requires signer { IsSigner by lane }
+        ensures answer { IsBegun self.new by lane (gated self.old (begin_by self.old by lane)) result }
+        ensures after { self.new ≡ core_after self.old (gated self.old (begin_by self.old by lane)) }
+    {
+        let picked = self.pick(lane);
+        let next = self.taking(by, lane, picked);
+        match self.gate(next) {
+            Ok(entry) => match picked {
+                Some(demand) => Begun::Turn(self.add_begin(entry, lane, demand)),
+                None => unreachable!(),
+            },
+            Err(why) => why.begun(),
+        }
+    }
+
+    /// Carries out the effect of the turn's move. A turn that went has the answer in its frame.
+    pub fn act(&mut self, turn: &mut Turn, effect: Effect) -> Acted
+        requires moved { HasMoved self.old.scene self.old.history turn.old (Do effect) }
+        ensures answer { result ≡ acted (gated self.old (Some (act_entry self.old turn.old effect))) }
+        ensures after { self.new ≡ core_after self.old (gated self.old (Some (act_entry self.old turn.old effect))) }
+        ensures turn { turn.new ≡ turn_after self.old (gated self.old (Some (act_entry self.old turn.old effect))) turn.old effect }
+        ensures held { result ≡ Acted.Went → IsHeld self.new.scene self.new.history turn.new }
+    {
+        let answer = answer_to(effect);
+        let entry = Entry {
+            by: turn.by,
+            kind: EntryKind::Act {
+                turn: turn.begun,
+                effect,
+                answer,
+            },
+        };
+        match self.gate(Some(entry)) {
+            Ok(entry) => {
+                self.add_act(entry, turn, effect, answer);
+                Acted::Went
+            }
+            Err(why) => why.acted(),
+        }
+    }
+
+    /// Ends a turn whose code is over.
+    pub fn end(&mut self, turn: Turn) -> Ended
+        requires moved { HasMoved self.old.scene self.old.history turn Done }
+        ensures answer { result ≡ ended (gated self.old (Some (end_entry turn))) turn }
+        ensures after { self.new ≡ core_after self.old (gated self.old (Some (end_entry turn))) }
+    {
+        let entry = Entry {
+            by: turn.by,
+            kind: EntryKind::End { turn: turn.begun },
+        };
+        match self.gate(Some(entry)) {
+            Ok(entry) => {
+                self.add_end(entry, &turn);
+                Ended::Done
+            }
+            Err(Refused::Over) => Ended::Over(turn),
+            Err(_) => Ended::Full(turn),
+        }
+    }
+
+    /// The entry, if it may be added. A step that doesn't fit sets the mark of Full.
+    #[tactic(auto, unfolding(crate::specs::Gates::gated))]
+    fn gate(&mut self, next: Option<Entry>) -> Result<Entry, Refused>
+        requires { IfSome next (λ e. IsRow self.old.scene self.old.history e.by e.kind) }
+        ensures value { result ≡ gated self.old next }
+        ensures same { IfOk result (λ e. next ≡ Some e) }
+        ensures ok { OnOk result (self.new ≡ self.old) }
+        ensures err { IfErr result (λ why. self.new ≡ core_after self.old (Err why)) }
+        ensures step { IfOk result (IsReady self.old) }
+    {
+        if self.is_finished() {
+            return Err(Refused::Over);
+        }
+        if self.full {
+            return Err(Refused::Full);
+        }
+        match next {
+            Some(entry) => {
+                if self.cost(entry) > self.history.limit() - self.tables.units {
+                    self.full = true;
+                    return Err(Refused::Full);
+                }
+                Ok(entry)
+            }
+            None => Err(Refused::Nothing),
+        }
+    }
+}

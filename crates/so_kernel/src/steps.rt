@@ -1,0 +1,175 @@
+//! The step of a pick, and a row of picks: every interleaving of lanes and main.
+
+ghost use Rattle.std.specs.Prelude.{◌≡◌, ◌<◌, ◌+◌, ◌^◌, length, Some, None, slice_index_or, slice_set};
+ghost use Rattle.std.specs.List.{All};
+ghost use Rattle.so_ids.specs.Ids.{party_of};
+ghost use Rattle.so_code.specs.declared.effect.Move.TheVariants.{Do, Done};
+ghost use Rattle.so_scene.specs.Lanes.{lanes};
+ghost use Rattle.so_history.specs.Chain.{of};
+ghost use Rattle.so_kernel.specs.Gates.{gated, core_after, stepped, begin_by};
+ghost use Rattle.so_kernel.specs.Held.{AreHeld, IsPickInRange, turn_move, played, Moves};
+
+use crate::answers::{Acted, Begun, Ended, Stepped, Turn};
+use crate::kernel::Kernel;
+use crate::turns::Turns;
+use so_code::{Effect, Frame, Move, next};
+use so_history::Pick;
+use so_ids::LaneId;
+
+/// Makes the step of a pick.
+pub fn step(kernel: &mut Kernel, turns: &mut Turns, pick: Pick) -> Stepped
+    requires lane { IsPickInRange kernel.old.scene pick }
+    requires held { AreHeld kernel.old turns.old }
+    ensures answer { result ≡ stepped (gated kernel.old (of kernel.old.scene kernel.old.history pick)) }
+    ensures after { kernel.new ≡ core_after kernel.old (gated kernel.old (of kernel.old.scene kernel.old.history pick)) }
+    ensures held { AreHeld kernel.new turns.new }
+{
+    let _scene = kernel.scene();
+    match pick {
+        Pick::Register => kernel.register_next(),
+        Pick::Lane(lane) => step_lane(kernel, turns, lane),
+        Pick::Tidy => kernel.tidy(),
+    }
+}
+
+/// Begins a turn on a lane, or makes the next step of the running one.
+fn step_lane(kernel: &mut Kernel, turns: &mut Turns, lane: LaneId) -> Stepped
+    requires lane { lane.0 < lanes kernel.old.scene }
+    requires held { AreHeld kernel.old turns.old }
+    ensures answer { result ≡ stepped (gated kernel.old (of kernel.old.scene kernel.old.history (Pick.Lane lane))) }
+    ensures after { kernel.new ≡ core_after kernel.old (gated kernel.old (of kernel.old.scene kernel.old.history (Pick.Lane lane))) }
+    ensures held { AreHeld kernel.new turns.new }
+{
+    let _scene = kernel.scene();
+    match turns.take(lane) {
+        Some(turn) => step_turn(kernel, turns, lane, turn),
+        None => step_begin(kernel, turns, lane),
+    }
+}
+
+/// The next step of a turn that was taken out of the turns.
+fn step_turn(kernel: &mut Kernel, turns: &mut Turns, lane: LaneId, mut turn: Turn) -> Stepped
+    requires lane { lane.0 < lanes kernel.old.scene }
+    requires none { slice_index_or turns.old lane.0 None ≡ None }
+    requires held { AreHeld kernel.old (slice_set turns.old lane.0 (Some turn)) }
+    ensures answer { result ≡ stepped (gated kernel.old (Some (turn_move kernel.old.scene kernel.old.history turn))) }
+    ensures after { kernel.new ≡ core_after kernel.old (gated kernel.old (Some (turn_move kernel.old.scene kernel.old.history turn))) }
+    ensures held { AreHeld kernel.new turns.new }
+{
+    let before = turn.frame;
+    let scene = kernel.scene();
+    let code = &scene.agent(turn.agent).code;
+    match next(code, &mut turn.frame) {
+        Move::Do(effect) => step_act(kernel, turns, lane, turn, before, effect),
+        Move::Done => step_end(kernel, turns, lane, turn, before),
+    }
+}
+
+/// An act of a turn, which is put back: with the answer where it went, and as it was before its move where it didn't.
+fn step_act(
+    kernel: &mut Kernel,
+    turns: &mut Turns,
+    lane: LaneId,
+    mut turn: Turn,
+    before: Frame,
+    effect: Effect,
+) -> Stepped
+    requires lane { lane.0 < lanes kernel.old.scene }
+    requires none { slice_index_or turns.old lane.0 None ≡ None }
+    requires held { AreHeld kernel.old (slice_set turns.old lane.0 (Some (record turn { frame = before }))) }
+    requires moves { Moves kernel.old turn before (Do effect) }
+    ensures answer { result ≡ stepped (gated kernel.old (Some (turn_move kernel.old.scene kernel.old.history (record turn { frame = before })))) }
+    ensures after { kernel.new ≡ core_after kernel.old (gated kernel.old (Some (turn_move kernel.old.scene kernel.old.history (record turn { frame = before })))) }
+    ensures held { AreHeld kernel.new turns.new }
+{
+    let _scene = kernel.scene();
+    match kernel.act(&mut turn, effect) {
+        Acted::Went => {
+            turns.put(lane, turn);
+            Stepped::Added
+        }
+        Acted::Full => {
+            turn.frame = before;
+            turns.put(lane, turn);
+            Stepped::Full
+        }
+        Acted::Over => {
+            turn.frame = before;
+            turns.put(lane, turn);
+            Stepped::Over
+        }
+    }
+}
+
+/// The end of a turn, which is put back as it was before its move where it goes on.
+fn step_end(
+    kernel: &mut Kernel,
+    turns: &mut Turns,
+    lane: LaneId,
+    turn: Turn,
+    before: Frame,
+) -> Stepped
+    requires lane { lane.0 < lanes kernel.old.scene }
+    requires none { slice_index_or turns.old lane.0 None ≡ None }
+    requires held { AreHeld kernel.old (slice_set turns.old lane.0 (Some (record turn { frame = before }))) }
+    requires moves { Moves kernel.old turn before Done }
+    ensures answer { result ≡ stepped (gated kernel.old (Some (turn_move kernel.old.scene kernel.old.history (record turn { frame = before })))) }
+    ensures after { kernel.new ≡ core_after kernel.old (gated kernel.old (Some (turn_move kernel.old.scene kernel.old.history (record turn { frame = before })))) }
+    ensures held { AreHeld kernel.new turns.new }
+{
+    let _scene = kernel.scene();
+    match kernel.end(turn) {
+        Ended::Done => Stepped::Added,
+        Ended::Full(mut turn) => {
+            turn.frame = before;
+            turns.put(lane, turn);
+            Stepped::Full
+        }
+        Ended::Over(mut turn) => {
+            turn.frame = before;
+            turns.put(lane, turn);
+            Stepped::Over
+        }
+    }
+}
+
+/// Begins a turn on a lane that has none.
+fn step_begin(kernel: &mut Kernel, turns: &mut Turns, lane: LaneId) -> Stepped
+    requires lane { lane.0 < lanes kernel.old.scene }
+    requires none { slice_index_or turns.old lane.0 None ≡ None }
+    requires held { AreHeld kernel.old turns.old }
+    ensures answer { result ≡ stepped (gated kernel.old (begin_by kernel.old (party_of lane) lane)) }
+    ensures after { kernel.new ≡ core_after kernel.old (gated kernel.old (begin_by kernel.old (party_of lane) lane)) }
+    ensures held { AreHeld kernel.new turns.new }
+{
+    let scene = kernel.scene();
+    let _lanes = scene.lanes();
+    match kernel.begin(lane.party(), lane) {
+        Begun::Turn(turn) => {
+            turns.put(lane, turn);
+            Stepped::Added
+        }
+        Begun::Nothing => Stepped::Nothing,
+        Begun::Full => Stepped::Full,
+        Begun::Over => Stepped::Over,
+    }
+}
+
+/// Makes the step of each pick in order, and says how many added an entry.
+pub fn play(kernel: &mut Kernel, turns: &mut Turns, picks: &[Pick]) -> u32
+    requires few { length picks.now < 2 ^ 32 }
+    requires lanes { All (IsPickInRange kernel.old.scene) picks.now }
+    requires held { AreHeld kernel.old turns.old }
+    ensures after { kernel.new ≡ played kernel.old picks.now }
+    ensures count { length kernel.new.history ≡ length kernel.old.history + result }
+    ensures held { AreHeld kernel.new turns.new }
+{
+    let mut added = 0;
+    for pick in picks {
+        match step(kernel, turns, *pick) {
+            Stepped::Added => added += 1,
+            _ => {}
+        }
+    }
+    added
+}

@@ -1,0 +1,155 @@
+//! What an entry makes of the tables: one function for each kind, one call on the tables, one push.
+
+ghost use Rattle.std.specs.Prelude.{◌≡◌, Some, Ok};
+ghost use Rattle.so_code.specs.declared.effect.Effect.{Effect as AnyEffect};
+ghost use Rattle.so_code.specs.declared.effect.Answer.{Answer as AnyAnswer};
+ghost use Rattle.so_code.specs.declared.effect.Move.TheVariants.{Do, Done};
+ghost use Rattle.so_ids.specs.declared.CoopId.{CoopId as AnyCoop};
+ghost use Rattle.so_ids.specs.declared.Place.{Place as AnyPlace};
+ghost use Rattle.so_history.specs.declared.entry.StopCause.{StopCause as AnyStop};
+ghost use Rattle.so_history.specs.Order.{pick, taking};
+ghost use Rattle.so_history.specs.Steps.{answer_of};
+ghost use Rattle.so_history.specs.Chain.{tidying};
+ghost use Rattle.so_kernel.specs.Kept.{IsReady};
+ghost use Rattle.so_kernel.specs.Gates.{core_after, IsHeld, HasMoved, act_entry, turn_after};
+
+use crate::answers::Turn;
+use crate::decide::opening_of;
+use crate::kernel::Kernel;
+use so_code::{Answer, Effect, Frame};
+use so_history::{Demand, Entry, EntryKind};
+use so_ids::{CoopId, LaneId, Place, Reason};
+
+impl<'a> Kernel<'a> {
+    /// Takes in a registration.
+    pub(crate) fn add_register(&mut self, entry: Entry, coop: CoopId)
+        requires is { entry.kind ≡ EntryKind.Register coop }
+        requires ready { IsReady self.old entry }
+        ensures { self.new ≡ core_after self.old (Ok entry) }
+    {
+        let place = Place(self.history.len());
+        let coop = self.scene.coop(coop);
+        self.tables.registered(place, coop.first, coop.count);
+        self.history.push(entry);
+    }
+
+    /// Takes in a Begin, and hands out its turn.
+    pub(crate) fn add_begin(&mut self, entry: Entry, lane: LaneId, demand: Demand) -> Turn
+        requires picked { pick self.old.scene self.old.history lane ≡ Some demand }
+        requires is { entry.kind ≡ taking lane demand }
+        requires ready { IsReady self.old entry }
+        ensures turn { IsHeld self.new.scene self.new.history result }
+        ensures by { result.by ≡ entry.by }
+        ensures lane { result.lane ≡ lane }
+        ensures after { self.new ≡ core_after self.old (Ok entry) }
+    {
+        let begun = Place(self.history.len());
+        let key = self.scene.key(demand.agent);
+        self.tables.begun(begun, lane, key, demand);
+        self.history.push(entry);
+        Turn {
+            begun,
+            by: entry.by,
+            lane,
+            agent: demand.agent,
+            frame: Frame::begin(opening_of(demand.kind)),
+        }
+    }
+
+    /// Takes in an act, and gives the turn its answer.
+    pub(crate) fn add_act(&mut self, entry: Entry, turn: &mut Turn, effect: Effect, answer: Answer)
+        requires moved { HasMoved self.old.scene self.old.history turn.old (Do effect) }
+        requires answer { answer ≡ answer_of self.old.scene self.old.history effect }
+        requires is { entry ≡ act_entry self.old turn.old effect }
+        requires ready { IsReady self.old entry }
+        ensures turn { turn.new ≡ turn_after self.old (Ok entry) turn.old effect }
+        ensures held { IsHeld self.new.scene self.new.history turn.new }
+        ensures after { self.new ≡ core_after self.old (Ok entry) }
+    {
+        let _scene = self.scene();
+        self.add_effect(entry, effect);
+        turn.frame.answer(answer);
+    }
+
+    /// Takes in an act by its effect.
+    fn add_effect(&mut self, entry: Entry, effect: Effect)
+        requires is { (turn : AnyPlace) × (answer : AnyAnswer) × (entry.kind ≡ EntryKind.Act turn effect answer) }
+        requires ready { IsReady self.old entry }
+        ensures { self.new ≡ core_after self.old (Ok entry) }
+    {
+        match effect {
+            Effect::Log {
+                text: _,
+                payload: _,
+            } => self.add_log(entry),
+        }
+    }
+
+    /// Takes in an act that changes nothing but the units.
+    fn add_log(&mut self, entry: Entry)
+        requires is { (turn : AnyPlace) × (effect : AnyEffect) × (answer : AnyAnswer) × (entry.kind ≡ EntryKind.Act turn effect answer) }
+        requires ready { IsReady self.old entry }
+        ensures { self.new ≡ core_after self.old (Ok entry) }
+    {
+        self.tables.acted();
+        self.history.push(entry);
+    }
+
+    /// Takes in an End.
+    pub(crate) fn add_end(&mut self, entry: Entry, turn: &Turn)
+        requires moved { HasMoved self.old.scene self.old.history turn.now Done }
+        requires is { entry.kind ≡ EntryKind.End turn.now.begun }
+        requires ready { IsReady self.old entry }
+        ensures { self.new ≡ core_after self.old (Ok entry) }
+    {
+        let key = self.scene.key(turn.agent);
+        self.tables.ended(turn.lane, key);
+        self.history.push(entry);
+    }
+
+    /// Takes in what is tidied.
+    pub(crate) fn add_tidying(&mut self, entry: Entry)
+        requires is { tidying self.old.scene self.old.history ≡ Some entry }
+        requires ready { IsReady self.old entry }
+        ensures { self.new ≡ core_after self.old (Ok entry) }
+    {
+        match entry.kind {
+            EntryKind::Leaving { coop, reason } => self.add_leaving(entry, coop, reason),
+            EntryKind::Left { coop: _ } => self.add_left(entry),
+            EntryKind::Stop { cause: _ } => self.add_stop(entry),
+            _ => unreachable!(),
+        }
+    }
+
+    /// Takes in a Leaving.
+    fn add_leaving(&mut self, entry: Entry, coop: CoopId, reason: Reason)
+        requires is { entry.kind ≡ EntryKind.Leaving coop reason }
+        requires ready { IsReady self.old entry }
+        ensures { self.new ≡ core_after self.old (Ok entry) }
+    {
+        let place = Place(self.history.len());
+        let coop = self.scene.coop(coop);
+        self.tables.leaving(place, coop.first, coop.count);
+        self.history.push(entry);
+    }
+
+    /// Takes in a Left.
+    fn add_left(&mut self, entry: Entry)
+        requires is { (coop : AnyCoop) × (entry.kind ≡ EntryKind.Left coop) }
+        requires ready { IsReady self.old entry }
+        ensures { self.new ≡ core_after self.old (Ok entry) }
+    {
+        self.tables.left();
+        self.history.push(entry);
+    }
+
+    /// Takes in a Stop.
+    fn add_stop(&mut self, entry: Entry)
+        requires is { (cause : AnyStop) × (entry.kind ≡ EntryKind.Stop cause) }
+        requires ready { IsReady self.old entry }
+        ensures { self.new ≡ core_after self.old (Ok entry) }
+    {
+        self.tables.stopped();
+        self.history.push(entry);
+    }
+}
