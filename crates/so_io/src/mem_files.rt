@@ -1,0 +1,81 @@
+//! Files in memory.
+ghost use Rattle.std.specs.Prelude.{◌≡◌, ℕ, List, option_copied};
+ghost use Rattle.so_io.specs.Files.{ReadsContent, ReadHasCause};
+ghost use Rattle.so_io.specs.MemFiles.{MemFilesState, file_of, named_files, found_bytes, reading, after_reading, Answers};
+
+use crate::files::{Files, ReadFail};
+use std::alloc::Global;
+use std::marker::Model;
+
+/// Files in memory by name, with the numbers of the calls that fail, counted from 0. Of several
+/// contents of one name the first counts.
+#[derive(Drop)]
+pub struct MemFiles {
+    files: Vec<(String, Vec<u8>)>,
+    fails: Vec<u64>,
+    calls: u64,
+    faults: u64,
+}
+
+impl Model for MemFiles {
+    ghost use Rattle.so_io.specs.MemFiles.{MemFilesState, named_files};
+
+    ghost Value = { MemFilesState };
+
+    ghost view = { λ f. record { files = named_files f.files.items; fails = f.fails.items; calls = f.calls; faults = f.faults } };
+}
+
+impl MemFiles {
+    /// These files, of which the calls of these numbers fail.
+    pub fn new(files: Vec<(String, Vec<u8>)>, fails: Vec<u64>) -> MemFiles
+        ensures { result ≡ record { files = named_files files.items; fails = fails.items; calls = 0; faults = 0 } }
+    {
+        MemFiles {
+            files,
+            fails,
+            calls: 0,
+            faults: 0,
+        }
+    }
+}
+
+/// The content of the first file of a name.
+fn find<'a>(files: &'a [(String, Vec<u8>)], path: &str) -> Option<&'a Vec<u8>>
+    ensures { found_bytes (option_copied result) ≡ file_of (named_files files.now) path.now }
+{
+    let mut rest = files;
+    while let [(name, bytes), after @ ..] = rest {
+        if name.as_str() == path {
+            return Some(bytes);
+        }
+        rest = after;
+    }
+    None
+}
+
+impl Files for MemFiles {
+    ghost content = { λ f name. file_of f.files name };
+
+    ghost faults = { λ f. f.faults };
+
+    fn read_all(&mut self, alloc: Global, path: &str, max: usize) -> Result<Vec<u8>, ReadFail>
+        ensures answer { Answers (λ v. v.items) (reading self.old path.now max) result }
+        ensures after { self.new ≡ after_reading self.old path.now max }
+        ensures bytes { ReadsContent (λ v. v.items) (file_of self.old.files path.now) max result }
+        ensures kept { (name : List ℕ) → file_of self.new.files name ≡ file_of self.old.files name }
+        ensures cause { ReadHasCause self.old.faults self.new.faults result }
+    {
+        let fails = self.fails.contains(&self.calls);
+        self.calls = self.calls.saturating_add(1);
+        match find(&self.files, path) {
+            Some(bytes) if bytes.len() > max => Err(ReadFail::TooLong),
+            Some(bytes) if !fails => {
+                Vec::from_slice(alloc, bytes).map_err(|_| ReadFail::NoMemory)
+            }
+            _ => {
+                self.faults = self.faults.saturating_add(1);
+                Err(ReadFail::Failed)
+            }
+        }
+    }
+}
