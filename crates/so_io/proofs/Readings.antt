@@ -1,7 +1,6 @@
 -- One reading more of a list.
-use Rattle.std.proofs.Common.{◌≡◌, ℕ, ◌+◌, ◌<◌, ◌≤◌, min, List, ◌∷◌, Bool, true, false, refl, ap, sym, ◌∙◌, subst, arith, Option, Some, None, add-one}
+use Rattle.std.proofs.Common.{◌≡◌, ℕ, ◌+◌, List, ◌∷◌, Bool, true, false, refl, ap, ◌∙◌, arith, Some, None, add-one}
 use Rattle.std.specs.Prelude.{nat_lt, if◌then◌else◌}
-use Rattle.std.proofs.lemmas.Bool.Decides.{nat_tests}
 use Rattle.std.proofs.lemmas.Bool.{ltb-true, lt-ltb}
 use Rattle.so_io.specs.Count.{last_count, counted}
 use Rattle.so_io.specs.Clock.{AddsReading}
@@ -24,5 +23,5 @@ pub adds_reading : (old new : ListClockState) (r : ℕ) → r ≡ reading_at old
     → AddsReading (told_readings old) (told_readings new) r
 adds_reading old new r is same given =
     adds_told (nat_lt old.given last_count) (nat_lt new.given last_count) (given_readings old.readings old.given) (given_readings new.readings new.given) r
-      (λ t. lt-ltb old.given last_count (omega (arith, ltb-true new.given last_count t)))
-      (λ t. rw (same, is) (given_more old.readings old.given new.given (omega (arith, ltb-true new.given last_count t))))
+    (λ t. lt-ltb old.given last_count (omega (arith, ltb-true new.given last_count t)))
+    (λ t. rw (same, is) (given_more old.readings old.given new.given (omega (arith, ltb-true new.given last_count t))))

@@ -1,5 +1,5 @@
 -- Counts of 64 bits that go up to their last value and stay there, and faults that are counted so.
-use Rattle.std.specs.Prelude.{◌≡◌, ℕ, ◌+◌, ◌-◌, ◌^◌, ◌<◌, ◌≤◌, ◌⊎◌, min, Result, OnErr, Bool, List, ◌==◌}
+use Rattle.std.specs.Prelude.{ℕ, ◌+◌, ◌-◌, ◌^◌, ◌<◌, ◌≤◌, ◌⊎◌, min, Result, OnErr, Bool, List, ◌==◌}
 use Rattle.std.specs.List.{list_any}
 
 abbrev pub last_count : ℕ

@@ -16,7 +16,7 @@ abbrev pub refuses : MemSinkState → List ℕ → Bool
 refuses s piece = is_to_fail s.fails s.calls || nat_lt s.capacity (length s.held + length piece)
 
 abbrev pub writing : MemSinkState → List ℕ → Result ℕ Failed
-writing s piece = if refuses s piece then Err (record { }) else Ok (length piece)
+writing s piece = if refuses s piece then Err (record {}) else Ok (length piece)
 
 abbrev pub after_writing : MemSinkState → List ℕ → MemSinkState
 after_writing s piece =

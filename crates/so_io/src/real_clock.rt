@@ -50,3 +50,54 @@ impl<'a, R: std::rt::Clock> Clock for RealClock<'a, R> {
         thread::sleep(self.rt, Duration::from_millis(u64::from(ms)));
     }
 }
+
+#[cfg(test)]
+mod tests {
+    use super::*;
+    use std::cell::Cell;
+    use std::io;
+
+    /// A system's clock that goes on by 10 ms a reading and can't be read at some of them.
+    #[derive(Drop)]
+    struct Ticking {
+        reading: Cell<u64>,
+        fails: [u64; 2],
+    }
+
+    impl std::rt::Clock for Ticking {
+        fn monotonic(&self) -> io::Result<Duration> {
+            let reading = self.reading.get();
+            self.reading.set(reading.saturating_add(1));
+            if self.fails.contains(&reading) {
+                return Err(io::Error::from(io::ErrorKind::Other));
+            }
+            Ok(Duration::from_millis(reading.saturating_mul(10)))
+        }
+
+        fn since_1970(&self) -> io::Result<Duration> {
+            self.monotonic()
+        }
+    }
+
+    #[test]
+    fn gives_its_last_reading_where_the_system_gives_none(rt: HostRuntime) {
+        for (fails, readings) in [([2, 4], [10, 10, 30, 30, 50]), ([0, 1], [0, 0, 10, 20, 30])] {
+            let system = Ticking {
+                reading: Cell::new(0),
+                fails,
+            };
+            let mut clock = RealClock::new(&system);
+            for reading in readings {
+                assert_eq!(rt; clock.now(), reading);
+            }
+        }
+    }
+
+    #[test]
+    fn goes_on_while_it_pauses(rt: HostRuntime) {
+        let mut clock = RealClock::new(&rt);
+        let before = clock.now();
+        clock.pause(&rt, 20);
+        assert!(rt; clock.now().saturating_sub(before) >= 20);
+    }
+}

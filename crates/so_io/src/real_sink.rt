@@ -70,3 +70,73 @@ impl<W: Write> Sink for RealSink<W> {
         answer
     }
 }
+
+#[cfg(test)]
+mod tests {
+    use super::*;
+    use crate::sink::put_all;
+    use std::io;
+    use std::test::Fail;
+
+    /// A stream that takes at most two bytes a call, is interrupted at call 1, and from `ends` on takes
+    /// none or fails.
+    #[derive(Drop)]
+    struct Slow {
+        taken: Vec<u8>,
+        calls: u32,
+        ends: u32,
+        end: Option<ErrorKind>,
+    }
+
+    impl Write for Slow {
+        fn write(&mut self, buf: &[u8]) -> io::Result<usize> {
+            let call = self.calls;
+            self.calls = call.saturating_add(1);
+            if call == 1 {
+                return Err(io::Error::from(ErrorKind::Interrupted));
+            }
+            if call >= self.ends {
+                return match self.end {
+                    Some(kind) => Err(io::Error::from(kind)),
+                    None => Ok(0),
+                };
+            }
+            let count = buf.len().min(2);
+            match self.taken.extend_from_slice(&buf[..count]) {
+                Ok(()) => Ok(count),
+                Err(_) => Err(io::Error::from(ErrorKind::OutOfMemory)),
+            }
+        }
+
+        fn flush(&mut self) -> io::Result<()> {
+            Ok(())
+        }
+    }
+
+    #[test]
+    fn a_short_write_goes_on_and_a_failed_one_leaves_a_part(rt: HostRuntime) -> Result<(), Fail> {
+        let cases = [
+            (9, None, Ok(()), "hello"),
+            (3, None, Err(Failed), "hell"),
+            (2, Some(ErrorKind::BrokenPipe), Err(Failed), "he"),
+        ];
+        for (ends, end, want, left) in cases {
+            let taken = Vec::new(rt.alloc());
+            let mut sink = RealSink::new(Slow {
+                taken,
+                calls: 0,
+                ends,
+                end,
+            });
+            assert_eq!(rt; put_all(&mut sink, b"hello"), want);
+            assert_eq!(rt; sink.stream.taken.as_slice(), left.as_bytes());
+        }
+        Ok(())
+    }
+
+    #[test]
+    fn standard_output_and_error_take_bytes(rt: HostRuntime) {
+        assert_eq!(rt; RealOut::new(rt.stdout()).write(b"\n"), Ok(1));
+        assert_eq!(rt; RealErr::new(rt.stderr()).write(b"\n"), Ok(1));
+    }
+}
