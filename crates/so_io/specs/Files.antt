@@ -12,6 +12,14 @@ ReadsContent items (Some bytes) max (Err TooLong) = max < length bytes
 ReadsContent items (Some bytes) max (Err Failed) = length bytes ≤ max
 ReadsContent items (Some bytes) max (Err NoMemory) = length bytes ≤ max
 
+-- Of a reader whose bytes are known: all of them, or TooLong only where it has more than `max`.
+abbrev pub ReadsUpTo : {V : Type 0} → (V → List ℕ) → Option (List ℕ) → ℕ → Result V ReadFail → Type 0
+ReadsUpTo items None max result = Unit {0}
+ReadsUpTo items (Some bytes) max (Ok v) = (items v ≡ bytes) × (length bytes ≤ max)
+ReadsUpTo items (Some bytes) max (Err TooLong) = max < length bytes
+ReadsUpTo items (Some bytes) max (Err Failed) = Unit {0}
+ReadsUpTo items (Some bytes) max (Err NoMemory) = Unit {0}
+
 -- the count doesn't fall, and Failed comes only where it rose
 pub record ReadHasCause {V : Type 0} (before now : ℕ) (result : Result V ReadFail) : Type 0 where
   pub later : before ≤ now

@@ -1,6 +1,6 @@
 //! The files of the system, of whose content nothing is told.
 ghost use Rattle.std.specs.Prelude.{◌≡◌, None};
-ghost use Rattle.so_io.specs.Files.{ReadHasCause, after_answer};
+ghost use Rattle.so_io.specs.Files.{ReadHasCause, ReadsUpTo, after_answer};
 
 use crate::files::{Files, ReadFail};
 use std::alloc::Global;
@@ -32,22 +32,22 @@ impl<'a, R: std::rt::Files> RealFiles<'a, R> {
     }
 }
 
-/// The bytes of a reader, of which there may be `max`.
-fn read_up_to<R: Read>(alloc: Global, reader: &mut R, max: usize) -> Result<Vec<u8>, ReadFail> {
+/// All bytes of a reader, of which there may be `max`.
+fn read_up_to<R: Read + Drop>(
+    alloc: Global,
+    reader: R,
+    max: usize,
+) -> Result<Vec<u8>, ReadFail>
+    ensures { ReadsUpTo (λ v. v.items) (R.remaining reader) max result }
+{
     let mut bytes = Vec::new(alloc);
-    let mut part = [0; 4096];
-    for _ in 0..u64::MAX {
-        match reader.read(&mut part) {
-            Ok(0) => return Ok(bytes),
-            Ok(count) if count > max.saturating_sub(bytes.len()) => return Err(ReadFail::TooLong),
-            Ok(count) => bytes
-                .extend_from_slice(&part[..count])
-                .map_err(|_| ReadFail::NoMemory)?,
-            Err(error) if error.kind() == ErrorKind::Interrupted => {}
-            Err(_) => return Err(ReadFail::Failed),
-        }
+    let limit = (max as u64).saturating_add(1);
+    match reader.take(limit).read_to_end(&mut bytes) {
+        Ok(_) if bytes.len() <= max => Ok(bytes),
+        Ok(_) => Err(ReadFail::TooLong),
+        Err(error) if error.kind() == ErrorKind::OutOfMemory => Err(ReadFail::NoMemory),
+        Err(_) => Err(ReadFail::Failed),
     }
-    Err(ReadFail::Failed)
 }
 
 /// The bytes of a file, of which there may be `max`.
@@ -57,8 +57,8 @@ fn read_file<R: std::rt::Files>(
     path: &str,
     max: usize,
 ) -> Result<Vec<u8>, ReadFail> {
-    let mut file = File::open(rt, path).map_err(|_| ReadFail::Failed)?;
-    read_up_to(alloc, &mut file, max)
+    let file = File::open(rt, path).map_err(|_| ReadFail::Failed)?;
+    read_up_to(alloc, file, max)
 }
 
 impl<'a, R: std::rt::Files> Files for RealFiles<'a, R> {

@@ -1,5 +1,6 @@
 //! The streams of the system, of whose content nothing is told.
 ghost use Rattle.std.specs.Prelude.{◌≡◌, ◌≤◌, ◌<◌, None, length, IfOk, is_ok, if◌then◌else◌};
+ghost use Rattle.std.specs.Io.KnownBytes.{WriteAppends};
 ghost use Rattle.so_io.specs.Count.{HasCause, counted};
 
 use crate::sink::Sink;
@@ -38,8 +39,15 @@ impl<W: Write> RealSink<W> {
 }
 
 /// Writes some bytes of the piece, at least one, and tries again where it was interrupted.
+#[tactic(auto, using(
+    crate::proofs::Known::kept,
+    crate::proofs::Known::kept_on,
+    crate::proofs::Known::kept_and_appended,
+    crate::proofs::Known::kept_by_none
+))]
 fn write_some<W: Write>(stream: &mut W, piece: &[u8]) -> Result<usize, Failed>
-    ensures { IfOk result (λ n. (0 < n) × (n ≤ length piece.now)) }
+    ensures count { IfOk result (λ n. (0 < n) × (n ≤ length piece.now)) }
+    ensures bytes { WriteAppends (W.contents stream.old) (W.contents stream.new) result piece.now }
 {
     for _ in 0..u64::MAX {
         match stream.write(piece) {

@@ -30,7 +30,8 @@ pub fn put_all<K: Sink>(sink: &mut K, piece: &[u8]) -> Result<(), Failed>
 {
     let mut at = 0;
     while at < piece.len() {
-        at += sink.write(&piece[at..])?;
+        let count = sink.write(&piece[at..])?;
+        at += count;
     }
     Ok(())
 }
