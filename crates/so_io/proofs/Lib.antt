@@ -1,3 +1,4 @@
 pub mod Pieces
 pub mod Known
 pub mod Readings
+pub mod Named

@@ -1,7 +1,8 @@
 -- Files in memory, of which some calls fail.
-use Rattle.std.specs.Prelude.{◌≡◌, ℕ, List, [], ◌∷◌, length, map, Bool, nat_lt, if◌then◌else◌, Option, None, Some, Result, Ok, Err, Vec, string_bytes}
+use Rattle.std.specs.Prelude.{◌≡◌, ℕ, List, length, map, find, Bool, nat_lt, if◌then◌else◌, Option, None, Some, Result, Ok, Err, Vec, string_bytes}
 use Rattle.std.specs.declared.alloc.Global.{Global}
 use Rattle.std.specs.declared.string.String.{String}
+use Rattle.std.specs.Option.{option_map}
 use Rattle.std.specs.Str.{bytes_eq}
 use Rattle.so_io.specs.declared.files.ReadFail.{ReadFail}
 use Rattle.so_io.specs.declared.files.ReadFail.TheVariants.{Failed, TooLong, NoMemory}
@@ -21,12 +22,7 @@ named_files files = map (λ file. (string_bytes file.0, file.1.items)) files
 
 -- the bytes of the first file of a name
 abbrev pub file_of : List (List ℕ × List ℕ) → List ℕ → Option (List ℕ)
-file_of [] name = None
-file_of (file ∷ files) name = if bytes_eq file.0 name then Some file.1 else file_of files name
-
-abbrev pub found_bytes : Option (Vec ℕ Global) → Option (List ℕ)
-found_bytes None = None
-found_bytes (Some v) = Some v.items
+file_of files name = option_map (λ file. file.1) (find (λ file. bytes_eq file.0 name) files)
 
 -- a name that isn't there fails, a longer file is too long even at a call that is to fail
 abbrev pub reading_of : Option (List ℕ) → ℕ → Bool → Result (List ℕ) ReadFail

@@ -1,7 +1,9 @@
 //! Files in memory.
-ghost use Rattle.std.specs.Prelude.{◌≡◌, ℕ, List, option_copied};
+ghost use Rattle.std.specs.Prelude.{◌≡◌, ℕ, List, option_copied, find, string_bytes};
+ghost use Rattle.std.specs.Option.{option_map};
+ghost use Rattle.std.specs.Str.{bytes_eq};
 ghost use Rattle.so_io.specs.Files.{ReadsContent, ReadHasCause};
-ghost use Rattle.so_io.specs.MemFiles.{MemFilesState, file_of, named_files, found_bytes, reading, after_reading, Answers};
+ghost use Rattle.so_io.specs.MemFiles.{MemFilesState, file_of, named_files, reading, after_reading, Answers};
 
 use crate::files::{Files, ReadFail};
 use std::alloc::Global;
@@ -39,18 +41,19 @@ impl MemFiles {
     }
 }
 
-/// The content of the first file of a name.
-fn find<'a>(files: &'a [(String, Vec<u8>)], path: &str) -> Option<&'a Vec<u8>>
-    ensures { found_bytes (option_copied result) ≡ file_of (named_files files.now) path.now }
+/// The first file of a name.
+fn find<'a>(files: &'a [(String, Vec<u8>)], name: &str) -> Option<&'a (String, Vec<u8>)>
+    ensures { option_copied result ≡ find (λ file. bytes_eq (string_bytes file.0) name.now) files.now }
 {
-    let mut rest = files;
-    while let [(name, bytes), after @ ..] = rest {
-        if name.as_str() == path {
-            return Some(bytes);
-        }
-        rest = after;
-    }
-    None
+    files.iter().find(|file| file.0.as_str() == name)
+}
+
+/// The bytes of the first file of a name.
+#[tactic(auto, using(crate::proofs::Named::file_of_named))]
+fn content_of<'a>(files: &'a [(String, Vec<u8>)], name: &str) -> Option<&'a Vec<u8>>
+    ensures { option_map (λ bytes. bytes.items) (option_copied result) ≡ file_of (named_files files.now) name.now }
+{
+    find(files, name).map(|file| &file.1)
 }
 
 impl Files for MemFiles {
@@ -65,7 +68,7 @@ impl Files for MemFiles {
     {
         let fails = self.fails.contains(&self.calls);
         self.calls = self.calls.saturating_add(1);
-        match find(&self.files, path) {
+        match content_of(&self.files, path) {
             Some(bytes) if bytes.len() > max => Err(ReadFail::TooLong),
             Some(bytes) if !fails => {
                 Vec::from_slice(alloc, bytes).map_err(|_| ReadFail::NoMemory)

@@ -33,11 +33,7 @@ impl<'a, R: std::rt::Files> RealFiles<'a, R> {
 }
 
 /// All bytes of a reader, of which there may be `max`.
-fn read_up_to<R: Read + Drop>(
-    alloc: Global,
-    reader: R,
-    max: usize,
-) -> Result<Vec<u8>, ReadFail>
+fn read_up_to<R: Read + Drop>(alloc: Global, reader: R, max: usize) -> Result<Vec<u8>, ReadFail>
     ensures { ReadsUpTo (λ v. v.items) (R.remaining reader) max result }
 {
     let mut bytes = Vec::new(alloc);

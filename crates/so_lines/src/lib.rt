@@ -4,10 +4,11 @@
 //! appends no more than that, so that a row of writers needs the sum of their numbers.
 #![tactic(auto)]
 
-ghost use Rattle.std.specs.Prelude.{◌≡◌, ◌+◌, ◌*◌, ◌≤◌, ◌++◌, length, decimal};
+ghost use Rattle.std.specs.Prelude.{◌≡◌, ◌+◌, ◌*◌, ◌≤◌, ◌++◌, length, codes, decimal};
 ghost use Rattle.std.specs.Fmt.{signed_decimal};
+ghost use Rattle.std.specs.List.{flat_map};
 ghost use Rattle.arrayvec.specs.ArrayVec.{array_vec_len};
-ghost use Rattle.so_lines.specs.Lines.{spaced, commaed, joined, payload_words};
+ghost use Rattle.so_lines.specs.Lines.{spaced, joined, payload_words};
 
 use arrayvec::ArrayVec;
 use itoa::Buffer;
@@ -72,11 +73,9 @@ pub fn put_spaced(buf: &mut LineBuf, numbers: &[i64])
     ensures items { buf.new.items ≡ buf.old.items ++ spaced numbers.now }
     ensures len { array_vec_len buf.new ≤ array_vec_len buf.old + 21 * length numbers.now }
 {
-    let mut rest = numbers;
-    while let [number, after @ ..] = rest {
+    for number in numbers {
         put(buf, b" ");
         put_signed(buf, *number);
-        rest = after;
     }
 }
 
@@ -91,16 +90,13 @@ pub fn put_payload(buf: &mut LineBuf, payload: &Payload)
 }
 
 /// Appends the numbers of states, each after a comma.
-#[tactic(auto, unfolding(crate::specs::Lines::commaed))]
 fn put_commaed(buf: &mut LineBuf, states: &[StateId])
     requires { array_vec_len buf.old + 11 * length states.now ≤ 512 }
-    ensures items { buf.new.items ≡ buf.old.items ++ commaed states.now }
+    ensures items { buf.new.items ≡ buf.old.items ++ flat_map (λ state. codes "," ++ decimal state.0) states.now }
     ensures len { array_vec_len buf.new ≤ array_vec_len buf.old + 11 * length states.now }
 {
-    let mut rest = states;
-    while let [state, after @ ..] = rest {
+    for state in states {
         put_word(buf, b",", state.0);
-        rest = after;
     }
 }
 

@@ -1,13 +1,14 @@
-use Rattle.std.proofs.Common.{◌≡◌, ◌+◌, ◌*◌, ◌≤◌, ◌++◌, length}
+use Rattle.std.proofs.Common.{◌≡◌, ◌+◌, ◌*◌, ◌≤◌, ℕ, List, ◌++◌, codes, decimal, drop}
+use Rattle.std.specs.List.{flat_map}
 use Rattle.arrayvec.specs.ArrayVec.{array_vec_len}
-use Rattle.so_lines.specs.Lines.{commaed}
+use Rattle.so_ids.specs.declared.StateId.{StateId}
 use Rattle.so_lines.proofs.put_commaed.Given as goal
 
-abbrev pub invariant-loop-rest : goal.invariant-loop-rest
-invariant-loop-rest l = record {
-  written : l.buf.items ++ commaed l.rest ≡ l.fn.buf.items ++ commaed l.states;
-  room : array_vec_len l.buf + 11 * length l.rest ≤ array_vec_len l.fn.buf + 11 * length l.states;
-}
+abbrev commaed : List StateId → List ℕ
+commaed states = flat_map (λ state. codes "," ++ decimal state.0) states
 
-abbrev pub decreases-loop-rest : goal.decreases-loop-rest
-decreases-loop-rest l = length l.rest
+abbrev pub invariant-loop-state : goal.invariant-loop-state
+invariant-loop-state l = record {
+  written : l.buf.items ++ commaed (drop l.state-index l.states) ≡ l.fn.buf.items ++ commaed l.states;
+  room : array_vec_len l.buf ≤ array_vec_len l.fn.buf + 11 * l.state-index;
+}

@@ -7,4 +7,4 @@ returns-in-Ok g c =
     let size = c.read_to_end.new.buf.ok in
     let small = c.read_to_end.new.buf.small in
     reads_all _ c.read_to_end.new.buf (g.R.Read.remaining c.args.reader) c.take.result.limit c.args.max c.new-bytes.result.items c.new-bytes.ensures.items
-      (rw c.take.ensures.inner at c.in-Ok.ensures.bytes) (omega arith) (omega arith)
+    (rw c.take.ensures.inner at c.in-Ok.ensures.bytes) (omega arith) (omega arith)
