@@ -27,6 +27,9 @@ kept_by_none (Some x) None c ab bc = absurd ab
 kept_by_none (Some x) (Some y) None ab bc = absurd bc
 kept_by_none (Some x) (Some y) (Some z) ab bc = bc ∙ append-nil y ∙ ab
 
+-- what a row of calls keeps before one that appends
+pub ruleset keeping = (kept, kept_on, kept_and_appended, kept_by_none)
+
 -- fewer known bytes than the limit were read, so that they are all
 all_below_limit : (bytes : List ℕ) (limit max : ℕ) (new : List ℕ) → new ≡ take limit bytes → length new < limit → length new ≤ max → (new ≡ bytes) × (length bytes ≤ max)
 all_below_limit bytes limit max new taken short fits =

@@ -1,4 +1,5 @@
-pub mod Pieces
 pub mod Known
-pub mod Readings
 pub mod Named
+pub mod Pieces
+pub mod Readings
+pub mod Rising

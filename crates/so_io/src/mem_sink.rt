@@ -82,6 +82,7 @@ impl Sink for MemSink {
 #[cfg(test)]
 mod tests {
     use super::*;
+    use crate::sink::put_all;
     use std::test::Fail;
 
     #[test]
@@ -99,6 +100,7 @@ mod tests {
         for (call, (piece, want)) in cases.iter().enumerate() {
             assert_eq!(rt; sink.write(piece.as_bytes()), *want, "call {call}");
         }
+        assert_eq!(rt; put_all(&mut sink, b"g"), Err(Failed));
         assert_eq!(rt; sink.bytes(), b"abcde".as_slice());
         Ok(())
     }

@@ -39,7 +39,7 @@ impl<W: Write> RealSink<W> {
 }
 
 /// Writes some bytes of the piece, at least one, and tries again where it was interrupted.
-#[tactic(auto, using(crate::proofs::Known::kept, crate::proofs::Known::kept_on, crate::proofs::Known::kept_and_appended, crate::proofs::Known::kept_by_none))]
+#[tactic(auto, using(crate::proofs::Known::keeping))]
 fn write_some<W: Write>(stream: &mut W, piece: &[u8]) -> Result<usize, Failed>
     ensures count { IfOk result (λ n. (0 < n) × (n ≤ length piece.now)) }
     ensures bytes { WriteAppends (W.contents stream.old) (W.contents stream.new) result piece.now }
