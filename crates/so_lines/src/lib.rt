@@ -4,7 +4,7 @@
 //! appends no more than that, so that a row of writers needs the sum of their numbers.
 #![tactic(auto)]
 
-ghost use Rattle.std.specs.Prelude.{◌≡◌, ◌+◌, ◌*◌, ◌≤◌, ◌++◌, length, codes, decimal};
+ghost use Rattle.std.specs.Prelude.{◌≡◌, ◌+◌, ◌*◌, ◌≤◌, ◌++◌, length, take, codes, decimal};
 ghost use Rattle.std.specs.Fmt.{signed_decimal};
 ghost use Rattle.std.specs.List.{flat_map};
 ghost use Rattle.arrayvec.specs.ArrayVec.{array_vec_len};
@@ -116,6 +116,17 @@ pub fn put_joined(buf: &mut LineBuf, states: &[StateId])
     }
 }
 
+/// Appends a word, and then the numbers of the first `used` states joined by commas, or `-`.
+pub fn put_states(buf: &mut LineBuf, word: &[u8], states: &[StateId; 16], used: u8)
+    requires { array_vec_len buf.old + length word.now + 177 ≤ 512 }
+    ensures items { buf.new.items ≡ buf.old.items ++ (word.now ++ joined (take used states.now)) }
+    ensures len { array_vec_len buf.new ≤ array_vec_len buf.old + length word.now + 177 }
+{
+    put(buf, word);
+    let used = usize::from(used).min(16);
+    put_joined(buf, &states[..used]);
+}
+
 #[cfg(test)]
 mod tests {
     use super::*;
@@ -151,22 +162,24 @@ mod tests {
 
     #[test]
     fn lists_are_joined_by_commas_and_spaces(rt: HostRuntime) {
+        let mut enters = [StateId(0); 16];
+        enters[0] = StateId(1);
+        enters[1] = StateId(12);
+        let payload = Payload {
+            fields: [7, -1, 0, 0],
+            used: 3,
+        };
         let mut buf = LineBuf::new();
         put_word(&mut buf, b"plan ", 2);
-        put(&mut buf, b" out ");
-        put_joined(&mut buf, &[]);
-        put(&mut buf, b" into ");
-        put_joined(&mut buf, &[StateId(1), StateId(12), StateId(0)]);
-        put_payload(
-            &mut buf,
-            &Payload {
-                fields: [7, -1, 0, 0],
-                used: 3,
-            },
-        );
+        put_states(&mut buf, b" out ", &enters, 0);
+        put_states(&mut buf, b" into ", &enters, 3);
+        put(&mut buf, b";");
+        put_joined(&mut buf, &[StateId(4), StateId(10)]);
+        put_spaced(&mut buf, &[5]);
+        put_payload(&mut buf, &payload);
         assert_eq!(rt;
             buf.as_slice(),
-            b"plan 2 out - into 1,12,0 7 -1 0".as_slice()
+            b"plan 2 out - into 1,12,0;4,10 5 7 -1 0".as_slice()
         );
     }
 }
