@@ -1,0 +1,5 @@
+pub mod Known
+pub mod Named
+pub mod Pieces
+pub mod Readings
+pub mod Rising
