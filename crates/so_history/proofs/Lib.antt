@@ -9,3 +9,4 @@ pub mod OverlapLaws
 pub mod OrderLaws
 pub mod CoopLaws
 pub mod FactLaws
+pub mod TextLaws

@@ -66,3 +66,17 @@ step_case s e h place x legal (is_early early there) ih =
 pub steps_at : (s : SceneParts) (h : List Entry) (place : ℕ) (x : Entry) → Legal s h → entry_at h place ≡ Some x → StepsAt s h place x
 steps_at s [] place x legal e = absurd cc
 steps_at s (y ∷ h) place x legal e = step_case s y h place x legal (place_of_entry y h place x e) (steps_at s h place x legal.0)
+
+-- before a place stand the entries of lesser places
+pub before-entry : (h : List Entry) (place early : ℕ) → early < place → place < length h → entry_at (before h place) early ≡ entry_at h early
+before-entry [] place early l within = absurd (omega arith)
+before-entry (e ∷ h) place early l within =
+    elim (cases_Bool (length h == place)) [
+      | inl here ↦
+          (let same : length h ≡ place = eqb-true (length h) place here in
+          rw here (sym (entry_at-early e h early (omega arith))))
+      | inr other ↦
+          (let apart : length h ≡ place → ⊥ = λ same. false≢true (sym other ∙ eq-eqb (length h) place same) in
+          let inner : place < length h = omega (arith, apart) in
+          rw other (before-entry h place early l inner ∙ sym (entry_at-early e h early (omega arith))))
+    ]

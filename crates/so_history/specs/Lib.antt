@@ -8,3 +8,4 @@ pub mod Order
 pub mod Steps
 pub mod Chain
 pub mod Facts
+pub mod Text

@@ -4,6 +4,8 @@
 mod entry;
 mod history;
 pub mod laws;
+mod lines;
 
 pub use entry::{Demand, DemandKind, Entry, EntryKind, Pick, StopCause};
 pub use history::History;
+pub use lines::Mode;

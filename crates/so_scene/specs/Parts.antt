@@ -6,6 +6,7 @@ use Rattle.so_ids.specs.declared.AgentId.{AgentId}
 use Rattle.so_ids.specs.declared.CoopId.{CoopId}
 use Rattle.so_ids.specs.declared.TextId.{TextId}
 use Rattle.so_code.specs.declared.instr.Instr.{Instr}
+use Rattle.so_code.specs.declared.instr.Instr.TheVariants.{Log, End}
 use Rattle.so_code.specs.Valid.{IsCode}
 use Rattle.so_scene.specs.declared.parts.CoopDef.{CoopDef}
 use Rattle.so_scene.specs.declared.parts.AgentDef.{AgentDef}
@@ -45,10 +46,16 @@ pub record IsCoop (s : SceneParts) (c : CoopDef) : Type 0 where
   pub first : c.first.0 ≡ 0
   pub count : c.count ≡ length s.agents
 
-pub record IsAgent (a : AgentDef) : Type 0 where
+-- the texts that an instruction names are texts of the scene
+abbrev pub NamesTexts : SceneParts → Instr → Type 0
+NamesTexts s (Log text args) = text.0 < length s.texts
+NamesTexts s (End body) = Unit {0}
+
+pub record IsAgent (s : SceneParts) (a : AgentDef) : Type 0 where
   pub named : length a.name ≤ 32
   pub coop : a.coop.0 ≡ 0
   pub code : IsCode a.code
+  pub texts : All (NamesTexts s) a.code
 
 -- the parts are those of a scene
 pub record IsScene (s : SceneParts) : Type 0 where
@@ -56,6 +63,6 @@ pub record IsScene (s : SceneParts) : Type 0 where
   pub coops : All (IsCoop s) s.coops
   pub some_agent : 0 < length s.agents
   pub few_agents : length s.agents ≤ 4096
-  pub agents : All IsAgent s.agents
+  pub agents : All (IsAgent s) s.agents
   pub few_texts : length s.texts ≤ 4096
   pub texts : All (λ t. length t ≤ 64) s.texts

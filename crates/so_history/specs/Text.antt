@@ -1,0 +1,62 @@
+-- The text of a history: a line for each entry that has one.
+use Rattle.std.specs.Prelude.{ℕ, ◌<◌, List, [], ◌∷◌, ◌++◌, length, codes, decimal, Option, Some, None}
+use Rattle.so_ids.specs.declared.AgentId.{AgentId}
+use Rattle.so_ids.specs.declared.Payload.{Payload}
+use Rattle.so_ids.specs.declared.TextId.{TextId}
+use Rattle.so_code.specs.declared.effect.Effect.{Effect}
+use Rattle.so_code.specs.declared.effect.Effect.TheVariants.{Log}
+use Rattle.so_lines.specs.Lines.{payload_words}
+use Rattle.so_scene.specs.declared.parts.SceneParts.{SceneParts}
+use Rattle.so_scene.specs.Parts.{agent_of, text_of}
+use Rattle.so_history.specs.declared.entry.Entry.{Entry}
+use Rattle.so_history.specs.declared.entry.EntryKind.{EntryKind}
+use Rattle.so_history.specs.declared.entry.EntryKind.TheVariants.{Begin, Act}
+use Rattle.so_history.specs.declared.lines.Mode.{Mode}
+use Rattle.so_history.specs.declared.lines.Mode.TheVariants.{Plain}
+use Rattle.so_history.specs.Places.{entry_at, before}
+
+-- the agent whose turn begins with an entry
+abbrev pub beginner : EntryKind → AgentId
+beginner (Begin lane demand opening agent) = agent
+beginner _ = record { 0 = 0 }
+
+abbrev pub beginner_at : Option Entry → AgentId
+beginner_at (Some e) = beginner e.kind
+beginner_at None = record { 0 = 0 }
+
+-- the name of the agent whose turn began at a place
+abbrev pub owner : SceneParts → List Entry → ℕ → List ℕ
+owner s h turn = (agent_of s (beginner_at (entry_at h turn))).name
+
+-- what an agent logged
+abbrev pub log_line : SceneParts → List ℕ → TextId → Payload → List ℕ
+log_line s owner text payload = owner ++ codes ": " ++ text_of s text ++ payload_words payload ++ codes "\n"
+
+abbrev pub effect_line : SceneParts → List ℕ → Effect → List ℕ
+effect_line s owner (Log text payload) = log_line s owner text payload
+
+-- the texts that an effect names are texts of the scene
+abbrev pub HasText : SceneParts → Effect → Type 0
+HasText s (Log text payload) = text.0 < length s.texts
+
+-- a line in plain words, in names
+abbrev pub plain_line : SceneParts → List Entry → EntryKind → List ℕ
+plain_line s h (Act turn effect answer) = effect_line s (owner s h turn.0) effect
+plain_line s h _ = []
+
+-- the line of an entry after this history
+abbrev pub line_after : SceneParts → Mode → List Entry → Entry → List ℕ
+line_after s Plain h e = plain_line s h e.kind
+
+-- the lines of all entries, in order of time
+unfoldable pub text : SceneParts → Mode → List Entry → List ℕ
+text s mode [] = []
+text s mode (e ∷ h) = text s mode h ++ line_after s mode h e
+
+abbrev pub line_of : SceneParts → Mode → List Entry → Option Entry → List ℕ
+line_of s mode h (Some e) = line_after s mode h e
+line_of s mode h None = []
+
+-- the line of the entry at a place
+abbrev pub line_at : SceneParts → Mode → List Entry → ℕ → List ℕ
+line_at s mode h place = line_of s mode (before h place) (entry_at h place)

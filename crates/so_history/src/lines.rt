@@ -1,0 +1,88 @@
+//! The lines of entries, as they are printed.
+
+ghost use Rattle.std.specs.Prelude.{◌≡◌, ◌+◌, ◌<◌, ◌≤◌, [], length, Some};
+ghost use Rattle.so_scene.specs.Parts.{agent_of};
+ghost use Rattle.so_history.specs.Places.{entry_at, before};
+ghost use Rattle.so_history.specs.Steps.{Legal};
+ghost use Rattle.so_history.specs.Text.{beginner, beginner_at, HasText, effect_line, plain_line, line_at};
+
+use crate::entry::{Entry, EntryKind};
+use crate::history::History;
+use so_code::Effect;
+use so_ids::{AgentId, Place};
+use so_lines::{LineBuf, put, put_payload};
+use so_scene::Scene;
+
+/// What a line shows.
+#[derive(Clone, Copy, Debug, PartialEq, Eq)]
+pub enum Mode {
+    /// What agents log, in names.
+    Plain,
+}
+
+/// Writes the line of an act's effect.
+fn put_effect(buf: &mut LineBuf, scene: &Scene, agent: AgentId, effect: Effect)
+    requires empty { buf.old.items ≡ [] }
+    requires agent { agent.0 < length scene.now.agents }
+    requires text { HasText scene.now effect }
+    ensures { buf.new.items ≡ effect_line scene.now (agent_of scene.now agent).name effect }
+{
+    match effect {
+        Effect::Log { text, payload } => {
+            put(buf, scene.agent(agent).name.bytes());
+            put(buf, b": ");
+            put(buf, scene.text(text));
+            put_payload(buf, &payload);
+            put(buf, b"\n");
+        }
+    }
+}
+
+/// The agent whose turn begins with an entry.
+fn beginner(kind: EntryKind) -> AgentId
+    ensures { result ≡ beginner kind }
+{
+    match kind {
+        EntryKind::Begin {
+            lane: _,
+            demand: _,
+            opening: _,
+            agent,
+        } => agent,
+        _ => AgentId(0),
+    }
+}
+
+impl History {
+    /// Makes the line of the entry at a place. It is left empty where the entry has none.
+    pub fn line(&self, scene: &Scene, mode: Mode, place: Place, buf: &mut LineBuf)
+        requires within { place.0 < length self.now.entries }
+        requires legal { Legal scene.now self.now.entries }
+        ensures { buf.new.items ≡ line_at scene.now mode self.now.entries place.0 }
+    {
+        let Mode::Plain = mode;
+        buf.clear();
+        let entry = self.get(place);
+        self.plain(scene, place, entry, buf);
+    }
+
+    /// Makes the plain line of the entry at a place.
+    fn plain(&self, scene: &Scene, place: Place, entry: Entry, buf: &mut LineBuf)
+        requires here { entry_at self.now.entries place.0 ≡ Some entry }
+        requires legal { Legal scene.now self.now.entries }
+        requires empty { buf.old.items ≡ [] }
+        ensures { buf.new.items ≡ plain_line scene.now (before self.now.entries place.0) entry.kind }
+    {
+        let _parts = scene.parts();
+        if let EntryKind::Act {
+            turn,
+            effect,
+            answer: _,
+        } = entry.kind
+        {
+            let begin = self.get(turn);
+            let agent = beginner(begin.kind);
+            put_effect(buf, scene, agent, effect);
+        }
+    }
+}
