@@ -1,0 +1,45 @@
+-- What holds on the way of a simulation.
+use Rattle.std.specs.Prelude.{◌≡◌, ℕ, ◌<◌, List, [], true, false, Option, Some, None, slice_index_or, is_some}
+use Rattle.so_lists.specs.Lists.{or_else, first_below}
+use Rattle.so_scene.specs.declared.parts.SceneParts.{SceneParts}
+use Rattle.so_scene.specs.Lanes.{lanes}
+use Rattle.so_history.specs.declared.entry.Entry.{Entry}
+use Rattle.so_history.specs.Turns.{running_at, lane_number}
+use Rattle.so_history.specs.Chain.{registration, tidying, begin_entry, FollowsFirst}
+use Rattle.so_kernel.specs.Shapes.{Core}
+use Rattle.so_kernel.specs.Held.{AreHeld}
+use Rattle.so_kernel.specs.declared.answers.Turn.{Turn}
+
+-- no turn is in hand below a lane
+abbrev pub NoneBelow : List (Option Turn) → ℕ → Type 0
+NoneBelow ts n = (l : ℕ) → l < n → slice_index_or ts l None ≡ None
+
+-- no turn runs on a lane
+abbrev pub NoneRuns : Core → Type 0
+NoneRuns k = (l : ℕ) → l < lanes k.scene → running_at lane_number k.history l ≡ []
+
+-- the first Begin of the first n lanes
+abbrev pub lanes_entry : Core → ℕ → Option Entry
+lanes_entry k n = first_below (λ l. begin_entry k.scene k.history (record { 0 = l })) n
+
+-- what is to be tidied, else the first Begin
+abbrev pub tidy_first : Core → Option Entry
+tidy_first k = or_else (tidying k.scene k.history) (lanes_entry k (lanes k.scene))
+
+-- the first step where no turn runs
+abbrev pub free_first : Core → Option Entry
+free_first k = or_else (registration k.history) (tidy_first k)
+
+-- the first turn in hand is that of a lane
+pub record IsFirstHeld (ts : List (Option Turn)) (n lane : ℕ) : Type 0 where
+  pub in_range : lane < n
+  pub holds : is_some (slice_index_or ts lane None) ≡ true
+  pub none_before : NoneBelow ts lane
+
+-- the simulation has come so far
+pub record IsOnTheWay (s : SceneParts) (limit : ℕ) (k : Core) (ts : List (Option Turn)) : Type 0 where
+  pub scene : k.scene ≡ s
+  pub limit_is : k.limit ≡ limit
+  pub held : AreHeld k ts
+  pub follows : FollowsFirst s limit k.history
+  pub unmarked : k.full ≡ false

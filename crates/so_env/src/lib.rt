@@ -1,0 +1,10 @@
+//! The environment in which a scene runs: its simulation, printed while it goes.
+#![tactic(auto)]
+
+mod first;
+mod outcome;
+mod print;
+mod simulate;
+
+pub use outcome::{Cause, Outcome};
+pub use simulate::simulate;
