@@ -4,7 +4,7 @@
 mod first;
 mod outcome;
 mod print;
-mod simulate;
+mod running;
 
 pub use outcome::{Cause, Outcome};
-pub use simulate::simulate;
+pub use running::simulate;

@@ -1,0 +1,4 @@
+pub mod StepLaws
+pub mod RunLaws
+pub mod PrintLaws
+pub mod OutcomeLaws

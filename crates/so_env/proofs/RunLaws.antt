@@ -1,0 +1,100 @@
+-- The simulation on its way.
+use Rattle.std.proofs.Common.{◌≡◌, ℕ, ◌-◌, ◌<◌, List, [], ◌∷◌, length, false, Option, Some, None, Result, Ok, Err, arith, refl, sym, ◌∙◌, ap, subst, get_or}
+use Rattle.std.specs.Prelude.{replicate}
+use Rattle.std.proofs.lemmas.List.{length-replicate, get_or-replicate}
+use Rattle.so_scene.specs.declared.parts.SceneParts.{SceneParts}
+use Rattle.so_scene.specs.Lanes.{lanes}
+use Rattle.so_history.specs.declared.entry.Entry.{Entry}
+use Rattle.so_history.specs.Turns.{running_at, lane_number}
+use Rattle.so_history.specs.Chain.{first, next_entry, FollowsFirst, IsChain}
+use Rattle.so_history.proofs.TurnLaws.{none_first}
+use Rattle.so_kernel.specs.Shapes.{Core}
+use Rattle.so_kernel.specs.Gates.{gated, core_after, stepped}
+use Rattle.so_kernel.specs.Held.{AreHeld, IsLaneHeld}
+use Rattle.so_kernel.specs.declared.answers.Refused.{Refused}
+use Rattle.so_kernel.specs.declared.answers.Refused.TheVariants.{Nothing, Full, Over}
+use Rattle.so_kernel.specs.declared.answers.Stepped.TheVariants.{Added}
+use Rattle.so_kernel.specs.declared.answers.Turn.{Turn}
+use Rattle.so_kernel.proofs.KeptLaws.{fits_gated}
+use Rattle.so_kernel.proofs.GateLaws.{goes_on, stops}
+use Rattle.so_env.specs.Runs.{IsOnTheWay}
+
+added_ok : (g : Result Entry Refused) → Added ≡ stepped g → (e : Entry) × (g ≡ Ok e)
+added_ok (Ok e) h = (e, refl)
+added_ok (Err Nothing) h = cc
+added_ok (Err Full) h = cc
+added_ok (Err Over) h = cc
+
+refused_err : (g : Result Entry Refused) → (Added ≡ stepped g → ⊥) → (why : Refused) × (g ≡ Err why)
+refused_err (Ok e) h = absurd (h refl)
+refused_err (Err why) h = (why, refl)
+
+next_is : (s : SceneParts) (limit : ℕ) (k : Core) (r : Option Entry) → k.scene ≡ s → k.limit ≡ limit → next_entry k.scene k.limit k.history ≡ r → next_entry s limit k.history ≡ r
+next_is s limit k r a b e = rw (← a, ← b) e
+
+pub way_on : (s : SceneParts) (limit : ℕ) (k l : Core) (ts us : List (Option Turn)) → IsOnTheWay s limit k ts → Added ≡ stepped (gated k (first k.scene k.history)) → l ≡ core_after k (gated k (first k.scene k.history)) → AreHeld l us →
+    IsOnTheWay s limit l us
+way_on s limit k l ts us way added after held =
+    let ok = added_ok (gated k (first k.scene k.history)) added in
+    let is : l ≡ record k { history = ok.0 ∷ k.history } = after ∙ ap (core_after k) ok.1 in
+    record {
+      scene = ap (λ (x : Core). x.scene) is ∙ way.scene;
+      limit_is = ap (λ (x : Core). x.limit) is ∙ way.limit_is;
+      held = held;
+      follows =
+          let P : Core → Type 0 = λ x. FollowsFirst s limit x.history in
+          subst P (sym is) (way.follows, next_is s limit k (Some ok.0) way.scene way.limit_is (goes_on k ok.0 way.unmarked ok.1));
+      unmarked = ap (λ (x : Core). x.full) is ∙ way.unmarked;
+    }
+
+pub way_shorter : (k l : Core) → Added ≡ stepped (gated k (first k.scene k.history)) → l ≡ core_after k (gated k (first k.scene k.history)) → l.limit - length l.history < k.limit - length k.history
+way_shorter k l added after =
+    let ok = added_ok (gated k (first k.scene k.history)) added in
+    let is : l ≡ record k { history = ok.0 ∷ k.history } = after ∙ ap (core_after k) ok.1 in
+    let room : length k.history < k.limit = fits_gated k (first k.scene k.history) ok.0 ok.1 in
+    rw is (omega arith)
+
+same_history : (k : Core) (why : Refused) → ((core_after k (Err why)).history ≡ k.history) × ((core_after k (Err why)).scene ≡ k.scene)
+same_history k Nothing = (refl, refl)
+same_history k Full = (refl, refl)
+same_history k Over = (refl, refl)
+
+pub way_end : (s : SceneParts) (limit : ℕ) (k l : Core) (ts : List (Option Turn)) → IsOnTheWay s limit k ts → (Added ≡ stepped (gated k (first k.scene k.history)) → ⊥) → l ≡ core_after k (gated k (first k.scene k.history)) →
+    IsChain s limit l.history × (l.scene ≡ s)
+way_end s limit k l ts way other after =
+    let err = refused_err (gated k (first k.scene k.history)) other in
+    let is : l ≡ core_after k (Err err.0) = after ∙ ap (core_after k) err.1 in
+    let same = same_history k err.0 in
+    let history : l.history ≡ k.history = ap (λ (x : Core). x.history) is ∙ same.0 in
+    let P : List Entry → Type 0 = λ h. IsChain s limit h in (
+      subst P (sym history) record { follows = way.follows; whole = next_is s limit k None way.scene way.limit_is (stops k err.0 way.unmarked err.1) },
+      ap (λ (x : Core). x.scene) is ∙ (same.1 ∙ way.scene),
+    )
+
+pub way_start : (k : Core) (ts : List (Option Turn)) → k.history ≡ [] → k.full ≡ false → ts ≡ replicate (lanes k.scene) None → IsOnTheWay k.scene k.limit k ts
+way_start k ts empty unmarked none =
+    record {
+      scene = refl;
+      limit_is = refl;
+      held = record {
+        size = ap length none ∙ length-replicate (lanes k.scene) None;
+        each = λ l in_range.
+            let P : Option Turn → Type 0 = λ x. IsLaneHeld k.scene k.history l x in
+            subst P (sym (ap (λ (us : List (Option Turn)). get_or us l None) none ∙ get_or-replicate (lanes k.scene) l None None in_range)) (ap (λ h. running_at lane_number h l) empty ∙ none_first lane_number l);
+      };
+      follows = let P : List Entry → Type 0 = λ h. FollowsFirst k.scene k.limit h in subst P (sym empty) tt;
+      unmarked = unmarked;
+    }
+
+-- a step that added an entry, and one that didn't
+pub added_entry : (k l : Core) → Added ≡ stepped (gated k (first k.scene k.history)) → l ≡ core_after k (gated k (first k.scene k.history)) → (e : Entry) × (l.history ≡ e ∷ k.history) × (l.scene ≡ k.scene)
+added_entry k l added after =
+    let ok = added_ok (gated k (first k.scene k.history)) added in
+    let is : l ≡ record k { history = ok.0 ∷ k.history } = after ∙ ap (core_after k) ok.1 in
+    (ok.0, ap (λ (x : Core). x.history) is, ap (λ (x : Core). x.scene) is)
+
+pub same_after : (k l : Core) → (Added ≡ stepped (gated k (first k.scene k.history)) → ⊥) → l ≡ core_after k (gated k (first k.scene k.history)) → l.history ≡ k.history
+same_after k l other after =
+    let err = refused_err (gated k (first k.scene k.history)) other in
+    let is : l ≡ core_after k (Err err.0) = after ∙ ap (core_after k) err.1 in
+    ap (λ (x : Core). x.history) is ∙ (same_history k err.0).0

@@ -1,0 +1,60 @@
+-- A step that says Nothing leaves the next step to be tried, and any other answer is the answer.
+use Rattle.std.proofs.Common.{◌≡◌, ℕ, suc, ◌+◌, ◌<◌, [], Option, Some, None, Result, Ok, Err, refl, sym, ◌∙◌, ap, subst, arith, add-one}
+use Rattle.so_ids.specs.declared.LaneId.{LaneId}
+use Rattle.so_lists.specs.Lists.{or_else, first_below}
+use Rattle.so_scene.specs.Lanes.{lanes}
+use Rattle.so_history.specs.declared.entry.Entry.{Entry}
+use Rattle.so_history.specs.Turns.{running_at, lane_number}
+use Rattle.so_history.specs.Chain.{begin_entry, lane_entry}
+use Rattle.so_history.proofs.ChainLaws.{lane_entry-free}
+use Rattle.so_kernel.specs.Shapes.{Core}
+use Rattle.so_kernel.specs.Gates.{gated, core_after, stepped}
+use Rattle.so_kernel.specs.declared.answers.Refused.TheVariants.{Nothing}
+use Rattle.so_kernel.specs.declared.answers.Stepped.{Stepped}
+use Rattle.so_kernel.specs.declared.answers.Stepped.TheVariants.{Nothing as NothingStep}
+use Rattle.so_kernel.proofs.GateLaws.{two-nothing, two-other, core_nothing, still_going, below-other, nothing_is, nothing_gated}
+use Rattle.so_env.specs.Runs.{NoneRuns, lanes_entry}
+
+-- a step that would add this entry
+pub record Steps (k l : Core) (a : Option Entry) (answer : Stepped) : Type 0 where
+  pub answer_is : answer ≡ stepped (gated k a)
+  pub after : l ≡ core_after k (gated k a)
+
+-- after Nothing the kernel is as before
+pub unchanged : (k l : Core) (a : Option Entry) → Steps k l a NothingStep → l ≡ k
+unchanged k l a s = s.after ∙ core_nothing k a (sym s.answer_is)
+
+pub goes_on : (k l : Core) (a : Option Entry) → Steps k l a NothingStep → gated l None ≡ Err Nothing
+goes_on k l a s = let P : Core → Type 0 = λ x. gated x None ≡ Err Nothing in subst P (sym (unchanged k l a s)) (still_going k a (sym s.answer_is))
+
+-- the second of two steps, after the first said Nothing
+pub second : (k l m : Core) (a b : Option Entry) (answer : Stepped) → Steps k l a NothingStep → Steps k m b answer → Steps k m (or_else a b) answer
+second k l m a b answer first next =
+    let same = two-nothing k a b (sym first.answer_is) in
+    record { answer_is = next.answer_is ∙ ap stepped (sym same); after = next.after ∙ ap (core_after k) (sym same) }
+
+-- and the first, where it said something else
+pub first_of : (k l : Core) (a b : Option Entry) (answer : Stepped) → (answer ≡ NothingStep → ⊥) → Steps k l a answer → Steps k l (or_else a b) answer
+first_of k l a b answer other s =
+    let same = two-other k a b (λ n. other (s.answer_is ∙ n)) in
+    record { answer_is = s.answer_is ∙ ap stepped (sym same); after = s.after ∙ ap (core_after k) (sym same) }
+
+-- a lane on which no turn runs begins one
+pub begins : (k l : Core) (lane : LaneId) (answer : Stepped) → NoneRuns k → lane.0 < lanes k.scene → Steps k l (lane_entry k.scene k.history lane) answer → Steps k l (begin_entry k.scene k.history lane) answer
+begins k l lane answer free in_range s =
+    let same = lane_entry-free k.scene k.history lane (free lane.0 in_range) in
+    record { answer_is = s.answer_is ∙ ap (λ e. stepped (gated k e)) same; after = s.after ∙ ap (λ e. core_after k (gated k e)) same }
+
+-- the first lane that says something
+pub first_lane : (k l : Core) (lane : ℕ) (answer : Stepped) → lane < lanes k.scene → gated k (lanes_entry k lane) ≡ Err Nothing → (answer ≡ NothingStep → ⊥) → Steps k l (begin_entry k.scene k.history (record { 0 = lane })) answer → Steps k l (lanes_entry k (lanes k.scene)) answer
+first_lane k l lane answer in_range none other s =
+    let same = below-other k (λ i. begin_entry k.scene k.history (record { 0 = i })) (lanes k.scene) lane in_range none (λ n. other (s.answer_is ∙ n)) in
+    record { answer_is = s.answer_is ∙ ap stepped (sym same); after = s.after ∙ ap (core_after k) (sym same) }
+
+-- one lane more that says Nothing
+pub one_more : (k l : Core) (lane : ℕ) → gated k (lanes_entry k lane) ≡ Err Nothing → Steps k l (begin_entry k.scene k.history (record { 0 = lane })) NothingStep → gated k (lanes_entry k (lane + 1)) ≡ Err Nothing
+one_more k l lane none s =
+    let before : lanes_entry k lane ≡ None = nothing_gated k (lanes_entry k lane) none in
+    let here : gated k (begin_entry k.scene k.history (record { 0 = lane })) ≡ Err Nothing = nothing_is _ (sym s.answer_is) in
+    let next : lanes_entry k (lane + 1) ≡ begin_entry k.scene k.history (record { 0 = lane }) = ap (lanes_entry k) (add-one lane) ∙ ap (λ o. or_else o (begin_entry k.scene k.history (record { 0 = lane }))) before in
+    ap (gated k) next ∙ here
