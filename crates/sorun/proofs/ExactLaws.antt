@@ -1,0 +1,238 @@
+-- When each cause comes, from what the answer follows.
+use Rattle.std.proofs.Common.{◌≡◌, ◌⊎◌, inl, inr, ℕ, ◌<◌, ◌≤◌, List, length, Bool, true, false, Option, Some, None, Result, Ok, Err, sym, ◌∙◌, ap, subst, arith, refl}
+use Rattle.std.specs.Prelude.{IfSome}
+use Rattle.std.proofs.lemmas.Bool.{cases_Bool}
+use Rattle.so_io.specs.Count.{Rose}
+use Rattle.so_scene.specs.declared.parts.SceneParts.{SceneParts}
+use Rattle.so_scene.specs.declared.fault.SceneFault.{SceneFault}
+use Rattle.so_history.specs.declared.lines.Mode.TheVariants.{Plain}
+use Rattle.so_history.specs.Kept.{Kept}
+use Rattle.so_history.specs.Steps.{finished}
+use Rattle.so_history.specs.Text.{text}
+use Rattle.so_history.specs.Facts.{HasFacts}
+use Rattle.so_history.proofs.FactLaws.{has_facts}
+use Rattle.so_env.specs.declared.outcome.Cause.{Cause}
+use Rattle.so_env.specs.declared.outcome.Cause.TheVariants.{Done, Usage, Limit, Scene, Read, Long, Write, Memory}
+use Rattle.so_env.specs.Prints.{Printed, HasRisen, IsSimulated, cause_of}
+use Rattle.sorun.specs.Answers.{all_units, most_bytes, IsRefused, IsRun, RunAnswers, SceneAnswers, FileAnswers, could_not_read, too_long, wanting, was_read, WordsAnswers}
+use Rattle.sorun.specs.Exact.{IsWhole, IsFileExact, IsExact, FactsOf, RunHasFacts}
+use Rattle.so_scene_json.specs.Scene.{scene_of}
+use Rattle.sorun.specs.declared.report.Report.{Report}
+
+module _ (r : Report) (fx fy : ℕ) (a b : Option (List ℕ)) (x y : ℕ) where
+  -- the bytes are those that are told
+  abbrev pub IsToldBytes : Option (List ℕ) → List ℕ → Type 0
+  IsToldBytes told bytes = IfSome told (λ all. (bytes ≡ all) × (length all ≤ most_bytes))
+
+  -- what became of a file, one case a cause
+  pub data Fate (told : Option (List ℕ)) : Type 0 where
+    no_file : r.cause ≡ Read → Rose fx fy → IfSome told (λ all. length all ≤ most_bytes) → Fate told
+    big : r.cause ≡ Long → IfSome told (λ all. most_bytes < length all) → Fate told
+    poor : r.cause ≡ Memory → r.history ≡ None → IfSome told (λ all. length all ≤ most_bytes) → Fate told
+    bad : (bytes : List ℕ) (f : SceneFault) → IsToldBytes told bytes → scene_of bytes ≡ Err f → r.cause ≡ Scene f → Fate told
+    cut_off : (bytes : List ℕ) (s : SceneParts) → IsToldBytes told bytes → scene_of bytes ≡ Ok s → r.cause ≡ Write → Rose x y → Fate told
+    finishes : (bytes : List ℕ) (s : SceneParts) → IsToldBytes told bytes → scene_of bytes ≡ Ok s → r.cause ≡ Done → IsWhole s r a b → Fate told
+    stops : (bytes : List ℕ) (s : SceneParts) → IsToldBytes told bytes → scene_of bytes ≡ Ok s → r.cause ≡ Limit → IsWhole s r a b → Fate told
+
+  in_bounds : (told : Option (List ℕ)) (bytes : List ℕ) → IsToldBytes told bytes → IfSome told (λ all. length all ≤ most_bytes)
+  in_bounds None bytes is = tt
+  in_bounds (Some all) bytes is = is.1
+
+  simulated : (told : Option (List ℕ)) (bytes : List ℕ) (s : SceneParts) (h : Kept) → IsToldBytes told bytes → scene_of bytes ≡ Ok s → r.history ≡ Some h → (run : IsSimulated s all_units Plain h.entries r.cause r.pieces a b x y) →
+      (failed : Bool) → r.cause ≡ cause_of s h.entries failed → Printed failed a b (text s Plain h.entries) → HasRisen failed x y → Fate told
+  simulated told bytes s h is given has run true cause printed risen = cut_off bytes s is given cause (risen.rose refl)
+  simulated told bytes s h is given has run false cause printed risen = elim (cases_Bool (finished s h.entries)) [
+    | inl over ↦ (let done : r.cause ≡ Done = cause ∙ rw over refl in
+        finishes bytes s is given done record { kept = h; has = has; chain = run.chain; legal = run.legal; facts = has_facts s h.entries run.legal; printed = printed; cause = inl (done, over) })
+    | inr going ↦ (let limit : r.cause ≡ Limit = cause ∙ rw going refl in
+        stops bytes s is given limit record { kept = h; has = has; chain = run.chain; legal = run.legal; facts = has_facts s h.entries run.legal; printed = printed; cause = inr (limit, going, run.at_limit going) })
+  ]
+
+  run_fate : (told : Option (List ℕ)) (bytes : List ℕ) (s : SceneParts) → IsToldBytes told bytes → scene_of bytes ≡ Ok s → (h : Option Kept) → r.history ≡ h → RunAnswers h s r.cause r.pieces a b x y → Fate told
+  run_fate told bytes s is given None has run = poor run.0 has (in_bounds told bytes is)
+  run_fate told bytes s is given (Some h) has run = simulated told bytes s h is given has run run.failed run.is run.printed run.risen
+
+  scene_fate : (told : Option (List ℕ)) (bytes : List ℕ) → IsToldBytes told bytes → (given : Result SceneParts SceneFault) → scene_of bytes ≡ given → SceneAnswers given r a b x y → Fate told
+  scene_fate told bytes is (Err f) given (inl refused) = bad bytes f is given refused.is
+  scene_fate told bytes is (Err f) given (inr refused) = poor refused.is refused.no_history (in_bounds told bytes is)
+  scene_fate told bytes is (Ok s) given (inl run) = run_fate told bytes s is given r.history refl run.run
+  scene_fate told bytes is (Ok s) given (inr refused) = poor refused.is refused.no_history (in_bounds told bytes is)
+
+  file_fate : (told : Option (List ℕ)) → FileAnswers told r fx fy a b x y → Fate told
+  file_fate told (could_not_read refused rose fits) = no_file refused.is rose fits
+  file_fate told (too_long refused more) = big refused.is more
+  file_fate told (wanting refused fits) = poor refused.is refused.no_history fits
+  file_fate told (was_read bytes is answers) = scene_fate told bytes is (scene_of bytes) refl answers
+
+  -- a file's cause is no fault of the words
+  not_usage : (told : Option (List ℕ)) (k : ℕ) → Fate told → r.cause ≡ Usage k → ⊥
+  not_usage told k (no_file c rose fits) is = cc
+  not_usage told k (big c more) is = cc
+  not_usage told k (poor c none fits) is = cc
+  not_usage told k (bad bytes f told_is given c) is = cc
+  not_usage told k (cut_off bytes s told_is given c rose) is = cc
+  not_usage told k (finishes bytes s told_is given c run) is = cc
+  not_usage told k (stops bytes s told_is given c run) is = cc
+
+  read_rose : (told : Option (List ℕ)) → Fate told → r.cause ≡ Read → Rose fx fy
+  read_rose told (no_file c rose fits) is = rose
+  read_rose told (big c more) is = absurd cc
+  read_rose told (poor c none fits) is = absurd cc
+  read_rose told (bad bytes f told_is given c) is = absurd cc
+  read_rose told (cut_off bytes s told_is given c rose) is = absurd cc
+  read_rose told (finishes bytes s told_is given c run) is = absurd cc
+  read_rose told (stops bytes s told_is given c run) is = absurd cc
+
+  write_rose : (told : Option (List ℕ)) → Fate told → r.cause ≡ Write → Rose x y
+  write_rose told (no_file c rose fits) is = absurd cc
+  write_rose told (big c more) is = absurd cc
+  write_rose told (poor c none fits) is = absurd cc
+  write_rose told (bad bytes f told_is given c) is = absurd cc
+  write_rose told (cut_off bytes s told_is given c rose) is = rose
+  write_rose told (finishes bytes s told_is given c run) is = absurd cc
+  write_rose told (stops bytes s told_is given c run) is = absurd cc
+
+  module _ (all : List ℕ) where
+    same_scene : (bytes : List ℕ) (given given2 : Result SceneParts SceneFault) → bytes ≡ all → scene_of bytes ≡ given → scene_of all ≡ given2 → given ≡ given2
+    same_scene bytes given given2 is one two = sym one ∙ (ap scene_of is ∙ two)
+
+    same_ok : (s s2 : SceneParts) → ◌≡◌ {A = Result SceneParts SceneFault} (Ok s) (Ok s2) → s ≡ s2
+    same_ok s s2 is = cc
+
+    same_err : (f f2 : SceneFault) → ◌≡◌ {A = Result SceneParts SceneFault} (Err f) (Err f2) → f ≡ f2
+    same_err f f2 is = cc
+
+    ok_no_err : (s : SceneParts) (f : SceneFault) → ◌≡◌ {A = Result SceneParts SceneFault} (Ok s) (Err f) → ⊥
+    ok_no_err s f is = cc
+
+    only_long : Fate (Some all) → r.cause ≡ Long → most_bytes < length all
+    only_long (no_file c rose fits) is = absurd cc
+    only_long (big c more) is = more
+    only_long (poor c none fits) is = absurd cc
+    only_long (bad bytes f told given c) is = absurd cc
+    only_long (cut_off bytes s told given c rose) is = absurd cc
+    only_long (finishes bytes s told given c run) is = absurd cc
+    only_long (stops bytes s told given c run) is = absurd cc
+
+    too_many : most_bytes < length all → length all ≤ most_bytes → ⊥
+    too_many more fits = omega (arith, more, fits)
+
+    is_long : Fate (Some all) → most_bytes < length all → r.cause ≡ Long
+    is_long (no_file c rose fits) more = absurd (too_many more fits)
+    is_long (big c more2) more = c
+    is_long (poor c none fits) more = absurd (too_many more fits)
+    is_long (bad bytes f told given c) more = absurd (too_many more told.1)
+    is_long (cut_off bytes s told given c rose) more = absurd (too_many more told.1)
+    is_long (finishes bytes s told given c run) more = absurd (too_many more told.1)
+    is_long (stops bytes s told given c run) more = absurd (too_many more told.1)
+
+    only_scene : Fate (Some all) → (fault : SceneFault) → r.cause ≡ Scene fault → scene_of all ≡ Err fault
+    only_scene (no_file c rose fits) fault is = absurd cc
+    only_scene (big c more) fault is = absurd cc
+    only_scene (poor c none fits) fault is = absurd cc
+    only_scene (bad bytes f told given c) fault is = (let same : f ≡ fault = cc in sym (ap scene_of told.0) ∙ (given ∙ ap Err same))
+    only_scene (cut_off bytes s told given c rose) fault is = absurd cc
+    only_scene (finishes bytes s told given c run) fault is = absurd cc
+    only_scene (stops bytes s told given c run) fault is = absurd cc
+
+    is_faulty : Fate (Some all) → (fault : SceneFault) → length all ≤ most_bytes → scene_of all ≡ Err fault → (r.cause ≡ Scene fault) ⊎ ((r.cause ≡ Read) ⊎ (r.cause ≡ Memory))
+    is_faulty (no_file c rose fits) fault few faulty = inr (inl c)
+    is_faulty (big c more) fault few faulty = absurd (too_many more few)
+    is_faulty (poor c none fits) fault few faulty = inr (inr c)
+    is_faulty (bad bytes f told given c) fault few faulty = inl (c ∙ ap Scene (same_err f fault (same_scene bytes _ _ told.0 given faulty)))
+    is_faulty (cut_off bytes s told given c rose) fault few faulty = absurd (ok_no_err s fault (same_scene bytes _ _ told.0 given faulty))
+    is_faulty (finishes bytes s told given c run) fault few faulty = absurd (ok_no_err s fault (same_scene bytes _ _ told.0 given faulty))
+    is_faulty (stops bytes s told given c run) fault few faulty = absurd (ok_no_err s fault (same_scene bytes _ _ told.0 given faulty))
+
+    of_scene : (bytes : List ℕ) (s s2 : SceneParts) → bytes ≡ all → scene_of bytes ≡ Ok s → scene_of all ≡ Ok s2 → IsWhole s r a b → IsWhole s2 r a b
+    of_scene bytes s s2 is one two run = subst (λ (z : SceneParts). IsWhole z r a b) (same_ok s s2 (same_scene bytes _ _ is one two)) run
+
+    is_done : Fate (Some all) → (s : SceneParts) → scene_of all ≡ Ok s → r.cause ≡ Done → IsWhole s r a b
+    is_done (no_file c rose fits) s gives is = absurd cc
+    is_done (big c more) s gives is = absurd cc
+    is_done (poor c none fits) s gives is = absurd cc
+    is_done (bad bytes f told given c) s gives is = absurd cc
+    is_done (cut_off bytes s1 told given c rose) s gives is = absurd cc
+    is_done (finishes bytes s1 told given c run) s gives is = of_scene bytes s1 s told.0 given gives run
+    is_done (stops bytes s1 told given c run) s gives is = of_scene bytes s1 s told.0 given gives run
+
+    is_limit : Fate (Some all) → (s : SceneParts) → scene_of all ≡ Ok s → r.cause ≡ Limit → IsWhole s r a b
+    is_limit (no_file c rose fits) s gives is = absurd cc
+    is_limit (big c more) s gives is = absurd cc
+    is_limit (poor c none fits) s gives is = absurd cc
+    is_limit (bad bytes f told given c) s gives is = absurd cc
+    is_limit (cut_off bytes s1 told given c rose) s gives is = absurd cc
+    is_limit (finishes bytes s1 told given c run) s gives is = of_scene bytes s1 s told.0 given gives run
+    is_limit (stops bytes s1 told given c run) s gives is = of_scene bytes s1 s told.0 given gives run
+
+    is_complete : Fate (Some all) → (s : SceneParts) → length all ≤ most_bytes → scene_of all ≡ Ok s → (Rose fx fy → ⊥) → (Rose x y → ⊥) → ((r.cause ≡ Memory) × (r.history ≡ None)) ⊎ IsWhole s r a b
+    is_complete (no_file c rose fits) s few gives no_fault no_write = absurd (no_fault rose)
+    is_complete (big c more) s few gives no_fault no_write = absurd (too_many more few)
+    is_complete (poor c none fits) s few gives no_fault no_write = inl (c, none)
+    is_complete (bad bytes f told given c) s few gives no_fault no_write = absurd (ok_no_err s f (sym (same_scene bytes _ _ told.0 given gives)))
+    is_complete (cut_off bytes s1 told given c rose) s few gives no_fault no_write = absurd (no_write rose)
+    is_complete (finishes bytes s1 told given c run) s few gives no_fault no_write = inr (of_scene bytes s1 s told.0 given gives run)
+    is_complete (stops bytes s1 told given c run) s few gives no_fault no_write = inr (of_scene bytes s1 s told.0 given gives run)
+
+    file_exact : Fate (Some all) → IsFileExact all r fx fy a b x y
+    file_exact fate = record {
+      long = (only_long fate, is_long fate);
+      scene = only_scene fate;
+      faulty = is_faulty fate;
+      done = is_done fate;
+      limit = is_limit fate;
+      complete = is_complete fate;
+    }
+
+  only_usage : (n k : ℕ) → r.cause ≡ Usage n → r.cause ≡ Usage k → n ≡ k
+  only_usage n k c is = cc
+
+  place_is : (n k : ℕ) → ◌≡◌ {A = Result (List ℕ) ℕ} (Err n) (Err k) → n ≡ k
+  place_is n k is = cc
+
+  pub exact : (words : Result (List ℕ) ℕ) (told : List ℕ → Option (List ℕ)) → WordsAnswers words told r fx fy a b x y → IsExact words told r fx fy a b x y
+  exact (Err n) told refused = record {
+    usage = λ k. (λ is. ap Err (only_usage n k refused.is is), λ is. refused.is ∙ ap Usage (place_is n k is));
+    read = λ is. (let c : r.cause ≡ Usage n = refused.is in absurd cc);
+    write = λ is. (let c : r.cause ≡ Usage n = refused.is in absurd cc);
+    file = λ file bytes is. absurd cc;
+  }
+  exact (Ok file) told answers = record {
+    usage = λ k. (λ is. absurd (not_usage (told file) k (file_fate (told file) answers) is), λ is. absurd cc);
+    read = read_rose (told file) (file_fate (told file) answers);
+    write = write_rose (told file) (file_fate (told file) answers);
+    file = λ file2 bytes is tells.
+        let same : file ≡ file2 = cc in
+        let told_is : told file ≡ Some bytes = ap told same ∙ tells in
+        file_exact bytes (subst Fate told_is (file_fate (told file) answers));
+  }
+
+-- what is run has the facts
+facts_of : (s : SceneParts) (cause : Cause) (n : ℕ) (h : Option Kept) (a b : Option (List ℕ)) (x y : ℕ) → RunAnswers h s cause n a b x y → FactsOf (Some s) h
+facts_of s cause n None a b x y run = tt
+facts_of s cause n (Some h) a b x y run = has_facts s h.entries run.legal
+
+no_facts : (scene : Option SceneParts) (h : Option Kept) → h ≡ None → FactsOf scene h
+no_facts None None is = tt
+no_facts (Some s) None is = tt
+no_facts None (Some h) is = tt
+no_facts (Some s) (Some h) is = absurd cc
+
+run_facts : (s : SceneParts) (r : Report) (a b : Option (List ℕ)) (x y : ℕ) → IsRun s r a b x y → RunHasFacts r
+run_facts s r a b x y run = subst (λ (z : Option SceneParts). FactsOf z r.history) (sym run.scene) (facts_of s r.cause r.pieces r.history a b x y run.run)
+
+scene_facts : (given : Result SceneParts SceneFault) (r : Report) (a b : Option (List ℕ)) (x y : ℕ) → SceneAnswers given r a b x y → RunHasFacts r
+scene_facts (Err f) r a b x y (inl refused) = no_facts r.scene r.history refused.no_history
+scene_facts (Err f) r a b x y (inr refused) = no_facts r.scene r.history refused.no_history
+scene_facts (Ok s) r a b x y (inl run) = run_facts s r a b x y run
+scene_facts (Ok s) r a b x y (inr refused) = no_facts r.scene r.history refused.no_history
+
+file_facts : (told : Option (List ℕ)) (r : Report) (fx fy : ℕ) (a b : Option (List ℕ)) (x y : ℕ) → FileAnswers told r fx fy a b x y → RunHasFacts r
+file_facts told r fx fy a b x y (could_not_read refused rose fits) = no_facts r.scene r.history refused.no_history
+file_facts told r fx fy a b x y (too_long refused more) = no_facts r.scene r.history refused.no_history
+file_facts told r fx fy a b x y (wanting refused fits) = no_facts r.scene r.history refused.no_history
+file_facts told r fx fy a b x y (was_read bytes is answers) = scene_facts (scene_of bytes) r a b x y answers
+
+pub facts : (words : Result (List ℕ) ℕ) (told : List ℕ → Option (List ℕ)) (r : Report) (fx fy : ℕ) (a b : Option (List ℕ)) (x y : ℕ) → WordsAnswers words told r fx fy a b x y → RunHasFacts r
+facts (Err k) told r fx fy a b x y refused = no_facts r.scene r.history refused.no_history
+facts (Ok file) told r fx fy a b x y answers = file_facts (told file) r fx fy a b x y answers

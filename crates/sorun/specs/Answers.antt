@@ -1,0 +1,97 @@
+-- What the program answers: it follows the words, the file, the bytes and the scene.
+use Rattle.std.specs.Prelude.{◌≡◌, ◌⊎◌, ℕ, ◌<◌, ◌≤◌, List, [], ◌++◌, length, Bool, Option, Some, None, Result, Ok, Err, codes, decimal, IfSome}
+use Rattle.so_io.specs.Count.{Rose}
+use Rattle.so_scene.specs.declared.parts.SceneParts.{SceneParts}
+use Rattle.so_scene.specs.declared.fault.SceneFault.{SceneFault}
+use Rattle.so_scene.specs.declared.fault.SceneFault.TheVariants.{NotJson, NotBuilt}
+use Rattle.so_history.specs.declared.lines.Mode.TheVariants.{Plain}
+use Rattle.so_history.specs.Kept.{Kept}
+use Rattle.so_env.specs.declared.outcome.Cause.{Cause}
+use Rattle.so_env.specs.declared.outcome.Cause.TheVariants.{Done, Usage, Limit, Scene, Read, Long, Write, Memory}
+use Rattle.so_env.specs.Prints.{Printed, HasRisen, IsSimulated}
+use Rattle.so_scene_json.specs.Scene.{scene_of}
+use Rattle.so_scene.specs.declared.fault.SceneRefusal.{SceneRefusal}
+use Rattle.so_scene.specs.declared.fault.SceneRefusal.TheVariants.{Fault, NoMemory}
+use Rattle.sorun.specs.declared.report.Report.{Report}
+
+abbrev pub most_bytes : ℕ
+most_bytes = 4194304
+
+abbrev pub all_units : ℕ
+all_units = 100000
+
+-- the status of a cause
+abbrev pub status_of : Cause → ℕ
+status_of Done = 0
+status_of (Usage k) = 2
+status_of Limit = 3
+status_of (Scene fault) = 65
+status_of Read = 66
+status_of Long = 66
+status_of Memory = 71
+status_of Write = 74
+
+-- the cause where bytes were not read as a scene
+abbrev pub refusal_cause : SceneRefusal → Cause
+refusal_cause (Fault fault) = Scene fault
+refusal_cause NoMemory = Memory
+
+-- the line of a fault of the scene, with its place: the root
+abbrev pub fault_line : SceneFault → List ℕ
+fault_line NotJson = codes "sorun: scene: not_json\n"
+fault_line NotBuilt = codes "sorun: scene: not_built at /\n"
+
+-- the line of a cause, for a history of so many entries
+abbrev pub cause_line : Cause → ℕ → List ℕ
+cause_line Done n = []
+cause_line (Usage k) n = codes "sorun: usage error at word " ++ decimal k ++ codes "\n"
+cause_line Limit n = codes "sorun: limit reached after " ++ decimal n ++ codes " entries\n"
+cause_line (Scene fault) n = fault_line fault
+cause_line Read n = codes "sorun: cannot read file\n"
+cause_line Long n = codes "sorun: file too long\n"
+cause_line Memory n = codes "sorun: out of memory\n"
+cause_line Write n = codes "sorun: write failed\n"
+
+-- how many entries a history has, none where there is none
+abbrev pub entries_of : Option Kept → ℕ
+entries_of None = 0
+entries_of (Some h) = length h.entries
+
+-- nothing was run, and `out` has what it had
+pub record IsRefused (cause : Cause) (r : Report) (a b : Option (List ℕ)) : Type 0 where
+  pub is : r.cause ≡ cause
+  pub no_scene : r.scene ≡ None
+  pub no_history : r.history ≡ None
+  pub same : b ≡ a
+
+-- a run, with its history and what `out` got, or want of memory
+abbrev pub RunAnswers : Option Kept → SceneParts → Cause → ℕ → Option (List ℕ) → Option (List ℕ) → ℕ → ℕ → Type 0
+RunAnswers None s cause n a b x y = (cause ≡ Memory) × (b ≡ a)
+RunAnswers (Some h) s cause n a b x y = IsSimulated s all_units Plain h.entries cause n a b x y
+
+pub record IsRun (s : SceneParts) (r : Report) (a b : Option (List ℕ)) (x y : ℕ) : Type 0 where
+  pub scene : r.scene ≡ Some s
+  pub run : RunAnswers r.history s r.cause r.pieces a b x y
+
+-- the answer to bytes: their fault, or a run of their scene, or want of memory
+abbrev pub SceneAnswers : Result SceneParts SceneFault → Report → Option (List ℕ) → Option (List ℕ) → ℕ → ℕ → Type 0
+SceneAnswers (Err fault) r a b x y = IsRefused (Scene fault) r a b ⊎ IsRefused Memory r a b
+SceneAnswers (Ok s) r a b x y = IsRun s r a b x y ⊎ IsRefused Memory r a b
+
+-- how the reading of a file went
+pub data FileAnswers (told : Option (List ℕ)) (r : Report) (fx fy : ℕ) (a b : Option (List ℕ)) (x y : ℕ) : Type 0 where
+  could_not_read : IsRefused Read r a b → Rose fx fy → IfSome told (λ bytes. length bytes ≤ most_bytes) → FileAnswers told r fx fy a b x y
+  too_long : IsRefused Long r a b → IfSome told (λ bytes. most_bytes < length bytes) → FileAnswers told r fx fy a b x y
+  wanting : IsRefused Memory r a b → IfSome told (λ bytes. length bytes ≤ most_bytes) → FileAnswers told r fx fy a b x y
+  was_read : (bytes : List ℕ) → IfSome told (λ all. (bytes ≡ all) × (length all ≤ most_bytes)) → SceneAnswers (scene_of bytes) r a b x y → FileAnswers told r fx fy a b x y
+
+-- the answer to words, where the files tell what they hold
+abbrev pub WordsAnswers : Result (List ℕ) ℕ → (List ℕ → Option (List ℕ)) → Report → ℕ → ℕ → Option (List ℕ) → Option (List ℕ) → ℕ → ℕ → Type 0
+WordsAnswers (Err k) told r fx fy a b x y = IsRefused (Usage k) r a b
+WordsAnswers (Ok file) told r fx fy a b x y = FileAnswers (told file) r fx fy a b x y
+
+-- `err` got the line of the cause, or a part of it where its count rose
+pub record IsTold (line : List ℕ) (a b : Option (List ℕ)) (x y : ℕ) : Type 0 where
+  pub failed : Bool
+  pub printed : Printed failed a b line
+  pub risen : HasRisen failed x y

@@ -1,0 +1,11 @@
+//! The program as a function of its words, its files and its outputs.
+#![tactic(auto)]
+
+mod answer;
+mod message;
+mod report;
+mod top;
+mod words;
+
+pub use report::Report;
+pub use top::quiet;

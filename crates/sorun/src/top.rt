@@ -1,0 +1,52 @@
+//! The top call.
+
+ghost use Rattle.std.specs.Prelude.{◌≡◌, ◌≤◌, ℕ, List};
+ghost use Rattle.sorun.specs.Words.{texts, file_of_words};
+ghost use Rattle.sorun.specs.Usage.{IsFaultAt};
+ghost use Rattle.sorun.specs.Answers.{status_of, cause_line, entries_of, WordsAnswers, IsTold};
+ghost use Rattle.sorun.specs.Exact.{IsExact, RunHasFacts};
+
+use crate::answer::answer;
+use crate::message::{entries_of, tell};
+use crate::report::Report;
+use so_env::Cause;
+use so_io::{Files, Sink};
+use std::alloc::Global;
+
+/// Does what the words say: `sim FILE` simulates the scene of a file. It always returns.
+pub fn quiet<F: Files, K: Sink, E: Sink>(
+    alloc: Global,
+    words: &[String],
+    files: &mut F,
+    out: &mut K,
+    err: &mut E,
+) -> Report
+    ensures status { result.status ≡ status_of result.cause }
+
+    // The answer follows the words, the file, the bytes and the scene: where the scene is run, the
+    // history is the chain of its first legal steps, legal, and `out` got its text.
+    ensures answer { WordsAnswers (file_of_words (texts words.now)) (F.content files.old) result (F.faults files.old) (F.faults files.new)
+        (K.content out.old) (K.content out.new) (K.faults out.old) (K.faults out.new) }
+
+    // No two turns of a queue overlap; each demand is taken at most once, in its queue's order, and
+    // by what is chosen for it; cooperations enter whole and leave when all is done; agents start
+    // first and finish last.
+    ensures facts { RunHasFacts result }
+
+    // Each cause comes exactly where it should, and nothing else can come.
+    ensures exact { IsExact (file_of_words (texts words.now)) (F.content files.old) result (F.faults files.old) (F.faults files.new)
+        (K.content out.old) (K.content out.new) (K.faults out.old) (K.faults out.new) }
+
+    // A fault of the words is at the first word with which they begin no sentence.
+    ensures usage { (k : ℕ) → result.cause ≡ Cause.Usage k → IsFaultAt k (texts words.now) }
+
+    // `err` got the line of the cause.
+    ensures told { IsTold (cause_line result.cause (entries_of result.history)) (E.content err.old) (E.content err.new) (E.faults err.old) (E.faults err.new) }
+
+    // The files hold what they held.
+    ensures kept { (name : List ℕ) → F.content files.new name ≡ F.content files.old name }
+{
+    let report = answer(alloc, words, files, out);
+    tell(&report.cause, entries_of(&report.history), err);
+    report
+}
