@@ -129,19 +129,19 @@ parent_declared states s p tree e =
     | is_listed low within ↦ known_names states (state_of states s) p (IsTree-holds states tree s low within).known e
     ]
 
-above_declared : (states : List State) (o : Option StateId) (above : StateId → List StateId) → ((p : StateId) → o ≡ Some p → p.0 ≤ length states) → ((p : StateId) → AllByRecursion (λ a. a.0 ≤ length states) (above p)) → AllByRecursion (λ a. a.0 ≤ length states) (and_above above o)
-above_declared states None above declared more = tt
-above_declared states (Some p) above declared more = (declared p refl, more p)
+above_few : (states : List State) (o : Option StateId) (above : StateId → List StateId) → ((p : StateId) → o ≡ Some p → p.0 < 64) → ((p : StateId) → AllByRecursion (λ a. a.0 < 64) (above p)) → AllByRecursion (λ a. a.0 < 64) (and_above above o)
+above_few states None above few more = tt
+above_few states (Some p) above few more = (few p refl, more p)
 
-ancestors_declared : (n : ℕ) (states : List State) (s : StateId) → IsTree states → AllByRecursion (λ a. a.0 ≤ length states) (ancestors_within n states s)
-ancestors_declared zero states s tree = tt
-ancestors_declared (suc n) states s tree =
-    above_declared states (parent_of states s) (ancestors_within n states) (λ p e. (parent_declared states s p tree e).1) (λ p. ancestors_declared n states p tree)
+ancestors_within-few : (n : ℕ) (states : List State) (s : StateId) → IsTree states → AllByRecursion (λ a. a.0 < 64) (ancestors_within n states s)
+ancestors_within-few zero states s tree = tt
+ancestors_within-few (suc n) states s tree =
+    above_few states (parent_of states s) (ancestors_within n states) (λ p e. let known = parent_declared states s p tree e in omega (arith, known.1, tree.few)) (λ p. ancestors_within-few n states p tree)
 
 -- the ancestors of a state are declared, so that a memory has a place for each
-pub ancestors_few : (states : List State) (s : StateId) → IsTree states → All (λ a. a.0 ≤ length states) (ancestors states s)
-ancestors_few states s tree = All-from_recursion (λ a. a.0 ≤ length states) (ancestors states s) (ancestors_declared (length states) states s tree)
+pub ancestors_few : (states : List State) (s : StateId) → IsTree states → All (λ a. a.0 < 64) (ancestors states s)
+ancestors_few states s tree = All-from_recursion (λ a. a.0 < 64) (ancestors states s) (ancestors_within-few (length states) states s tree)
 
-pub ruleset fits = (path_fits)
+pub ruleset fits = (path_fits, ancestors_few)
 
 pub ruleset flats = (IsTree-flat)

@@ -1,6 +1,6 @@
 //! A checked list of states, and what can be read of it.
 
-ghost use Rattle.std.specs.Prelude.{◌≡◌, ◌≤◌, [], length, vec_len};
+ghost use Rattle.std.specs.Prelude.{◌≡◌, ◌<◌, ◌≤◌, [], All, length, vec_len};
 ghost use Rattle.so_state.specs.Fault.{checked, IsTree};
 
 use crate::faults::{TreeFault, tree_fault};
@@ -69,7 +69,7 @@ impl Tree {
 }
 
 impl Tree {
-    ghost use Rattle.so_state.specs.States.{state_of, parent_of, initial_of, history_of, limit_of, is_composite, is_leaf, is_below, is_or_below, path};
+    ghost use Rattle.so_state.specs.States.{state_of, parent_of, initial_of, history_of, limit_of, is_composite, is_leaf, is_below, is_or_below, ancestors, path};
     ghost use Rattle.std.specs.Prelude.{reverse};
 
     /// How many states are declared.
@@ -141,6 +141,7 @@ impl Tree {
     pub fn path(&self, s: StateId) -> StateList
         ensures path { result ≡ path self.now s }
         ensures fits { length result ≤ 16 }
+        ensures above { All (λ a. a.0 < 64) (ancestors self.now s) }
     {
         path_of(&self.states, s)
     }

@@ -38,10 +38,9 @@ impl Memory {
     pub(crate) fn newest_below(&self, s: StateId) -> Option<StateId>
         ensures { result ≡ kept self.now s }
     {
-        if s.0 < 64 {
-            self.last[s.0 as usize]
-        } else {
-            None
+        match self.last.get(s.0 as usize) {
+            None => None,
+            Some(leaf) => *leaf,
         }
     }
 }
@@ -51,7 +50,7 @@ pub fn remember(tree: &Tree, memory: &mut Memory, leaf: StateId)
     ensures { (leaves : List StateNumber) → StandsFor tree.now memory.old leaves → StandsFor tree.now memory.new (leaf ∷ leaves) }
 {
     let path = tree.path(leaf);
-    write_above(&mut memory.last, &path.as_slice()[1..], leaf);
+    write_above(&mut memory.last, path.after_first(), leaf);
 }
 
 /// Writes the leaf to the places of the states above it.

@@ -1,6 +1,6 @@
 //! A list of at most sixteen states, in place.
 
-ghost use Rattle.std.specs.Prelude.{◌≡◌, ◌<◌, ◌≤◌, [], ◌∷◌, ◌++◌, length, filter, reverse, not};
+ghost use Rattle.std.specs.Prelude.{◌≡◌, ◌<◌, ◌≤◌, [], ◌∷◌, ◌++◌, length, drop, filter, reverse, not};
 ghost use Rattle.so_state.specs.Plan.{padded};
 ghost use Rattle.so_state.specs.States.{path, is_on};
 
@@ -60,6 +60,15 @@ impl StateList {
     {
         self.list[self.used] = s;
         self.used += 1;
+    }
+
+    /// All but the first.
+    #[tactic(auto, using(crate::proofs::Padded::pads))]
+    pub(crate) fn after_first(&self) -> &[StateId]
+        requires { 0 < length self.now }
+        ensures { result.now ≡ drop 1 self.now }
+    {
+        &self.list[1..self.used]
     }
 
     /// The sixteen places, and how many are used.
