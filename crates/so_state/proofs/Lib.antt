@@ -1,7 +1,10 @@
+pub mod Lists
 pub mod Finds
 pub mod Walk
 pub mod Padded
 pub mod TreeFacts
+pub mod Ancestry
+pub mod Resolved
 pub mod Kept
 pub mod Down
 pub mod Along

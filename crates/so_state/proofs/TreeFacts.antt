@@ -1,13 +1,13 @@
 -- What a checked tree gives.
 use Rattle.std.proofs.Common.{◌≡◌, ℕ, zero, suc, ◌+◌, ◌-◌, ◌<◌, ◌≤◌, Bool, true, false, List, [], ◌∷◌, ◌++◌, length, Option, Some, None, arith, refl, sym, ap, subst, ◌∙◌, ⊎_elim}
 use Rattle.std.specs.List.{AllByRecursion, range_with_len}
-use Rattle.std.specs.Option.{option_or, option_and_then}
+use Rattle.std.specs.Option.{option_and_then}
 use Rattle.std.proofs.lemmas.List.Elements.{All-from_recursion}
-use Rattle.std.proofs.lemmas.List.Folds.{find-append}
 use Rattle.std.proofs.lemmas.Option.{slice_get_past}
 use Rattle.std.specs.Prelude.{not, nat_le, cond, slice_get, All, find, map}
 use Rattle.std.proofs.lemmas.Bool.{cases_lt, ltb-false, leb-true, ltb-true, and_parts, not-false}
 use Rattle.so_ids.specs.declared.StateId.{StateId}
+use Rattle.so_state.proofs.Lists.{cond-none, find-append_none}
 use Rattle.so_state.specs.declared.states.State.{State}
 use Rattle.so_state.specs.declared.faults.TreeFault.{TreeFault}
 use Rattle.so_state.specs.declared.faults.TreeFault.TheVariants.{UnknownState, CycleOfParents, TooDeep, NoInitial, TwoInitials}
@@ -15,17 +15,6 @@ use Rattle.so_state.specs.States.{number_of, declared, state_numbered, state_of,
 use Rattle.so_state.specs.Fault.{is_known_parent, is_known_limit, names_known_states, breaks, tree_fault, IsTree}
 
 -- ---- the rules
-
-option_or-none : {A : Type 0} (a b : Option A) → option_or a b ≡ None → (a ≡ None) × (b ≡ None)
-option_or-none None b h = (refl, h)
-option_or-none (Some x) b h = cc
-
-find-append_none : {X : Type 0} (p : X → Bool) (xs ys : List X) → find p (xs ++ ys) ≡ None → (find p xs ≡ None) × (find p ys ≡ None)
-find-append_none p xs ys none = option_or-none (find p xs) (find p ys) (sym (find-append p xs ys) ∙ none)
-
-cond-none : {X : Type 0} (b : Bool) (x : X) (o : Option X) → cond b (Some x) o ≡ None → (b ≡ false) × (o ≡ None)
-cond-none true x o h = cc
-cond-none false x o h = (refl, h)
 
 -- a search through the faults of numbered states that finds none
 find-numbered_none : (p : TreeFault → Bool) (fault : StateId → TreeFault) (a n k : ℕ) → find p (map fault (map number_of (range_with_len a n))) ≡ None → a ≤ k → k < a + n → p (fault (number_of k)) ≡ false
