@@ -23,7 +23,7 @@ same_state-refl s = eq-eqb s.0 s.0 refl
 pub same_state-true : (a b : StateId) → same_state a b ≡ true → a ≡ b
 same_state-true a b e = ap (λ (n : ℕ). let s : StateId = record { 0 = n } in s) (eqb-true a.0 b.0 e)
 
-same_state-symm : (a b : StateId) → same_state a b ≡ same_state b a
+pub same_state-symm : (a b : StateId) → same_state a b ≡ same_state b a
 same_state-symm a b =
     ⊎_elim
     (λ (e : a.0 ≡ b.0). eq-eqb a.0 b.0 e ∙ sym (eq-eqb b.0 a.0 (sym e)))

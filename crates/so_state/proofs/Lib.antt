@@ -5,6 +5,9 @@ pub mod Padded
 pub mod TreeFacts
 pub mod Ancestry
 pub mod Resolved
+pub mod Ways
+pub mod FirstFault
+pub mod Answering
 pub mod Kept
 pub mod Down
 pub mod Along

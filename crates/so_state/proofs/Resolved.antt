@@ -4,9 +4,9 @@ use Rattle.std.specs.Prelude.{not, find, position, slice_get, unwrap_or, count_b
 use Rattle.std.specs.List.{AllByRecursion, list_any, position_or_len}
 use Rattle.std.specs.Option.{option_map, option_and_then}
 use Rattle.std.proofs.lemmas.Bool.{cases_lt, cases_Bool, or_cases, and_parts, and_cases, eq-eqb, eqb-true, not-false}
-use Rattle.std.proofs.lemmas.List.Folds.{list_any-append}
+use Rattle.std.proofs.lemmas.List.Folds.{list_any-append, list_any_at}
 use Rattle.std.proofs.lemmas.List.Quantifiers.{position-Some}
-use Rattle.std.proofs.lemmas.Option.{slice_get_cases}
+use Rattle.std.proofs.lemmas.Option.{slice_get_within, get_or_from_slice_get}
 use Rattle.so_ids.specs.declared.StateId.{StateId}
 use Rattle.so_state.specs.declared.states.State.{State}
 use Rattle.so_state.specs.declared.states.History.{History}
@@ -15,7 +15,7 @@ use Rattle.so_state.specs.States.{same_state, is_this, is_on, number_of, state_o
 use Rattle.so_state.specs.Fault.{initials, IsTree}
 use Rattle.so_state.specs.Plan.{toward, newest_below, down_by, down, resolve_within, resolve}
 use Rattle.so_state.proofs.Lists.{or_right, position-element, find-passes, find-keeps, position-some, count_by-none}
-use Rattle.so_state.proofs.TreeFacts.{IsTree-holds, Standing, is_top, is_listed, standing, parent_declared}
+use Rattle.so_state.proofs.TreeFacts.{IsTree-holds, Standing, is_top, is_listed, standing, ancestors_within-top, parent_declared}
 use Rattle.so_state.proofs.Ancestry.{same_state-refl, same_state-true, depth-few, path-below, path-top, above_is_declared}
 
 -- ---- paths within paths
@@ -170,3 +170,29 @@ resolve-leaf states leaves to tree all =
 pub resolve-below : (states : List State) (leaves : List StateId) (to : StateId) → IsTree states → is_or_below states to (resolve states leaves to) ≡ true
 resolve-below states leaves to tree =
     resolve_within-below (length states) states (newest_below states leaves) to tree (λ t low e. find-passes (is_below states t) leaves low e)
+
+-- a switch to a declared state or to `default` ends in such a state
+pub resolve-few : (states : List State) (leaves : List StateId) (to : StateId) → IsTree states → to.0 ≤ length states → (resolve states leaves to).0 ≤ length states
+resolve-few states leaves to tree few = few_by (resolve states leaves to) (resolve-below states leaves to tree)
+  where
+    few_by : (leaf : StateId) → is_or_below states to leaf ≡ true → leaf.0 ≤ length states
+    few_by leaf below =
+        elim (standing states leaf) [
+          is_top top ↦
+            ⊎_elim
+            (λ (here : same_state to leaf ≡ true). let e : to.0 ≡ leaf.0 = eqb-true to.0 leaf.0 here in omega arith)
+            (λ (above : is_below states to leaf ≡ true). let none : is_below states to leaf ≡ false = ap (λ l. is_on l to) (ancestors_within-top (length states) states leaf top) in let e : true ≡ false = sym above ∙ none in cc)
+            (or_cases (same_state to leaf) (is_below states to leaf) below)
+        | is_listed low within ↦ within
+        ]
+
+initial_substate : (states : List State) (s : StateId) (initial : StateId) (o : Option ℕ) → position (is_initial_of s) states ≡ o → option_map number_of o ≡ Some initial → is_composite states s ≡ true
+initial_substate states s initial None place e = cc
+initial_substate states s initial (Some k) place e =
+    let w = position-element (is_initial_of s) states k place in
+    let within : k < length states = slice_get_within states k w.0 w.1 in
+    list_any_at (is_substate_of s) states k w.0 within (ap (is_substate_of s) (get_or_from_slice_get states k w.0 w.0 w.1) ∙ (and_parts _ _ w.2).0)
+
+-- a state with an initial substate is composite
+pub composite_with_initial : (states : List State) (s initial : StateId) → initial_of states s ≡ Some initial → is_composite states s ≡ true
+composite_with_initial states s initial first = initial_substate states s initial (position (is_initial_of s) states) refl first

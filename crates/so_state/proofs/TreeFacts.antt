@@ -26,7 +26,7 @@ find-numbered_none p fault a (suc n) k none low high =
     (λ (here : k ≤ a). let e : a ≡ k = omega arith in subst (λ (j : ℕ). p (fault (number_of j)) ≡ false) e both.0)
     (cases_lt a k)
 
-declared_faults-none : (states : List State) (fault : StateId → TreeFault) → find (breaks states) (map fault (declared states)) ≡ None → (s : StateId) → 0 < s.0 → s.0 ≤ length states → breaks states (fault s) ≡ false
+pub declared_faults-none : (states : List State) (fault : StateId → TreeFault) → find (breaks states) (map fault (declared states)) ≡ None → (s : StateId) → 0 < s.0 → s.0 ≤ length states → breaks states (fault s) ≡ false
 declared_faults-none states fault none s low high =
     let e : s.0 - 1 + 1 ≡ s.0 = omega arith in
     subst (λ (n : ℕ). breaks states (fault (record { 0 = n })) ≡ false) e (find-numbered_none (breaks states) fault 0 (length states) (s.0 - 1) none (omega arith) (omega arith))

@@ -1,6 +1,6 @@
 -- Which row of an agent's table answers an event, over the list of its rows and the list of which of them
 -- are active.
-use Rattle.std.specs.Prelude.{ℕ, Bool, true, false, ◌&&◌, ◌==◌, not, List, [], ◌∷◌, slice_get, Option, Some, None, position, zip}
+use Rattle.std.specs.Prelude.{◌≡◌, ℕ, Bool, true, false, ◌&&◌, ◌||◌, ◌==◌, not, List, [], ◌∷◌, slice_get, Option, Some, None, position, zip}
 use Rattle.std.specs.Option.{option_or}
 use Rattle.so_ids.specs.declared.StateId.{StateId}
 use Rattle.so_ids.specs.declared.MboxId.{MboxId}
@@ -12,7 +12,7 @@ use Rattle.so_state.specs.declared.states.State.{State}
 use Rattle.so_state.specs.declared.choice.Row.{Row}
 use Rattle.so_state.specs.declared.choice.RowKind.{RowKind}
 use Rattle.so_state.specs.declared.choice.RowKind.TheVariants.{Run, Switch, Transfer, Suppress, Dead}
-use Rattle.so_state.specs.States.{same_state, path}
+use Rattle.so_state.specs.States.{same_state, is_on, path}
 
 abbrev pub is_dead : RowKind → Bool
 is_dead Run = false
@@ -64,3 +64,11 @@ choice_by rows (Some k) = choice_at k (slice_get rows k)
 -- from the leaf upwards
 abbrev pub chosen : List State → List Row → List Bool → StateId → MboxId → MsgId → Chosen
 chosen states rows active leaf mbox msg = choice_by rows (answering rows active mbox msg (path states leaf))
+
+-- row k is active and for this event, and is a dead-letter row or one of these states
+pub record IsAnswer (rows : List Row) (active : List Bool) (mbox : MboxId) (msg : MsgId) (states : List StateId) (k : ℕ) : Type 0 where
+  pub row : Row
+  pub numbered : slice_get rows k ≡ Some row
+  pub is_active : slice_get active k ≡ Some true
+  pub for_event : is_for mbox msg row ≡ true
+  pub placed : (is_dead row.kind || is_on states row.state) ≡ true

@@ -1,5 +1,5 @@
 -- The five rules of a state tree. A fault is a rule with a state that breaks it.
-use Rattle.std.specs.Prelude.{◌≡◌, ◌≤◌, ℕ, Bool, true, ◌&&◌, ◌==◌, not, nat_lt, nat_le, List, ◌++◌, length, map, find, count_by, Option, Some, None, Result, Ok, Err}
+use Rattle.std.specs.Prelude.{◌≡◌, ◌<◌, ◌≤◌, ◌⊎◌, ℕ, Bool, true, false, ◌&&◌, ◌==◌, not, nat_lt, nat_le, List, ◌++◌, length, map, find, count_by, Option, Some, None, Result, Ok, Err}
 use Rattle.so_ids.specs.declared.StateId.{StateId}
 use Rattle.so_state.specs.declared.states.State.{State}
 use Rattle.so_state.specs.declared.faults.TreeFault.{TreeFault}
@@ -31,6 +31,36 @@ breaks states (CycleOfParents s) = is_below states s s
 breaks states (TooDeep s) = nat_lt 16 (depth states s)
 breaks states (NoInitial s) = is_composite states s && (initials states s == 0)
 breaks states (TwoInitials s) = nat_lt 1 (initials states s)
+
+-- ---- the order of faults
+
+-- the state that a fault names
+abbrev pub named : TreeFault → StateId
+named (UnknownState s) = s
+named (CycleOfParents s) = s
+named (TooDeep s) = s
+named (NoInitial s) = s
+named (TwoInitials s) = s
+
+-- the place of its rule among the five
+abbrev pub rule_of : TreeFault → ℕ
+rule_of (UnknownState s) = 0
+rule_of (CycleOfParents s) = 1
+rule_of (TooDeep s) = 2
+rule_of (NoInitial s) = 3
+rule_of (TwoInitials s) = 4
+
+-- of an earlier rule, or of the same rule at a lesser state
+abbrev pub ComesBefore : TreeFault → TreeFault → Type 0
+ComesBefore a b = (rule_of a < rule_of b) ⊎ ((rule_of a ≡ rule_of b) × ((named a).0 < (named b).0))
+
+-- no fault of a declared state comes before this one
+pub record IsFirstFault (states : List State) (fault : TreeFault) : Type 0 where
+  pub names_declared : is_declared states (named fault) ≡ true
+  pub broken : breaks states fault ≡ true
+  pub first : (other : TreeFault) → is_declared states (named other) ≡ true → ComesBefore other fault → breaks states other ≡ false
+
+-- ---- the check
 
 -- every fault that a list could have: rule by rule, and under each rule by the state's number
 abbrev pub possible_faults : List State → List TreeFault

@@ -8,6 +8,7 @@
 mod choice;
 mod faults;
 mod hierarchy;
+pub mod laws;
 mod leaves;
 mod list;
 mod states;
