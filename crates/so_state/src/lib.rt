@@ -13,6 +13,8 @@ mod leaves;
 mod list;
 mod states;
 mod switching;
+#[cfg(test)]
+mod tests;
 
 pub use choice::{Row, RowKind, choose};
 pub use faults::TreeFault;
