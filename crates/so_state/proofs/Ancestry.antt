@@ -1,19 +1,17 @@
 -- The hierarchy of a checked tree: no path comes back to a state, and each goes on as its parent's does.
-use Rattle.std.proofs.Common.{◌≡◌, ℕ, zero, suc, ◌+◌, ◌-◌, ◌<◌, ◌≤◌, ⊎_elim, Bool, true, false, ◌||◌, List, [], ◌∷◌, ◌++◌, length, Option, Some, None, arith, refl, sym, ap, subst, ◌∙◌, add-one}
+use Rattle.std.proofs.Common.{◌≡◌, ℕ, zero, suc, ◌+◌, ◌<◌, ◌≤◌, ⊎_elim, true, false, List, [], ◌∷◌, length, Option, Some, None, arith, refl, sym, ap, subst, ◌∙◌}
 use Rattle.std.specs.Prelude.{map}
-use Rattle.std.specs.List.{AllByRecursion, IsDistinct, list_any, range_with_len}
+use Rattle.std.specs.List.{AllByRecursion, IsDistinct, range_with_len}
 use Rattle.std.specs.Cmp.{IsEquivalence}
 use Rattle.std.proofs.lemmas.Bool.{cases_lt, cases_eq, or_cases, eq-eqb, ne_eqb, eqb-true}
-use Rattle.std.proofs.lemmas.List.Folds.{list_any-append}
 use Rattle.std.proofs.lemmas.List.FromFn.{length-map-range_with_len}
-use Rattle.std.proofs.lemmas.Map.Keys.{IsDistinct-cons, IsDistinct-head, IsDistinct-tail}
 use Rattle.std.proofs.lemmas.Map.Made.{length-le_from_is_member}
 use Rattle.so_ids.specs.declared.StateId.{StateId}
 use Rattle.so_state.specs.declared.states.State.{State}
-use Rattle.so_state.specs.States.{same_state, is_on, number_of, declared, parent_of, and_above, ancestors_within, ancestors, path, is_below, is_or_below}
+use Rattle.so_state.specs.States.{same_state, is_on, number_of, declared, parent_of, and_above, ancestors_within, ancestors, path, is_below}
 use Rattle.so_state.specs.Fault.{IsTree}
-use Rattle.so_state.proofs.Lists.{or_false, or_right, or_more, back_false, map_all}
-use Rattle.so_state.proofs.TreeFacts.{IsTree-holds, Standing, is_top, is_listed, standing, ancestors_within-top, parent_declared}
+use Rattle.so_state.proofs.Lists.{or_false, or_right, or_more, back_false}
+use Rattle.so_state.proofs.TreeFacts.{IsTree-holds, is_top, is_listed, standing, ancestors_within-top, parent_declared}
 
 -- ---- the same state
 
@@ -54,8 +52,8 @@ within_more (suc n) (suc m) states s x h on =
 pub below-itself : (states : List State) (s : StateId) → IsTree states → is_below states s s ≡ false
 below-itself states s tree =
     elim (standing states s) [
-      is_top top ↦ rw (ancestors_within-top (length states) states s top) refl
-    | is_listed low within ↦ (IsTree-holds states tree s low within).acyclic
+      | is_top none top ↦ rw (ancestors_within-top (length states) states s top) refl
+      | is_listed low within ↦ (IsTree-holds states tree s low within).acyclic
     ]
 
 pub apart_from : (s : StateId) (list : List StateId) → is_on list s ≡ false → AllByRecursion (λ y. same_state s y ≡ false) list
@@ -132,8 +130,8 @@ within_settled (suc n) (suc m) states s short h =
 pub ancestors-above : (states : List State) (s : StateId) → IsTree states → ancestors states s ≡ and_above (ancestors states) (parent_of states s)
 ancestors-above states s tree =
     elim (standing states s) [
-      is_top top ↦ rw (ancestors_within-top (length states) states s top, top) refl
-    | is_listed low within ↦ sym (within_settled (length states) (suc (length states)) states s (depth-few states s tree low within) (omega arith))
+      | is_top none top ↦ rw (ancestors_within-top (length states) states s top, top) refl
+      | is_listed low within ↦ sym (within_settled (length states) (suc (length states)) states s (depth-few states s tree low within) (omega arith))
     ]
 
 pub path-below : (states : List State) (s p : StateId) → IsTree states → parent_of states s ≡ Some p → path states s ≡ s ∷ path states p

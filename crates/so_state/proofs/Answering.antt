@@ -1,6 +1,6 @@
 -- Which row answers an event, and what that makes of the choice.
-use Rattle.std.proofs.Common.{◌≡◌, ℕ, zero, suc, ◌+◌, ◌<◌, ⊎_elim, Bool, true, false, ◌||◌, ◌&&◌, List, [], ◌∷◌, ◌++◌, length, Option, Some, None, arith, refl, sym, ap, ◌∙◌}
-use Rattle.std.specs.Prelude.{not, position, slice_get, zip}
+use Rattle.std.proofs.Common.{◌≡◌, ℕ, zero, suc, Bool, true, false, ◌||◌, List, [], ◌∷◌, ◌++◌, Option, Some, None, refl, sym, ap, ◌∙◌}
+use Rattle.std.specs.Prelude.{slice_get, zip}
 use Rattle.std.specs.List.{AllByRecursion}
 use Rattle.std.specs.Option.{option_or}
 use Rattle.std.proofs.lemmas.Bool.{and_parts}
@@ -8,15 +8,13 @@ use Rattle.so_ids.specs.declared.StateId.{StateId}
 use Rattle.so_ids.specs.declared.MboxId.{MboxId}
 use Rattle.so_ids.specs.declared.MsgId.{MsgId}
 use Rattle.so_ids.specs.declared.RowId.{RowId}
-use Rattle.so_ids.specs.declared.Chosen.{Chosen}
 use Rattle.so_ids.specs.declared.Chosen.TheVariants as chose
 use Rattle.so_state.specs.declared.choice.Row.{Row}
 use Rattle.so_state.specs.declared.choice.RowKind.{RowKind}
 use Rattle.so_state.specs.declared.choice.RowKind.TheVariants.{Run, Switch, Transfer, Suppress, Dead}
 use Rattle.so_state.specs.States.{same_state, is_on}
-use Rattle.so_state.specs.Choice.{is_dead, is_for, answers_in, answers_dead, row_in, dead_row, answering, choice_of, choice_at, choice_by, IsAnswer}
+use Rattle.so_state.specs.Choice.{is_dead, answers_in, answers_dead, row_in, dead_row, answering, choice_of, choice_at, choice_by, IsAnswer}
 use Rattle.so_state.proofs.Lists.{or_right, position-element}
-use Rattle.so_state.proofs.Ancestry.{same_state-symm}
 
 zip-get : {X Y : Type 0} (xs : List X) (ys : List Y) (k : ℕ) (pair : X × Y) → slice_get (zip xs ys) k ≡ Some pair → (slice_get xs k ≡ Some pair.0) × (slice_get ys k ≡ Some pair.1)
 zip-get [] ys k pair e = cc

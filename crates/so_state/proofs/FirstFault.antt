@@ -1,5 +1,5 @@
 -- The fault that the check finds is the first, and where it finds none there is none.
-use Rattle.std.proofs.Common.{◌≡◌, ℕ, zero, suc, ◌+◌, ◌-◌, ◌<◌, ◌≤◌, ◌⊎◌, inl, inr, ⊎_elim, Bool, true, false, List, ◌++◌, length, Option, Some, None, arith, refl, sym, ap, subst, ◌∙◌}
+use Rattle.std.proofs.Common.{◌≡◌, ℕ, zero, suc, ◌+◌, ◌<◌, ◌≤◌, ◌⊎◌, inl, inr, ⊎_elim, Bool, true, false, List, ◌++◌, length, Option, Some, None, arith, refl, sym, ap, subst, ◌∙◌}
 use Rattle.std.specs.Prelude.{cond, find, map}
 use Rattle.std.specs.List.{range_with_len}
 use Rattle.std.specs.Option.{option_or}
@@ -79,9 +79,9 @@ least_by p k a n fault false e found later =
       high = omega (arith, rest.high);
       broken = rest.broken;
       least = λ t low less. ⊎_elim
-      (λ (here : t.0 < a + 2). let same : a + 1 ≡ t.0 = omega arith in subst (λ (n : ℕ). p (fault_at k (record { 0 = n })) ≡ false) same e)
-      (λ (past : a + 2 ≤ t.0). rest.least t (omega arith) less)
-      (cases_lt t.0 (a + 2));
+          (λ (here : t.0 < a + 2). let same : a + 1 ≡ t.0 = omega arith in subst (λ (n : ℕ). p (fault_at k (record { 0 = n })) ≡ false) same e)
+          (λ (past : a + 2 ≤ t.0). rest.least t (omega arith) less)
+          (cases_lt t.0 (a + 2));
     }
 
 least_of : (p : TreeFault → Bool) (k a n : ℕ) (fault : TreeFault) → find p (map (fault_at k) (map number_of (range_with_len a n))) ≡ Some fault → Least p k a n fault
@@ -100,15 +100,15 @@ clear_none states = record { below = λ other known h. absurd (omega arith) }
 clear_more : (states : List State) (k : ℕ) → IsClear states k → find (breaks states) (map (fault_at k) (declared states)) ≡ None → IsClear states (k + 1)
 clear_more states k clear none = record {
   below = λ other known h. ⊎_elim
-  (λ (earlier : rule_of other < k). clear.below other known earlier)
-  (λ (here : k ≤ rule_of other).
-  let same : k ≡ rule_of other = omega arith in
-  let parts = and_parts _ _ known in
-  let low : 0 < (named other).0 = ltb-true 0 (named other).0 parts.0 in
-  let within : (named other).0 ≤ length states = leb-true (named other).0 (length states) parts.1 in
-  let itself : fault_at k (named other) ≡ other = ap (λ j. fault_at j (named other)) same ∙ at-itself other in
-  ap (breaks states) (sym itself) ∙ declared_faults-none states (fault_at k) none (named other) low within)
-  (cases_lt (rule_of other) k);
+      (λ (earlier : rule_of other < k). clear.below other known earlier)
+      (λ (here : k ≤ rule_of other).
+      let same : k ≡ rule_of other = omega arith in
+      let parts = and_parts _ _ known in
+      let low : 0 < (named other).0 = ltb-true 0 (named other).0 parts.0 in
+      let within : (named other).0 ≤ length states = leb-true (named other).0 (length states) parts.1 in
+      let itself : fault_at k (named other) ≡ other = ap (λ j. fault_at j (named other)) same ∙ at-itself other in
+      ap (breaks states) (sym itself) ∙ declared_faults-none states (fault_at k) none (named other) low within)
+      (cases_lt (rule_of other) k);
 }
 
 found_first : (states : List State) (k : ℕ) (fault : TreeFault) → k ≤ 4 → IsClear states k → find (breaks states) (map (fault_at k) (declared states)) ≡ Some fault → IsFirstFault states fault
@@ -121,13 +121,13 @@ found_first states k fault few clear found =
       names_declared = ap (is_declared states) names ∙ declared_from states least.at least.low within;
       broken = least.broken;
       first = λ other known before. ⊎_elim
-      (λ (earlier : rule_of other < rule_of fault). clear.below other known (omega arith))
-      (λ (same : (rule_of other ≡ rule_of fault) × ((named other).0 < (named fault).0)).
-      let low : 0 < (named other).0 = ltb-true 0 (named other).0 (and_parts _ _ known).0 in
-      let less : (named other).0 < least.at.0 = subst (λ (s : StateId). (named other).0 < s.0) names same.1 in
-      let itself : fault_at k (named other) ≡ other = ap (λ j. fault_at j (named other)) (sym rule ∙ sym same.0) ∙ at-itself other in
-      ap (breaks states) (sym itself) ∙ least.least (named other) low less)
-      before;
+          (λ (earlier : rule_of other < rule_of fault). clear.below other known (omega arith))
+          (λ (same : (rule_of other ≡ rule_of fault) × ((named other).0 < (named fault).0)).
+          let low : 0 < (named other).0 = ltb-true 0 (named other).0 (and_parts _ _ known).0 in
+          let less : (named other).0 < least.at.0 = subst (λ (s : StateId). (named other).0 < s.0) names same.1 in
+          let itself : fault_at k (named other) ≡ other = ap (λ j. fault_at j (named other)) (sym rule ∙ sym same.0) ∙ at-itself other in
+          ap (breaks states) (sym itself) ∙ least.least (named other) low less)
+          before;
     }
 
 option_or-some : {A : Type 0} (a b : Option A) (x : A) → option_or a b ≡ Some x → (a ≡ Some x) ⊎ ((a ≡ None) × (b ≡ Some x))

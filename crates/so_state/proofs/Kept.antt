@@ -1,5 +1,5 @@
 -- What is kept for each state, as leaves are entered.
-use Rattle.std.proofs.Common.{◌≡◌, ℕ, ◌+◌, ◌<◌, ◌≤◌, ⊎_elim, Bool, true, false, ◌||◌, List, [], ◌∷◌, length, take, set, get_or, replicate, Option, Some, None, refl, sym, ◌∙◌}
+use Rattle.std.proofs.Common.{◌≡◌, ℕ, ◌+◌, ◌<◌, ◌≤◌, ⊎_elim, Bool, true, false, ◌||◌, List, [], ◌∷◌, length, take, set, get_or, replicate, Option, Some, None, refl, ◌∙◌}
 use Rattle.std.specs.Prelude.{if◌then◌else◌}
 use Rattle.std.proofs.lemmas.Bool.{cases_lt, cases_eq, eq-eqb, ne_eqb}
 use Rattle.std.proofs.lemmas.List.{take_more, get_or-set_same, get_or-set_other, get_or-replicate, get_or_past}
@@ -44,4 +44,3 @@ kept-none s =
     (λ (h : s.0 < 64). get_or-replicate 64 s.0 None None h)
     (λ (h : 64 ≤ s.0). get_or_past (replicate 64 None) s.0 None h)
     (cases_lt s.0 64)
-

@@ -1,11 +1,10 @@
 -- What a switch resolves to: a leaf, at its target or below.
-use Rattle.std.proofs.Common.{◌≡◌, ℕ, zero, suc, ◌+◌, ◌-◌, ◌<◌, ◌≤◌, ⊎_elim, Bool, true, false, ◌||◌, ◌&&◌, List, [], ◌∷◌, ◌++◌, length, get_or, Option, Some, None, arith, refl, sym, ap, subst, ◌∙◌, add-one}
-use Rattle.std.specs.Prelude.{not, find, position, slice_get, unwrap_or, count_by, nat_eq}
+use Rattle.std.proofs.Common.{◌≡◌, ℕ, zero, suc, ◌+◌, ◌<◌, ◌≤◌, ⊎_elim, Bool, true, false, ◌||◌, List, [], ◌∷◌, ◌++◌, length, Option, Some, None, arith, refl, sym, ap, subst, ◌∙◌, add-one}
+use Rattle.std.specs.Prelude.{not, position, slice_get, unwrap_or, nat_eq}
 use Rattle.std.specs.List.{AllByRecursion, list_any, position_or_len}
 use Rattle.std.specs.Option.{option_map, option_and_then}
-use Rattle.std.proofs.lemmas.Bool.{cases_lt, cases_Bool, or_cases, and_parts, and_cases, eq-eqb, eqb-true, not-false}
+use Rattle.std.proofs.lemmas.Bool.{or_cases, and_parts, and_cases, eq-eqb, eqb-true}
 use Rattle.std.proofs.lemmas.List.Folds.{list_any-append, list_any_at}
-use Rattle.std.proofs.lemmas.List.Quantifiers.{position-Some}
 use Rattle.std.proofs.lemmas.Option.{slice_get_within, get_or_from_slice_get}
 use Rattle.so_ids.specs.declared.StateId.{StateId}
 use Rattle.so_state.specs.declared.states.State.{State}
@@ -15,8 +14,8 @@ use Rattle.so_state.specs.States.{same_state, is_this, is_on, number_of, state_o
 use Rattle.so_state.specs.Fault.{initials, IsTree}
 use Rattle.so_state.specs.Plan.{toward, newest_below, down_by, down, resolve_within, resolve}
 use Rattle.so_state.proofs.Lists.{or_right, position-element, find-passes, find-keeps, position-some, count_by-none}
-use Rattle.so_state.proofs.TreeFacts.{IsTree-holds, Standing, is_top, is_listed, standing, ancestors_within-top, parent_declared}
-use Rattle.so_state.proofs.Ancestry.{same_state-refl, same_state-true, depth-few, path-below, path-top, above_is_declared}
+use Rattle.so_state.proofs.TreeFacts.{IsTree-holds, is_top, is_listed, standing, ancestors_within-top, parent_declared}
+use Rattle.so_state.proofs.Ancestry.{same_state-refl, same_state-true, depth-few, path-below, path-top}
 
 -- ---- paths within paths
 
@@ -104,10 +103,10 @@ pub composite_initial : (states : List State) (s : StateId) → IsTree states �
 composite_initial states s tree composite =
     let listed = composite_listed states s tree composite in
     let some : nat_eq (initials states s) 0 ≡ false =
-        ⊎_elim
-        (λ (none : is_composite states s ≡ false). let t : true ≡ false = sym composite ∙ none in cc)
-        (λ (some : nat_eq (initials states s) 0 ≡ false). some)
-        (and_cases (is_composite states s) (nat_eq (initials states s) 0) (IsTree-holds states tree s listed.0 listed.1).some_initial) in
+    ⊎_elim
+    (λ (none : is_composite states s ≡ false). let t : true ≡ false = sym composite ∙ none in cc)
+    (λ (some : nat_eq (initials states s) 0 ≡ false). some)
+    (and_cases (is_composite states s) (nat_eq (initials states s) 0) (IsTree-holds states tree s listed.0 listed.1).some_initial) in
     ap (option_map number_of) (position-some (is_initial_of s) states (initials_some states s (list_any (is_initial_of s) states) refl some))
 
 leaf_by : (states : List State) (s : StateId) (b : Bool) → IsTree states → is_composite states s ≡ b → initial_of states s ≡ None → is_leaf states s ≡ true
@@ -178,12 +177,12 @@ resolve-few states leaves to tree few = few_by (resolve states leaves to) (resol
     few_by : (leaf : StateId) → is_or_below states to leaf ≡ true → leaf.0 ≤ length states
     few_by leaf below =
         elim (standing states leaf) [
-          is_top top ↦
-            ⊎_elim
-            (λ (here : same_state to leaf ≡ true). let e : to.0 ≡ leaf.0 = eqb-true to.0 leaf.0 here in omega arith)
-            (λ (above : is_below states to leaf ≡ true). let none : is_below states to leaf ≡ false = ap (λ l. is_on l to) (ancestors_within-top (length states) states leaf top) in let e : true ≡ false = sym above ∙ none in cc)
-            (or_cases (same_state to leaf) (is_below states to leaf) below)
-        | is_listed low within ↦ within
+          | is_top none top ↦
+              ⊎_elim
+              (λ (here : same_state to leaf ≡ true). let e : to.0 ≡ leaf.0 = eqb-true to.0 leaf.0 here in omega arith)
+              (λ (above : is_below states to leaf ≡ true). let none : is_below states to leaf ≡ false = ap (λ l. is_on l to) (ancestors_within-top (length states) states leaf top) in let e : true ≡ false = sym above ∙ none in cc)
+              (or_cases (same_state to leaf) (is_below states to leaf) below)
+          | is_listed low within ↦ within
         ]
 
 initial_substate : (states : List State) (s : StateId) (initial : StateId) (o : Option ℕ) → position (is_initial_of s) states ≡ o → option_map number_of o ≡ Some initial → is_composite states s ≡ true

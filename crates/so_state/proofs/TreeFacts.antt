@@ -1,17 +1,17 @@
 -- What a checked tree gives.
-use Rattle.std.proofs.Common.{◌≡◌, ℕ, zero, suc, ◌+◌, ◌-◌, ◌<◌, ◌≤◌, Bool, true, false, List, [], ◌∷◌, ◌++◌, length, Option, Some, None, arith, refl, sym, ap, subst, ◌∙◌, ⊎_elim}
+use Rattle.std.proofs.Common.{◌≡◌, ℕ, zero, suc, ◌+◌, ◌-◌, ◌<◌, ◌≤◌, Bool, true, false, List, [], ◌++◌, length, Option, Some, None, arith, refl, sym, ap, subst, ◌∙◌, ⊎_elim}
 use Rattle.std.specs.List.{AllByRecursion, range_with_len}
 use Rattle.std.specs.Option.{option_and_then}
 use Rattle.std.proofs.lemmas.List.Elements.{All-from_recursion}
 use Rattle.std.proofs.lemmas.Option.{slice_get_past}
-use Rattle.std.specs.Prelude.{not, nat_le, cond, slice_get, All, find, map}
+use Rattle.std.specs.Prelude.{not, All, find, map}
 use Rattle.std.proofs.lemmas.Bool.{cases_lt, ltb-false, leb-true, ltb-true, and_parts, not-false}
 use Rattle.so_ids.specs.declared.StateId.{StateId}
 use Rattle.so_state.proofs.Lists.{cond-none, find-append_none}
 use Rattle.so_state.specs.declared.states.State.{State}
 use Rattle.so_state.specs.declared.faults.TreeFault.{TreeFault}
 use Rattle.so_state.specs.declared.faults.TreeFault.TheVariants.{UnknownState, CycleOfParents, TooDeep, NoInitial, TwoInitials}
-use Rattle.so_state.specs.States.{number_of, declared, state_numbered, state_of, parent_of, and_above, ancestors_within, ancestors, path, is_below, depth}
+use Rattle.so_state.specs.States.{number_of, declared, state_of, parent_of, limit_of, and_above, ancestors_within, ancestors, path, depth}
 use Rattle.so_state.specs.Fault.{is_known_parent, is_known_limit, names_known_states, breaks, tree_fault, IsTree}
 
 -- ---- the rules
@@ -61,39 +61,41 @@ IsTree-flat = record { few = omega arith; sound = refl }
 
 -- ---- above
 
-parent_of-numbered_past : (states : List State) (n : ℕ) → length states < n → parent_of states (record { 0 = n }) ≡ None
-parent_of-numbered_past states zero h = refl
-parent_of-numbered_past states (suc k) h = ap (option_and_then (λ (state : State). state.parent)) (slice_get_past states k (omega arith))
+state_of-numbered_past : (states : List State) (n : ℕ) → length states < n → state_of states (record { 0 = n }) ≡ None
+state_of-numbered_past states zero h = refl
+state_of-numbered_past states (suc k) h = slice_get_past states k (omega arith)
 
--- a state that is not declared has no parent
-pub parent_of-past : (states : List State) (s : StateId) → length states < s.0 → parent_of states s ≡ None
-parent_of-past states s h = parent_of-numbered_past states s.0 h
+state_of-default : (states : List State) (s : StateId) → s.0 ≡ 0 → state_of states s ≡ None
+state_of-default states s e = let P : ℕ → Type 0 = λ n. state_of states (record { 0 = n }) ≡ None in subst P (sym e) refl
 
-pub parent_of-default : (states : List State) (s : StateId) → s.0 ≡ 0 → parent_of states s ≡ None
-parent_of-default states s e = let P : ℕ → Type 0 = λ n. parent_of states (record { 0 = n }) ≡ None in subst P (sym e) refl
+parent_of-none : (states : List State) (s : StateId) → state_of states s ≡ None → parent_of states s ≡ None
+parent_of-none states s none = ap (option_and_then (λ (state : State). state.parent)) none
 
 pub ancestors_within-top : (n : ℕ) (states : List State) (s : StateId) → parent_of states s ≡ None → ancestors_within n states s ≡ []
 ancestors_within-top zero states s top = refl
 ancestors_within-top (suc n) states s top = rw top refl
 
--- a state is `default`, or declared, or past the list
+-- a state is declared, or nothing is known of it and it has no parent
 pub data Standing (states : List State) (s : StateId) : Type 0 where
-  is_top : parent_of states s ≡ None → Standing states s
+  is_top : state_of states s ≡ None → parent_of states s ≡ None → Standing states s
   is_listed : 0 < s.0 → s.0 ≤ length states → Standing states s
+
+undeclared : (states : List State) (s : StateId) → state_of states s ≡ None → Standing states s
+undeclared states s none = is_top none (parent_of-none states s none)
 
 pub standing : (states : List State) (s : StateId) → Standing states s
 standing states s =
     ⊎_elim
-    (λ (past : length states < s.0). is_top (parent_of-past states s past))
-    (λ (within : s.0 ≤ length states). ⊎_elim (λ (low : 0 < s.0). is_listed low within) (λ (zero_at : s.0 ≤ 0). is_top (parent_of-default states s (omega arith))) (cases_lt 0 s.0))
+    (λ (past : length states < s.0). undeclared states s (state_of-numbered_past states s.0 past))
+    (λ (within : s.0 ≤ length states). ⊎_elim (λ (low : 0 < s.0). is_listed low within) (λ (at_zero : s.0 ≤ 0). undeclared states s (state_of-default states s (omega arith))) (cases_lt 0 s.0))
     (cases_lt (length states) s.0)
 
 -- a path has at most sixteen states
 pub path_fits : (states : List State) (s : StateId) → IsTree states → length (path states s) ≤ 16
 path_fits states s tree =
     elim (standing states s) [
-      is_top top ↦ rw (ancestors_within-top (length states) states s top) (omega arith)
-    | is_listed low within ↦ ltb-false 16 (depth states s) (IsTree-holds states tree s low within).shallow
+      | is_top none top ↦ rw (ancestors_within-top (length states) states s top) (omega arith)
+      | is_listed low within ↦ ltb-false 16 (depth states s) (IsTree-holds states tree s low within).shallow
     ]
 
 -- ---- parents are declared
@@ -114,9 +116,30 @@ known_names states (Some state) p known e = known_parent states state.parent p (
 pub parent_declared : (states : List State) (s p : StateId) → IsTree states → parent_of states s ≡ Some p → (0 < p.0) × (p.0 ≤ length states)
 parent_declared states s p tree e =
     elim (standing states s) [
-      is_top top ↦ let gone : None ≡ Some p = sym top ∙ e in cc
-    | is_listed low within ↦ known_names states (state_of states s) p (IsTree-holds states tree s low within).known e
+      | is_top none top ↦ let gone : None ≡ Some p = sym top ∙ e in cc
+      | is_listed low within ↦ known_names states (state_of states s) p (IsTree-holds states tree s low within).known e
     ]
+
+-- ---- targets of time limits are known
+
+known_limit : (states : List State) (limit : Option (ℕ × StateId)) (l : ℕ × StateId) → is_known_limit states limit ≡ true → limit ≡ Some l → (l.1).0 ≤ length states
+known_limit states None l known e = cc
+known_limit states (Some k) l known e =
+    let same : k ≡ l = cc in
+    subst (λ (pair : ℕ × StateId). (pair.1).0 ≤ length states) same (leb-true (k.1).0 (length states) known)
+
+known_target : (states : List State) (o : Option State) (l : ℕ × StateId) → not (names_known_states states o) ≡ false → option_and_then (λ (state : State). state.limit) o ≡ Some l → (l.1).0 ≤ length states
+known_target states None l known e = cc
+known_target states (Some state) l known e = known_limit states state.limit l (and_parts _ _ (not-false _ known)).1 e
+
+pub limit_known : (states : List State) (s : StateId) (l : ℕ × StateId) → IsTree states → limit_of states s ≡ Some l → (l.1).0 ≤ length states
+limit_known states s l tree e =
+    elim (standing states s) [
+      | is_top none top ↦ let gone : None ≡ Some l = sym (ap (option_and_then (λ (state : State). state.limit)) none) ∙ e in cc
+      | is_listed low within ↦ known_target states (state_of states s) l (IsTree-holds states tree s low within).known e
+    ]
+
+-- ---- ancestors have a place
 
 above_few : (states : List State) (o : Option StateId) (above : StateId → List StateId) → ((p : StateId) → o ≡ Some p → p.0 < 64) → ((p : StateId) → AllByRecursion (λ a. a.0 < 64) (above p)) → AllByRecursion (λ a. a.0 < 64) (and_above above o)
 above_few states None above few more = tt

@@ -1,8 +1,7 @@
 -- What a switch leaves and enters: the two ends of two paths that meet.
-use Rattle.std.proofs.Common.{◌≡◌, ℕ, zero, suc, ◌+◌, ◌<◌, ◌≤◌, ⊎_elim, Bool, true, false, ◌||◌, ◌&&◌, List, [], ◌∷◌, ◌++◌, length, Option, Some, None, arith, refl, sym, ap, subst, ◌∙◌}
+use Rattle.std.proofs.Common.{◌≡◌, ℕ, zero, suc, ◌≤◌, Bool, true, false, ◌||◌, ◌&&◌, List, [], ◌∷◌, ◌++◌, length, Option, Some, None, arith, refl, sym, ap, subst, ◌∙◌}
 use Rattle.std.specs.Prelude.{not, filter, reverse}
-use Rattle.std.specs.List.{AllByRecursion, IsDistinct, list_any}
-use Rattle.std.proofs.lemmas.Bool.{or_cases}
+use Rattle.std.specs.List.{AllByRecursion, IsDistinct}
 use Rattle.std.proofs.lemmas.List.{append-nil, reverse-reverse}
 use Rattle.std.proofs.lemmas.List.Elements.{filter-append}
 use Rattle.std.proofs.lemmas.List.Folds.{list_any-append}
@@ -12,9 +11,9 @@ use Rattle.so_state.specs.declared.states.State.{State}
 use Rattle.so_state.specs.States.{same_state, is_on, parent_of, path}
 use Rattle.so_state.specs.Fault.{IsTree}
 use Rattle.so_state.specs.Plan.{exits, enters, staying}
-use Rattle.so_state.proofs.Lists.{or_false, or_right, filter_on, filter_off, filter-all, filter-none, filter-alike, map_all, list_any-reverse}
+use Rattle.so_state.proofs.Lists.{or_right, filter_on, filter_off, filter-all, filter-none, filter-alike, map_all, list_any-reverse}
 use Rattle.so_state.proofs.Ancestry.{same_state-refl, same_state-true, same_state-symm, apart_from, path-distinct, path-below, path-top}
-use Rattle.so_state.proofs.Resolved.{EndsIn, after, path_ends}
+use Rattle.so_state.proofs.Resolved.{after, path_ends}
 
 -- ---- lists of states
 
@@ -56,7 +55,7 @@ splits_end xs ys front e distinct =
     let first : filter (λ s. not (is_on xs s)) front ≡ front = filter-all (λ s. not (is_on xs s)) front (map_all (λ x. is_on xs x ≡ false) (λ x. not (is_on xs x) ≡ true) front (λ x off. ap not off) apart) in
     let last : filter (λ s. not (is_on xs s)) xs ≡ [] = filter-none (λ s. not (is_on xs s)) xs (map_all (λ x. is_on xs x ≡ true) (λ x. not (is_on xs x) ≡ false) xs (λ x on. ap not on) (all_on xs)) in
     let own : filter (λ s. not (is_on xs s)) ys ≡ front =
-        ap (filter (λ s. not (is_on xs s))) e ∙ (filter-append (λ s. not (is_on xs s)) front xs ∙ (ap (λ l. l ++ filter (λ s. not (is_on xs s)) xs) first ∙ (ap (λ l. front ++ l) last ∙ append-nil front))) in
+    ap (filter (λ s. not (is_on xs s))) e ∙ (filter-append (λ s. not (is_on xs s)) front xs ∙ (ap (λ l. l ++ filter (λ s. not (is_on xs s)) xs) first ∙ (ap (λ l. front ++ l) last ∙ append-nil front))) in
     record {
       left = sym (ap (λ l. l ++ filter (is_on ys) xs) none ∙ shared);
       right = e ∙ sym (ap (λ l. l ++ filter (is_on ys) xs) own ∙ ap (λ l. front ++ l) shared);
@@ -78,7 +77,7 @@ splits_more s xs ys off split =
     let own : filter (λ t. not (is_on ys t)) (s ∷ xs) ≡ s ∷ filter (λ t. not (is_on ys t)) xs = filter_on (λ t. not (is_on ys t)) s xs (ap not off) in
     let shared : filter (is_on ys) (s ∷ xs) ≡ filter (is_on ys) xs = filter_off (is_on ys) s xs off in
     let same : filter (λ t. not (is_on (s ∷ xs) t)) ys ≡ filter (λ t. not (is_on xs t)) ys =
-        filter-alike (λ t. not (is_on (s ∷ xs) t)) (λ t. not (is_on xs t)) ys (map_all (λ t. same_state s t ≡ false) (λ t. not (is_on (s ∷ xs) t) ≡ not (is_on xs t)) ys (λ t apart. ap (λ b. not (b || is_on xs t)) (same_state-symm t s ∙ apart)) (apart_from s ys off)) in
+    filter-alike (λ t. not (is_on (s ∷ xs) t)) (λ t. not (is_on xs t)) ys (map_all (λ t. same_state s t ≡ false) (λ t. not (is_on (s ∷ xs) t) ≡ not (is_on xs t)) ys (λ t apart. ap (λ b. not (b || is_on xs t)) (same_state-symm t s ∙ apart)) (apart_from s ys off)) in
     record {
       left = ap (λ l. s ∷ l) split.left ∙ sym (ap (λ l. l ++ filter (is_on ys) (s ∷ xs)) own ∙ ap (λ l. (s ∷ filter (λ t. not (is_on ys t)) xs) ++ l) shared);
       right = split.right ∙ sym (ap (λ l. l ++ filter (is_on ys) (s ∷ xs)) same ∙ ap (λ l. filter (λ t. not (is_on xs t)) ys ++ l) shared);
@@ -109,11 +108,17 @@ path-enters states from leaf tree =
 
 -- ---- which states they are
 
-on_outside : (xs ys : List StateId) (s : StateId) → is_on (filter (λ t. not (is_on ys t)) xs) s ≡ (not (is_on ys s) && is_on xs s)
-on_outside xs ys s = any-filter_same (same_state s) (λ t. not (is_on ys t)) (not (is_on ys s)) (λ t same. ap (λ k. not (is_on ys k)) (sym (same_state-true s t same))) xs
+and_swap : (a b : Bool) → (a && b) ≡ (b && a)
+and_swap true true = refl
+and_swap true false = refl
+and_swap false true = refl
+and_swap false false = refl
 
-pub is_on-exits : (states : List State) (from leaf s : StateId) → is_on (exits states from leaf) s ≡ (not (is_on (path states leaf) s) && is_on (path states from) s)
+on_outside : (xs ys : List StateId) (s : StateId) → is_on (filter (λ t. not (is_on ys t)) xs) s ≡ (is_on xs s && not (is_on ys s))
+on_outside xs ys s = any-filter_same (same_state s) (λ t. not (is_on ys t)) (not (is_on ys s)) (λ t same. ap (λ k. not (is_on ys k)) (sym (same_state-true s t same))) xs ∙ and_swap (not (is_on ys s)) (is_on xs s)
+
+pub is_on-exits : (states : List State) (from leaf s : StateId) → is_on (exits states from leaf) s ≡ (is_on (path states from) s && not (is_on (path states leaf) s))
 is_on-exits states from leaf s = on_outside (path states from) (path states leaf) s
 
-pub is_on-enters : (states : List State) (from leaf s : StateId) → is_on (enters states from leaf) s ≡ (not (is_on (path states from) s) && is_on (path states leaf) s)
+pub is_on-enters : (states : List State) (from leaf s : StateId) → is_on (enters states from leaf) s ≡ (is_on (path states leaf) s && not (is_on (path states from) s))
 is_on-enters states from leaf s = list_any-reverse (same_state s) _ ∙ on_outside (path states leaf) (path states from) s

@@ -118,7 +118,10 @@ fn names_known_states(states: &[State], state: Option<State>) -> bool
 fn initials(states: &[State], s: StateId) -> usize
     ensures { result ≡ initials states.now s }
 {
-    states.iter().filter(|state| is_initial_of(s, state)).count()
+    states
+        .iter()
+        .filter(|state| is_initial_of(s, state))
+        .count()
 }
 
 /// How deep a state lies, 1 at the top, however many states there are above it.

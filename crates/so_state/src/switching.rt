@@ -44,7 +44,11 @@ fn resolve(tree: &Tree, memory: &Memory, to: StateId) -> StateId
 fn toward(tree: &Tree, s: StateId, low: StateId) -> Option<StateId>
     ensures { result ≡ toward tree.now s low }
 {
-    tree.path(low).as_slice().iter().copied().find(|c| is_this(s, tree.parent(*c)))
+    tree.path(low)
+        .as_slice()
+        .iter()
+        .copied()
+        .find(|c| is_this(s, tree.parent(*c)))
 }
 
 /// What is left on the way from a state to a leaf.

@@ -56,11 +56,20 @@ fn the_first_rule_and_the_least_state_are_named(rt: HostRuntime) -> Result<(), F
     let cases: [(&[State], Option<TreeFault>); 11] = [
         (&[], None),
         (&[limited(5, 0)], None),
-        (&[state(3, false)], Some(TreeFault::UnknownState(StateId(1)))),
+        (
+            &[state(3, false)],
+            Some(TreeFault::UnknownState(StateId(1))),
+        ),
         (&[in_default], Some(TreeFault::UnknownState(StateId(1)))),
         (&[limited(5, 2)], Some(TreeFault::UnknownState(StateId(1)))),
-        (&[state(2, true), state(1, true)], Some(TreeFault::CycleOfParents(StateId(1)))),
-        (&[state(0, false), state(1, false)], Some(TreeFault::NoInitial(StateId(1)))),
+        (
+            &[state(2, true), state(1, true)],
+            Some(TreeFault::CycleOfParents(StateId(1))),
+        ),
+        (
+            &[state(0, false), state(1, false)],
+            Some(TreeFault::NoInitial(StateId(1))),
+        ),
         (
             &[state(0, false), state(1, true), state(1, true)],
             Some(TreeFault::TwoInitials(StateId(1))),
@@ -72,12 +81,23 @@ fn the_first_rule_and_the_least_state_are_named(rt: HostRuntime) -> Result<(), F
         ),
         // Two initial substates of state 1 and none of state 4.
         (
-            &[state(0, false), state(1, true), state(1, true), state(0, false), state(4, false)],
+            &[
+                state(0, false),
+                state(1, true),
+                state(1, true),
+                state(0, false),
+                state(4, false),
+            ],
             Some(TreeFault::NoInitial(StateId(4))),
         ),
         // No initial substate of the states 1 and 3.
         (
-            &[state(0, false), state(1, false), state(0, false), state(3, false)],
+            &[
+                state(0, false),
+                state(1, false),
+                state(0, false),
+                state(3, false),
+            ],
             Some(TreeFault::NoInitial(StateId(1))),
         ),
     ];
@@ -98,7 +118,14 @@ fn two_levels(alloc: Global, history: History) -> Result<Tree, Fail> {
     let z = limited(750, 1);
     let states = Vec::from_array(
         alloc,
-        [a, state(1, true), state(1, false), state(3, true), state(3, false), z],
+        [
+            a,
+            state(1, true),
+            state(1, false),
+            state(3, true),
+            state(3, false),
+            z,
+        ],
     )?;
     Ok(Tree::check(states)?)
 }
@@ -165,10 +192,16 @@ fn a_tree_tells_of_its_states(rt: HostRuntime) -> Result<(), Fail> {
     assert_eq!(rt; tree.limit(StateId(6)), Some((750, StateId(1))));
     assert!(rt; tree.is_leaf(StateId(5)));
     assert!(rt; tree.is_or_below(StateId(1), StateId(5)));
-    assert_eq!(rt; tree.path(StateId(5)).as_slice(), [StateId(5), StateId(3), StateId(1)].as_slice());
+    assert_eq!(rt;
+        tree.path(StateId(5)).as_slice(),
+        [StateId(5), StateId(3), StateId(1)].as_slice()
+    );
     let down = tree.path_down(StateId(5));
     assert_eq!(rt; down.len(), 3);
-    assert_eq!(rt; down.as_slice(), [StateId(1), StateId(3), StateId(5)].as_slice());
+    assert_eq!(rt;
+        down.as_slice(),
+        [StateId(1), StateId(3), StateId(5)].as_slice()
+    );
     assert_eq!(rt; tree.into_states().len(), 6);
     assert_eq!(rt; Tree::flat(rt.alloc()).len(), 0);
     Ok(())
@@ -200,7 +233,15 @@ fn the_row_of_the_nearest_state_is_chosen(rt: HostRuntime) -> Result<(), Fail> {
     let cases = [
         (5, 7, 0, Chosen::Suppressed),
         (4, 7, 0, Chosen::Run { row: RowId(0) }),
-        (5, 7, 1, Chosen::Transfer { from: StateId(1), to: StateId(6) }),
+        (
+            5,
+            7,
+            1,
+            Chosen::Transfer {
+                from: StateId(1),
+                to: StateId(6),
+            },
+        ),
         (6, 7, 1, Chosen::Dead { row: RowId(2) }),
         (5, 7, 2, Chosen::Switch { to: StateId(6) }),
         (4, 7, 2, Chosen::Nothing),
@@ -208,7 +249,14 @@ fn the_row_of_the_nearest_state_is_chosen(rt: HostRuntime) -> Result<(), Fail> {
         (5, 8, 0, Chosen::Nothing),
     ];
     for (leaf, mbox, msg, wanted) in cases {
-        let chosen = choose(&tree, &rows, &active, StateId(leaf), MboxId(mbox), MsgId(msg));
+        let chosen = choose(
+            &tree,
+            &rows,
+            &active,
+            StateId(leaf),
+            MboxId(mbox),
+            MsgId(msg),
+        );
         assert_eq!(rt; chosen, wanted);
     }
     Ok(())

@@ -1,5 +1,5 @@
-use Rattle.std.proofs.Common.{◌<◌, drop, ◌≡◌, ◌∙◌, ap, Some}
-use Rattle.std.specs.Prelude.{All, if◌then◌else◌}
+use Rattle.std.proofs.Common.{drop, ◌≡◌, ◌∙◌, ap, Some}
+use Rattle.std.specs.Prelude.{if◌then◌else◌}
 use Rattle.so_ids.specs.declared.StateId.{StateId}
 use Rattle.so_state.proofs.Kept.{StandsFor-cons}
 use Rattle.so_state.specs.States.{ancestors, is_on}
