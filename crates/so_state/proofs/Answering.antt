@@ -1,5 +1,5 @@
 -- Which row answers an event, and what that makes of the choice.
-use Rattle.std.proofs.Common.{◌≡◌, ℕ, zero, suc, Bool, true, false, ◌||◌, List, [], ◌∷◌, ◌++◌, Option, Some, None, refl, sym, ap, ◌∙◌}
+use Rattle.std.proofs.Common.{◌≡◌, ℕ, Bool, true, false, ◌||◌, List, [], ◌∷◌, ◌++◌, Option, Some, None, refl, sym, ap, ◌∙◌}
 use Rattle.std.specs.Prelude.{slice_get, zip}
 use Rattle.std.specs.List.{AllByRecursion}
 use Rattle.std.specs.Option.{option_or}
@@ -14,13 +14,7 @@ use Rattle.so_state.specs.declared.choice.RowKind.{RowKind}
 use Rattle.so_state.specs.declared.choice.RowKind.TheVariants.{Run, Switch, Transfer, Suppress, Dead}
 use Rattle.so_state.specs.States.{same_state, is_on}
 use Rattle.so_state.specs.Choice.{is_dead, answers_in, answers_dead, row_in, dead_row, answering, choice_of, choice_at, choice_by, IsAnswer}
-use Rattle.so_state.proofs.Lists.{or_right, position-element}
-
-zip-get : {X Y : Type 0} (xs : List X) (ys : List Y) (k : ℕ) (pair : X × Y) → slice_get (zip xs ys) k ≡ Some pair → (slice_get xs k ≡ Some pair.0) × (slice_get ys k ≡ Some pair.1)
-zip-get [] ys k pair e = cc
-zip-get (x ∷ xs) [] k pair e = cc
-zip-get (x ∷ xs) (y ∷ ys) zero pair e = let same : (x, y) ≡ pair = cc in (ap (λ w. Some w.0) same, ap (λ w. Some w.1) same)
-zip-get (x ∷ xs) (y ∷ ys) (suc k) pair e = zip-get xs ys k pair e
+use Rattle.so_state.proofs.Lists.{zip-get, or_right, position-element}
 
 module _ (rows : List Row) (active : List Bool) (mbox : MboxId) (msg : MsgId) where
   -- a state that has a row decides, where none before it has one

@@ -2,16 +2,14 @@
 use Rattle.std.proofs.Common.{◌≡◌, ℕ, zero, suc, ◌+◌, ◌<◌, ◌≤◌, ◌⊎◌, inl, inr, ⊎_elim, Bool, true, false, List, ◌++◌, length, Option, Some, None, arith, refl, sym, ap, subst, ◌∙◌}
 use Rattle.std.specs.Prelude.{cond, find, map}
 use Rattle.std.specs.List.{range_with_len}
-use Rattle.std.specs.Option.{option_or}
 use Rattle.std.proofs.lemmas.Bool.{cases_lt, cases_order, and_parts, and_from, ltb-true, leb-true, lt-ltb, le-leb}
-use Rattle.std.proofs.lemmas.List.Folds.{find-append}
 use Rattle.so_ids.specs.declared.StateId.{StateId}
 use Rattle.so_state.specs.declared.states.State.{State}
 use Rattle.so_state.specs.declared.faults.TreeFault.{TreeFault}
 use Rattle.so_state.specs.declared.faults.TreeFault.TheVariants.{UnknownState, CycleOfParents, TooDeep, NoInitial, TwoInitials}
 use Rattle.so_state.specs.States.{number_of, declared, is_declared}
 use Rattle.so_state.specs.Fault.{breaks, named, rule_of, ComesBefore, IsFirstFault, tree_fault}
-use Rattle.so_state.proofs.Lists.{find-append_none}
+use Rattle.so_state.proofs.Lists.{find-append_some, find-append_none}
 use Rattle.so_state.proofs.TreeFacts.{declared_faults-none}
 
 -- the fault of the rule at place k
@@ -129,13 +127,6 @@ found_first states k fault few clear found =
           ap (breaks states) (sym itself) ∙ least.least (named other) low less)
           before;
     }
-
-option_or-some : {A : Type 0} (a b : Option A) (x : A) → option_or a b ≡ Some x → (a ≡ Some x) ⊎ ((a ≡ None) × (b ≡ Some x))
-option_or-some None b x e = inr (refl, e)
-option_or-some (Some y) b x e = inl e
-
-find-append_some : {X : Type 0} (p : X → Bool) (xs ys : List X) (x : X) → find p (xs ++ ys) ≡ Some x → (find p xs ≡ Some x) ⊎ ((find p xs ≡ None) × (find p ys ≡ Some x))
-find-append_some p xs ys x e = option_or-some (find p xs) (find p ys) x (sym (find-append p xs ys) ∙ e)
 
 -- the faults of the first k + 1 rules
 faults_to : List State → ℕ → List TreeFault

@@ -1,5 +1,4 @@
 pub mod Lists
-pub mod Finds
 pub mod Walk
 pub mod Padded
 pub mod TreeFacts

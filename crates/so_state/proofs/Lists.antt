@@ -1,7 +1,7 @@
 -- General facts on lists and options.
-use Rattle.std.proofs.Common.{◌≡◌, ℕ, suc, ◌+◌, ◌<◌, ◌≤◌, ⊎_elim, Bool, true, false, ◌||◌, List, [], ◌∷◌, ◌++◌, length, Option, Some, None, arith, refl, sym, ap, subst, ◌∙◌}
-use Rattle.std.specs.Prelude.{cond, fold, not, nat_lt, slice_get, find, filter, reverse, position, count_by}
-use Rattle.std.specs.List.{AllByRecursion, list_any, position_or_len}
+use Rattle.std.proofs.Common.{◌≡◌, ℕ, zero, suc, ◌+◌, ◌-◌, ◌&&◌, ◌<◌, ◌≤◌, ◌⊎◌, inl, inr, ⊎_elim, Bool, true, false, ◌||◌, List, [], ◌∷◌, ◌++◌, length, Option, Some, None, arith, refl, sym, ap, subst, ◌∙◌}
+use Rattle.std.specs.Prelude.{cond, fold, not, nat_lt, slice_get, find, filter, reverse, position, count_by, zip}
+use Rattle.std.specs.List.{AllByRecursion, list_any, position_or_len, range_with_len}
 use Rattle.std.specs.Option.{option_or}
 use Rattle.std.proofs.lemmas.Bool.{lt-ltb, ltb-true}
 use Rattle.std.proofs.lemmas.Option.{cond_some, slice_get_cases}
@@ -15,11 +15,21 @@ pub option_or-none : {A : Type 0} (a b : Option A) → option_or a b ≡ None �
 option_or-none None b h = (refl, h)
 option_or-none (Some x) b h = cc
 
+pub option_or-some : {A : Type 0} (a b : Option A) (x : A) → option_or a b ≡ Some x → (a ≡ Some x) ⊎ ((a ≡ None) × (b ≡ Some x))
+option_or-some None b x e = inr (refl, e)
+option_or-some (Some y) b x e = inl e
+
 pub cond-none : {X : Type 0} (b : Bool) (x : X) (o : Option X) → cond b (Some x) o ≡ None → (b ≡ false) × (o ≡ None)
 cond-none true x o h = cc
 cond-none false x o h = (refl, h)
 
 -- ---- tests
+
+pub and_swap : (a b : Bool) → (a && b) ≡ (b && a)
+and_swap true true = refl
+and_swap true false = refl
+and_swap false true = refl
+and_swap false false = refl
 
 pub or_false : (a b : Bool) → (a || b) ≡ false → (a ≡ false) × (b ≡ false)
 or_false true b h = cc
@@ -42,6 +52,9 @@ back_false false b more h = refl
 
 pub find-append_none : {X : Type 0} (p : X → Bool) (xs ys : List X) → find p (xs ++ ys) ≡ None → (find p xs ≡ None) × (find p ys ≡ None)
 find-append_none p xs ys none = option_or-none (find p xs) (find p ys) (sym (find-append p xs ys) ∙ none)
+
+pub find-append_some : {X : Type 0} (p : X → Bool) (xs ys : List X) (x : X) → find p (xs ++ ys) ≡ Some x → (find p xs ≡ Some x) ⊎ ((find p xs ≡ None) × (find p ys ≡ Some x))
+find-append_some p xs ys x e = option_or-some (find p xs) (find p ys) x (sym (find-append p xs ys) ∙ e)
 
 first_passes : {X : Type 0} (b : Bool) (p : X → Bool) (y x : X) (rest : Option X) → p y ≡ b → (rest ≡ Some x → p x ≡ true) → cond b (Some y) rest ≡ Some x → p x ≡ true
 first_passes true p y x rest e later found = let same : y ≡ x = cc in rw (← same) e
@@ -143,3 +156,25 @@ list_any-reverse p (x ∷ xs) =
     ap (list_any p) (reverse-append (x ∷ []) xs)
     ∙ (list_any-append p (reverse xs) (x ∷ [])
     ∙ (ap (λ b. b || (p x || false)) (list_any-reverse p xs) ∙ or_swap (list_any p xs) (p x)))
+
+pub second_half : {X : Type 0} (P : X → Type 0) (front rest : List X) → AllByRecursion P (front ++ rest) → AllByRecursion P rest
+second_half P [] rest all = all
+second_half P (x ∷ front) rest all = second_half P front rest all.1
+
+-- ---- pairs and numbers
+
+pub zip-get : {X Y : Type 0} (xs : List X) (ys : List Y) (k : ℕ) (pair : X × Y) → slice_get (zip xs ys) k ≡ Some pair → (slice_get xs k ≡ Some pair.0) × (slice_get ys k ≡ Some pair.1)
+zip-get [] ys k pair e = cc
+zip-get (x ∷ xs) [] k pair e = cc
+zip-get (x ∷ xs) (y ∷ ys) zero pair e = let same : (x, y) ≡ pair = cc in (ap (λ w. Some w.0) same, ap (λ w. Some w.1) same)
+zip-get (x ∷ xs) (y ∷ ys) (suc k) pair e = zip-get xs ys k pair e
+
+-- with numbers left, the next one is first
+pub range_with_len-left : (n k : ℕ) → k < n → range_with_len k (n - k) ≡ k ∷ range_with_len (k + 1) (n - (k + 1))
+range_with_len-left n k h =
+    let e : n - k ≡ suc (n - (k + 1)) = omega arith in
+    ap (λ m. range_with_len k m) e
+
+pub ruleset finds = (find-append)
+
+pub ruleset numbers = (range_with_len-left)

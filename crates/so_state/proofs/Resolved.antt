@@ -195,3 +195,36 @@ initial_substate states s initial (Some k) place e =
 -- a state with an initial substate is composite
 pub composite_with_initial : (states : List State) (s initial : StateId) → initial_of states s ≡ Some initial → is_composite states s ≡ true
 composite_with_initial states s initial first = initial_substate states s initial (position (is_initial_of s) states) refl first
+
+-- ---- the steps down are enough
+
+module _ (states : List State) (f g : StateId → StateId) (s : StateId) (same : (c : StateId) → parent_of states c ≡ Some s → f c ≡ g c) where
+  toward_alike : (low initial : StateId) (o : Option StateId) → toward states s low ≡ o → initial_of states s ≡ Some initial → f (unwrap_or o initial) ≡ g (unwrap_or o initial)
+  toward_alike low initial None e first = same initial (initial_of-parent states s initial first)
+  toward_alike low initial (Some c) e first = same c (this_is s (parent_of states c) (find-passes (λ t. is_this s (parent_of states t)) (path states low) c e))
+
+  down_by_alike : (history : History) (newest : Option StateId) (initial : StateId) → initial_of states s ≡ Some initial → down_by f states s history newest initial ≡ down_by g states s history newest initial
+  down_by_alike NoHistory newest initial first = same initial (initial_of-parent states s initial first)
+  down_by_alike Shallow None initial first = same initial (initial_of-parent states s initial first)
+  down_by_alike Shallow (Some low) initial first = toward_alike low initial (toward states s low) refl first
+  down_by_alike Deep None initial first = same initial (initial_of-parent states s initial first)
+  down_by_alike Deep (Some low) initial first = refl
+
+  down_alike : (newest o : Option StateId) → initial_of states s ≡ o → down f states s newest o ≡ down g states s newest o
+  down_alike newest None first = refl
+  down_alike newest (Some initial) first = down_by_alike (history_of states s) newest initial first
+
+stays_by : (states : List State) (s : StateId) (newest o : Option StateId) → initial_of states s ≡ o → is_leaf states s ≡ true → down (λ t. t) states s newest o ≡ s
+stays_by states s newest None first leaf = refl
+stays_by states s newest (Some initial) first leaf = let e : true ≡ false = sym leaf ∙ ap not (composite_with_initial states s initial first) in cc
+
+resolve_within-settled : (n : ℕ) (states : List State) (newest : StateId → Option StateId) (s : StateId) → IsTree states → length states ≤ length (ancestors states s) + n → resolve_within (suc n) states newest s ≡ resolve_within n states newest s
+resolve_within-settled zero states newest s tree enough = stays_by states s (newest s) (initial_of states s) refl (bottom_leaf states s tree (omega arith))
+resolve_within-settled (suc n) states newest s tree enough =
+    down_alike states (resolve_within (suc n) states newest) (resolve_within n states newest) s
+    (λ c up. resolve_within-settled n states newest c tree (omega (arith, deeper states s c tree up)))
+    (newest s) (initial_of states s) refl
+
+-- a state stands for itself, or for what the next state down stands for
+pub resolve-down : (states : List State) (leaves : List StateId) (s : StateId) → IsTree states → resolve states leaves s ≡ down (resolve states leaves) states s (newest_below states leaves s) (initial_of states s)
+resolve-down states leaves s tree = sym (resolve_within-settled (length states) states (newest_below states leaves) s tree (omega arith))

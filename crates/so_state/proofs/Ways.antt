@@ -11,7 +11,7 @@ use Rattle.so_state.specs.declared.states.State.{State}
 use Rattle.so_state.specs.States.{same_state, is_on, parent_of, path}
 use Rattle.so_state.specs.Fault.{IsTree}
 use Rattle.so_state.specs.Plan.{exits, enters, staying}
-use Rattle.so_state.proofs.Lists.{or_right, filter_on, filter_off, filter-all, filter-none, filter-alike, map_all, list_any-reverse}
+use Rattle.so_state.proofs.Lists.{second_half, and_swap, or_right, filter_on, filter_off, filter-all, filter-none, filter-alike, map_all, list_any-reverse}
 use Rattle.so_state.proofs.Ancestry.{same_state-refl, same_state-true, same_state-symm, apart_from, path-distinct, path-below, path-top}
 use Rattle.so_state.proofs.Resolved.{after, path_ends}
 
@@ -26,10 +26,6 @@ all_on (x ∷ xs) =
 not_on : (s : StateId) (xs : List StateId) → AllByRecursion (λ y. same_state s y ≡ false) xs → is_on xs s ≡ false
 not_on s [] apart = refl
 not_on s (y ∷ ys) apart = ap (λ b. b || is_on ys s) apart.0 ∙ not_on s ys apart.1
-
-second_half : {X : Type 0} (P : X → Type 0) (front rest : List X) → AllByRecursion P (front ++ rest) → AllByRecursion P rest
-second_half P [] rest all = all
-second_half P (x ∷ front) rest all = second_half P front rest all.1
 
 -- where no state comes twice, the front has none of the rest
 front_apart : (front rest : List StateId) → IsDistinct same_state (front ++ rest) → AllByRecursion (λ x. is_on rest x ≡ false) front
@@ -107,12 +103,6 @@ path-enters states from leaf tree =
     (paths_split states from leaf tree).right ∙ ap (λ l. l ++ staying states from leaf) (sym (reverse-reverse (filter (λ s. not (is_on (path states from) s)) (path states leaf))))
 
 -- ---- which states they are
-
-and_swap : (a b : Bool) → (a && b) ≡ (b && a)
-and_swap true true = refl
-and_swap true false = refl
-and_swap false true = refl
-and_swap false false = refl
 
 on_outside : (xs ys : List StateId) (s : StateId) → is_on (filter (λ t. not (is_on ys t)) xs) s ≡ (is_on xs s && not (is_on ys s))
 on_outside xs ys s = any-filter_same (same_state s) (λ t. not (is_on ys t)) (not (is_on ys s)) (λ t same. ap (λ k. not (is_on ys k)) (sym (same_state-true s t same))) xs ∙ and_swap (not (is_on ys s)) (is_on xs s)

@@ -47,7 +47,7 @@ fn fault_of(rule: Rule, s: StateId) -> TreeFault
 }
 
 /// The first fault of a list of states: of the first rule that one breaks, at the least that does.
-#[tactic(auto, using(crate::proofs::Finds::finds), unfolding(crate::specs::Fault::tree_fault))]
+#[tactic(auto, using(crate::proofs::Lists::finds), unfolding(crate::specs::Fault::tree_fault))]
 pub(crate) fn tree_fault(states: &[State]) -> Option<TreeFault>
     requires { length states.now ≤ 63 }
     ensures { result ≡ tree_fault states.now }
@@ -59,8 +59,8 @@ pub(crate) fn tree_fault(states: &[State]) -> Option<TreeFault>
         .or_else(|| least(states, Rule::OneInitial))
 }
 
-#[tactic(auto, using(crate::proofs::Finds::numbers))]
 /// The rule's fault at the least state that breaks it.
+#[tactic(auto, using(crate::proofs::Lists::numbers))]
 fn least(states: &[State], rule: Rule) -> Option<TreeFault>
     requires { length states.now ≤ 63 }
     ensures { result ≡ find (breaks states.now) (map (fault_of rule) (declared states.now)) }

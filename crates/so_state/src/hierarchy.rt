@@ -1,6 +1,6 @@
 //! A checked list of states, and what can be read of it.
 
-ghost use Rattle.std.specs.Prelude.{◌≡◌, ◌<◌, ◌≤◌, [], All, length, vec_len};
+ghost use Rattle.std.specs.Prelude.{◌≡◌, ◌<◌, ◌≤◌, ◌↔◌, [], All, IsTrue, length, vec_len};
 ghost use Rattle.so_state.specs.Fault.{checked, IsTree};
 
 use crate::faults::{TreeFault, tree_fault};
@@ -41,8 +41,8 @@ impl Tree {
         }
     }
 
-    #[tactic(auto, using(crate::proofs::TreeFacts::flats))]
     /// The tree of an agent that declares no state, and so is always in `default`.
+    #[tactic(auto, using(crate::proofs::TreeFacts::flats))]
     pub fn flat(alloc: Global) -> Tree
         ensures { result ≡ [] }
     {
@@ -78,6 +78,13 @@ impl Tree {
         ensures few { result ≤ 63 }
     {
         self.states.len()
+    }
+
+    /// Tells whether the agent declares no state.
+    pub fn is_empty(&self) -> bool
+        ensures { IsTrue result ↔ (self.now ≡ []) }
+    {
+        self.states.is_empty()
     }
 
     /// What was declared of a state, `None` exactly where it isn't declared.

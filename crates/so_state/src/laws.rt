@@ -11,7 +11,7 @@ ghost use Rattle.so_state.specs.declared.faults.TreeFault.{TreeFault};
 ghost use Rattle.so_state.specs.declared.choice.Row.{Row};
 ghost use Rattle.so_state.specs.States.{same_state, is_on, is_declared, is_composite, is_leaf, parent_of, limit_of, initial_of, path, is_or_below};
 ghost use Rattle.so_state.specs.Fault.{named, breaks, tree_fault, IsTree, IsFirstFault};
-ghost use Rattle.so_state.specs.Plan.{resolve, exits, enters, staying, padded, plan};
+ghost use Rattle.so_state.specs.Plan.{newest_below, down, resolve, exits, enters, staying, padded, plan};
 ghost use Rattle.so_state.specs.Choice.{row_in, dead_row, answering, choice_at, choice_by, chosen, IsAnswer};
 
 // ---- trees
@@ -72,6 +72,18 @@ pub fn a_composite_state_has_an_initial_substate()
 {}
 
 // ---- switches
+
+/// A state without substates stands for itself. A composite state stands for what the next state down
+/// stands for: by its history the leaf last entered below it, the substate last entered, or the initial
+/// substate.
+pub fn a_state_stands_for_what_the_next_one_down_does()
+    ensures {
+        (states : List State) (leaves : List StateId) (s : StateId) → IsTree states →
+        resolve states leaves s ≡
+        down (resolve states leaves) states s (newest_below states leaves s) (initial_of states s)
+    }
+{
+}
 
 /// A switch ends in a leaf, where those entered so far were leaves.
 pub fn a_switch_ends_in_a_leaf()

@@ -35,15 +35,6 @@ impl StateList {
         &self.list[..self.used]
     }
 
-    /// How many states there are.
-    #[tactic(auto, using(crate::proofs::Padded::pads))]
-    pub fn len(&self) -> usize
-        ensures count { result ≡ length self.now }
-        ensures fits { result ≤ 16 }
-    {
-        self.used
-    }
-
     pub(crate) fn new() -> StateList
         ensures { result ≡ [] }
     {

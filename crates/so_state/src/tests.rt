@@ -197,13 +197,12 @@ fn a_tree_tells_of_its_states(rt: HostRuntime) -> Result<(), Fail> {
         [StateId(5), StateId(3), StateId(1)].as_slice()
     );
     let down = tree.path_down(StateId(5));
-    assert_eq!(rt; down.len(), 3);
     assert_eq!(rt;
         down.as_slice(),
         [StateId(1), StateId(3), StateId(5)].as_slice()
     );
     assert_eq!(rt; tree.into_states().len(), 6);
-    assert_eq!(rt; Tree::flat(rt.alloc()).len(), 0);
+    assert!(rt; Tree::flat(rt.alloc()).is_empty());
     Ok(())
 }
 
