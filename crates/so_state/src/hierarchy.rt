@@ -112,20 +112,14 @@ impl Tree {
     pub fn history(&self, s: StateId) -> History
         ensures { result ≡ history_of self.now s }
     {
-        match self.state(s) {
-            None => History::None,
-            Some(state) => state.history,
-        }
+        self.state(s).map_or(History::None, |state| state.history)
     }
 
     /// The time limit of a state, in milliseconds, and the state to switch to.
     pub fn limit(&self, s: StateId) -> Option<(u32, StateId)>
         ensures { result ≡ limit_of self.now s }
     {
-        match self.state(s) {
-            None => None,
-            Some(state) => state.limit,
-        }
+        self.state(s)?.limit
     }
 
     /// Tells whether a state has no substate, and so can be an agent's current state.

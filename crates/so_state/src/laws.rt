@@ -77,13 +77,10 @@ pub fn a_composite_state_has_an_initial_substate()
 /// stands for: by its history the leaf last entered below it, the substate last entered, or the initial
 /// substate.
 pub fn a_state_stands_for_what_the_next_one_down_does()
-    ensures {
-        (states : List State) (leaves : List StateId) (s : StateId) → IsTree states →
+    ensures { (states : List State) (leaves : List StateId) (s : StateId) → IsTree states →
         resolve states leaves s ≡
-        down (resolve states leaves) states s (newest_below states leaves s) (initial_of states s)
-    }
-{
-}
+        down (resolve states leaves) states s (newest_below states leaves s) (initial_of states s) }
+{}
 
 /// A switch ends in a leaf, where those entered so far were leaves.
 pub fn a_switch_ends_in_a_leaf()
@@ -148,7 +145,7 @@ pub fn a_common_ancestor_stays()
         is_on (path states leaf) s ≡ true → is_on (enters states from leaf) s ≡ false }
 {}
 
-/// The first places of a plan are its states, and the others are state 0.
+/// The list of states that a plan shows is the first of its sixteen places.
 pub fn a_plan_shows_its_states()
     ensures used { (list : List StateId) → take (length list) (padded list) ≡ list }
     ensures places { (list : List StateId) → length list ≤ 16 → length (padded list) ≡ 16 }
@@ -159,7 +156,8 @@ pub fn a_plan_shows_its_states()
 /// The first state from the leaf upwards that has an active row for the event decides, whatever rows the
 /// states above it and the dead letters have: a row that suppresses ends the search as any other does.
 pub fn the_nearest_state_with_a_row_decides()
-    ensures { (states : List State) (rows : List Row) (active : List Bool) (leaf : StateId) (mbox : MboxId) (msg : MsgId) (inner outer : List StateId) (s : StateId) (k : ℕ) →
+    ensures { (states : List State) (rows : List Row) (active : List Bool)
+        (leaf : StateId) (mbox : MboxId) (msg : MsgId) (inner outer : List StateId) (s : StateId) (k : ℕ) →
         path states leaf ≡ inner ++ s ∷ outer →
         All (λ t. row_in rows active mbox msg t ≡ None) inner →
         row_in rows active mbox msg s ≡ Some k →
@@ -168,21 +166,25 @@ pub fn the_nearest_state_with_a_row_decides()
 
 /// A dead-letter row is looked for only where neither the leaf nor a state above it has a row.
 pub fn a_dead_letter_row_answers_where_no_state_has_a_row()
-    ensures { (states : List State) (rows : List Row) (active : List Bool) (leaf : StateId) (mbox : MboxId) (msg : MsgId) →
+    ensures { (states : List State) (rows : List Row) (active : List Bool)
+        (leaf : StateId) (mbox : MboxId) (msg : MsgId) →
         All (λ t. row_in rows active mbox msg t ≡ None) (path states leaf) →
         chosen states rows active leaf mbox msg ≡ choice_by rows (dead_row rows active mbox msg) }
 {}
 
-/// The row that answers is active and for the event, and it is a dead-letter row or one of the leaf or of a
-/// state above it.
+/// The row that answers is active and for the event, and it is a dead-letter row or one of the leaf or of
+/// a state above it.
 pub fn a_row_that_answers_is_active_and_for_the_event()
-    ensures { (states : List State) (rows : List Row) (active : List Bool) (leaf : StateId) (mbox : MboxId) (msg : MsgId) (k : ℕ) →
+    ensures { (states : List State) (rows : List Row) (active : List Bool)
+        (leaf : StateId) (mbox : MboxId) (msg : MsgId) (k : ℕ) →
         answering rows active mbox msg (path states leaf) ≡ Some k →
         IsAnswer rows active mbox msg (path states leaf) k }
 {}
 
 /// Nothing is chosen exactly where no row answers.
 pub fn nothing_is_chosen_exactly_where_no_row_answers()
-    ensures { (states : List State) (rows : List Row) (active : List Bool) (leaf : StateId) (mbox : MboxId) (msg : MsgId) →
-        (chosen states rows active leaf mbox msg ≡ Chosen.Nothing) ↔ (answering rows active mbox msg (path states leaf) ≡ None) }
+    ensures { (states : List State) (rows : List Row) (active : List Bool)
+        (leaf : StateId) (mbox : MboxId) (msg : MsgId) →
+        (chosen states rows active leaf mbox msg ≡ Chosen.Nothing) ↔
+        (answering rows active mbox msg (path states leaf) ≡ None) }
 {}

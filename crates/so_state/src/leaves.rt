@@ -38,10 +38,7 @@ impl Memory {
     pub(crate) fn newest_below(&self, s: StateId) -> Option<StateId>
         ensures { result ≡ kept self.now s }
     {
-        match self.last.get(s.0 as usize) {
-            None => None,
-            Some(leaf) => *leaf,
-        }
+        *self.last.get(s.0 as usize)?
     }
 }
 

@@ -55,10 +55,7 @@ pub(crate) fn state_of(states: &[State], s: StateId) -> Option<State>
 pub(crate) fn parent_of(states: &[State], s: StateId) -> Option<StateId>
     ensures { result ≡ parent_of states.now s }
 {
-    match state_of(states, s) {
-        None => None,
-        Some(state) => state.parent,
-    }
+    state_of(states, s)?.parent
 }
 
 /// Tells whether this is what was declared of a substate of `s`.
