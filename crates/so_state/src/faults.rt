@@ -1,7 +1,7 @@
 //! The five rules that a list of states is checked by.
 
-ghost use Rattle.std.specs.Prelude.{◌≡◌, ◌≤◌, length, map, find, List};
-ghost use Rattle.so_state.specs.States.{declared, depth, is_below, state_of};
+ghost use Rattle.std.specs.Prelude.{◌≡◌, ◌≤◌, length, map, find};
+ghost use Rattle.so_state.specs.States.{declared, depth, is_below};
 ghost use Rattle.so_state.specs.Fault.{is_known_parent, is_known_limit, names_known_states, initials, breaks, tree_fault};
 ghost use Rattle.so_state.specs.Rules.{fault_of};
 

@@ -69,7 +69,7 @@ impl Tree {
 }
 
 impl Tree {
-    ghost use Rattle.so_state.specs.States.{state_of, parent_of, initial_of, history_of, limit_of, is_composite, is_leaf, is_below, is_or_below, ancestors, path};
+    ghost use Rattle.so_state.specs.States.{state_of, parent_of, initial_of, history_of, limit_of, is_leaf, is_or_below, ancestors, path};
     ghost use Rattle.std.specs.Prelude.{reverse};
 
     /// How many states are declared.

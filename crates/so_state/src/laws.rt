@@ -1,6 +1,6 @@
 //! What a reader may rely on, as laws: each function's clause is the law, and there is nothing to run.
 
-ghost use Rattle.std.specs.Prelude.{◌≡◌, ℕ, ◌≤◌, ◌↔◌, All, Bool, true, false, not, ◌&&◌, List, [], ◌∷◌, ◌++◌, length, take, reverse, Option, Some, None, IfSome, IsSome, IsNone, MatchOption, is_some};
+ghost use Rattle.std.specs.Prelude.{◌≡◌, ℕ, ◌≤◌, ◌↔◌, All, Bool, true, false, not, ◌&&◌, List, [], ◌∷◌, ◌++◌, length, take, reverse, Some, None, IfSome, MatchOption, is_some};
 ghost use Rattle.std.specs.List.{IsDistinct};
 ghost use Rattle.so_ids.specs.declared.StateId.{StateId};
 ghost use Rattle.so_ids.specs.declared.MboxId.{MboxId};
@@ -12,7 +12,7 @@ ghost use Rattle.so_state.specs.declared.choice.Row.{Row};
 ghost use Rattle.so_state.specs.States.{same_state, is_on, is_declared, is_composite, is_leaf, parent_of, limit_of, initial_of, path, is_or_below};
 ghost use Rattle.so_state.specs.Fault.{named, breaks, tree_fault, IsTree, IsFirstFault};
 ghost use Rattle.so_state.specs.Plan.{newest_below, down, resolve, exits, enters, staying, padded, plan};
-ghost use Rattle.so_state.specs.Choice.{row_in, dead_row, answering, choice_at, choice_by, chosen, IsAnswer};
+ghost use Rattle.so_state.specs.Choice.{row_in, dead_row, answering, choice_by, chosen, IsAnswer};
 
 // ---- trees
 

@@ -3,7 +3,7 @@
 ghost use Rattle.std.specs.Prelude.{◌≡◌, List, length};
 ghost use Rattle.so_ids.specs.declared.StateId.{StateId as StateNumber};
 ghost use Rattle.so_state.specs.Memory.{kept, StandsFor};
-ghost use Rattle.so_state.specs.Plan.{toward, down_by, resolve_within, exits, enters, plan_of, plan_to, plan};
+ghost use Rattle.so_state.specs.Plan.{toward, resolve_within, exits, enters, plan_of, plan_to, plan};
 
 use crate::hierarchy::Tree;
 use crate::leaves::Memory;
