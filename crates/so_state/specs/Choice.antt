@@ -45,7 +45,7 @@ abbrev pub answering : List Row → List Bool → MboxId → MsgId → List Stat
 answering rows active mbox msg [] = dead_row rows active mbox msg
 answering rows active mbox msg (s ∷ outer) = option_or (row_in rows active mbox msg s) (answering rows active mbox msg outer)
 
--- what a row of this number, state and kind chooses
+-- what a row of this number, state and kind chooses: a transfer comes from the state that declares it
 abbrev pub choice_of : RowId → StateId → RowKind → Chosen
 choice_of number s Run = chose.Run number
 choice_of number s (Switch to) = chose.Switch to

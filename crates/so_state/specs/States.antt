@@ -1,6 +1,6 @@
 -- States and their hierarchy, over the list of the declared states. The first of the list is state 1,
 -- the second state 2; state 0 is `default`, which no list holds. Each definition has a value at every
--- number: a state that is not declared has no parent, no substate, no history and no time limit.
+-- number: a state that is not declared has no parent, no history and no time limit.
 use Rattle.std.specs.Prelude.{ℕ, zero, suc, ◌+◌, Bool, false, ◌&&◌, ◌==◌, not, nat_lt, nat_le, List, [], ◌∷◌, length, slice_get, Option, Some, None, map, position}
 use Rattle.std.specs.List.{list_any, range_with_len}
 use Rattle.std.specs.Option.{option_map, option_and_then, option_map_or}
@@ -15,16 +15,18 @@ default_state = record { 0 = 0 }
 abbrev pub same_state : StateId → StateId → Bool
 same_state a b = a.0 == b.0
 
+-- there is another state, and it is s
 abbrev pub is_this : StateId → Option StateId → Bool
 is_this s None = false
 is_this s (Some other) = same_state other s
 
+-- the list holds s
 abbrev pub is_on : List StateId → StateId → Bool
 is_on list s = list_any (same_state s) list
 
 -- ---- the declared states
 
--- the state behind the element k of the list
+-- the state that the element k of the list, from 0, declares
 abbrev pub number_of : ℕ → StateId
 number_of k = record { 0 = k + 1 }
 
@@ -39,7 +41,7 @@ abbrev pub state_numbered : List State → ℕ → Option State
 state_numbered states zero = None
 state_numbered states (suc k) = slice_get states k
 
--- what was declared of a state
+-- what was declared of a state, if it was
 abbrev pub state_of : List State → StateId → Option State
 state_of states s = state_numbered states s.0
 
