@@ -1,0 +1,12 @@
+pub mod Lists
+pub mod Walk
+pub mod Padded
+pub mod TreeFacts
+pub mod Ancestry
+pub mod Resolved
+pub mod Ways
+pub mod FirstFault
+pub mod Answering
+pub mod Kept
+pub mod Down
+pub mod Along
