@@ -8,7 +8,7 @@ use Rattle.so_book.specs.declared.book.Book.{Book}
 use Rattle.so_book.specs.declared.book.Pass.{Pass}
 use Rattle.so_book.specs.declared.view.Note.{Note}
 use Rattle.so_book.specs.History.{Began, signed_by}
-use Rattle.so_book.specs.Rule.{note, EachNote, told_notes}
+use Rattle.so_book.specs.Rule.{note, EachNote, first_note, told_notes}
 use Rattle.so_book.specs.Seats.{note_at}
 use Rattle.so_book.specs.Passes.{IsPassOf, party_of, ArePartiesFrom, IsKept}
 
@@ -18,6 +18,10 @@ module _ {E : Type 0} (signer : E → PartyId) where
 
   pub told_step : (now : List E) (i n : ℕ) → i < n → told_notes signer now i (n - i) ≡ note (numbered i) now (signed_by signer (numbered i) now) false ∷ told_notes signer now (i + 1) (n - (i + 1))
   told_step now i n l = let e : n - i ≡ suc (n - (i + 1)) = omega arith in ap (told_notes signer now i) e
+
+  pub told_first : (now : List E) (n : ℕ) → 0 < n → (first_note (told_notes signer now 0 n)).seen ≡ now
+  told_first now zero l = absurd (omega arith)
+  told_first now (suc n) l = refl
 
 module _ {A : Type 0} (P : A → Type 0) where
   pub all_front : (xs ys : List A) → All P (xs ++ ys) → All P xs

@@ -1,5 +1,5 @@
 -- Each step on the table of a book keeps its rule.
-use Rattle.std.proofs.Common.{◌≡◌, ◌≢◌, ℕ, zero, suc, ◌+◌, ◌^◌, ◌<◌, ◌≤◌, Bool, true, false, filter, cond, eqb, eq-eqb, ne_eqb, List, [], ◌∷◌, ◌++◌, length, get_or, set, sym, refl, ap, ◌∙◌, subst, inl, inr, ⊎_elim, arith, length-set, length-append, Option, Some, None}
+use Rattle.std.proofs.Common.{◌≡◌, ◌≢◌, ℕ, zero, suc, ◌+◌, ◌^◌, ◌<◌, ◌≤◌, Bool, true, false, ◌||◌, filter, cond, eqb, eq-eqb, ne_eqb, List, [], ◌∷◌, ◌++◌, length, get_or, set, sym, refl, ap, ◌∙◌, subst, inl, inr, ⊎_elim, arith, length-set, length-append, Option, Some, None}
 use Rattle.std.proofs.lemmas.Bool.{false≢true, le-leb, lt-leb}
 use Rattle.std.proofs.lemmas.List.Elements.{filter-append}
 use mathlib.Core.Logic.{dite}
@@ -45,8 +45,22 @@ marked_word n word false is m = absurd (false≢true m)
 
 -- a word that was read is marked just where the party knows of it
 pub read_mark : (word : ℕ) (b : Bool) → (b ≡ true → 2 ^ 32 ≤ word) → (b ≡ false → word < 2 ^ 32) → is_marked word ≡ b
-read_mark word true yes no = le-leb (2 ^ 32) word (yes refl)
-read_mark word false yes no = lt-leb (2 ^ 32) word (no refl)
+read_mark word true marks plain = le-leb (2 ^ 32) word (marks refl)
+read_mark word false marks plain = lt-leb (2 ^ 32) word (plain refl)
+
+or_true : (b : Bool) → (b || true) ≡ true
+or_true true = refl
+or_true false = refl
+
+-- the word that a party writes after the word that it found
+pub next_word : (before after len : ℕ) (last known : Bool) → (known ≡ true → 2 ^ 32 ≤ before) → (known ≡ false → before < 2 ^ 32) → len < 2 ^ 32 → after ≡ length_word len (last || is_marked before)
+    → (is_marked after ≡ (last || known)) × (after ≡ length_word len (is_marked after)) × (known ≡ true → is_marked after ≡ true) × (known ≡ true → 2 ^ 32 ≤ after)
+next_word before after len last known marks plain short is =
+    let found : is_marked before ≡ known = read_mark before known marks plain in
+    let word : after ≡ length_word len (last || known) = is ∙ ap (λ b. length_word len (last || b)) found in
+    let mark : is_marked after ≡ (last || known) = ap is_marked word ∙ mark_of len (last || known) short in
+    let stay : known ≡ true → (last || known) ≡ true = λ k. ap (λ b. last || b) k ∙ or_true last in
+    (mark, word ∙ ap (length_word len) (sym mark), (λ k. mark ∙ stay k), λ k. marked_word len after (last || known) word (stay k))
 
 module _ {A : Type 0} where
   pub only : (a b : A) (i : ℕ) → get_elem? (a ∷ []) i ≡ some b → a ≡ b
@@ -406,7 +420,7 @@ pub takes_value : {V E : Type 0} (history : V → List E) (signer : E → PartyI
     → (last : Bool) × Began x.seen (history w) × (signed_by signer x.party (history w) ≡ x.mine) × (x.last ≡ true → last ≡ true) × (m ≡ (view_of (note x.party (history w) x.mine last ∷ []) (Holds k), (0, Some w) ∷ []))
 unfolding last_value
 takes_value {V} {E} history signer k x m o w t is out = let p : t.0 ≡ w = ap (last_value t.0) (sym (ap (λ (n : Me (Option V) (View E)). n.1) t.5) ∙ is ∙ ap (λ q. (0, q) ∷ rest m.1) out) in
-    (t.1, subst (λ u. Began x.seen (history u) × (signed_by signer x.party (history u) ≡ x.mine) × (x.last ≡ true → t.1 ≡ true) × (m ≡ (view_of (note x.party (history u) x.mine t.1 ∷ []) (Holds k), (0, Some u) ∷ []))) p (t.2, t.3, t.4, t.5))
+    let out_of = subst (λ u. Began x.seen (history u) × (signed_by signer x.party (history u) ≡ x.mine) × (m ≡ (view_of (note x.party (history u) x.mine t.1 ∷ []) (Holds k), (0, Some u) ∷ []))) p (t.2, t.3, t.5) in (t.1, out_of.0, out_of.1, t.4, out_of.2)
 
 nothing : {A : Type 0} (xs ys : List A) → xs ++ ys ≡ ys → xs ≡ []
 nothing [] ys e = refl

@@ -6,7 +6,7 @@ ghost use Rattle.so_book.specs.Passes.{IsPassOf, party_of, seen_by, made_by, kno
 use crate::Chronicle;
 use crate::book::{Held, Pass};
 use crate::rule::{Give, Look, Write};
-use crate::words::{LENGTH, MARK, SERVING, length_word};
+use crate::words::{LENGTH, SERVING, word_after};
 
 impl<V: Chronicle> Held<'_, V> {
     /// Gives the value up. At most one entry was appended, which the party signed: each entry has a holding of its own.
@@ -51,7 +51,7 @@ impl<V: Chronicle> Held<'_, V> {
         let shared = &book.table.shared;
         let before = shared.load::<Look<V>>(&mut seat, LENGTH);
         let len = value.len();
-        let after = length_word(len, last || before >= MARK);
+        let after = word_after(before, len, last);
         let slot = shared.exchange(&mut seat, 0, Some(value));
         let None = slot else { unreachable!() };
         shared.store::<Write<V>>(&mut seat, LENGTH, after);

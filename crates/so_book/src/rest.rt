@@ -1,5 +1,5 @@
 //! How a party waits for others to go on.
-ghost use Rattle.std.specs.Prelude.{◌≡◌, ◌<◌, length, IfSome, IsNone, true};
+ghost use Rattle.std.specs.Prelude.{◌≡◌, ◌≤◌, IfSome, IsNone, true};
 ghost use Rattle.so_book.specs.Seats.{IsAtRest, IsSameSeat, note_at};
 ghost use Rattle.so_book.specs.Passes.{IsPassOf, party_of, seen_by, made_by, knows_last};
 

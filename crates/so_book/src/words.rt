@@ -1,5 +1,6 @@
 //! The words of a book's table.
-ghost use Rattle.so_book.specs.Rule.{length_word};
+ghost use Rattle.std.specs.Prelude.{◌≡◌, ◌||◌};
+ghost use Rattle.so_book.specs.Rule.{length_word, is_marked};
 
 /// The next ticket.
 pub(crate) const TICKET: usize = 0;
@@ -11,14 +12,15 @@ pub(crate) const SERVING: usize = 1;
 pub(crate) const LENGTH: usize = 2;
 
 /// A marked word is this or more.
-pub(crate) const MARK: u64 = 1 << 32;
+const MARK: u64 = 1 << 32;
 
-/// The word for a length. A thread that sleeps on a word compares its low 32 bits alone, so a marked word is one more:
-/// these bits then change as well, and no sleeper misses the mark.
-pub(crate) fn length_word(len: u32, marked: bool) -> u64
-    ensures { result ≡ length_word len marked }
+/// The word after a holding that found the word `before`, where the history now has this length: it is marked where it
+/// was or this is the last closing. A thread that sleeps on a word compares its low 32 bits alone, so a marked word is
+/// one more: these bits then change as well, and no sleeper misses the mark.
+pub(crate) fn word_after(before: u64, len: u32, last: bool) -> u64
+    ensures { result ≡ length_word len (last || is_marked before) }
 {
-    if marked {
+    if last || before >= MARK {
         MARK + u64::from(len) + 1
     } else {
         u64::from(len)
