@@ -22,8 +22,6 @@ mod lend;
 mod make;
 mod rest;
 mod rule;
-#[cfg(test)]
-mod tests;
 mod view;
 mod words;
 
