@@ -1,5 +1,5 @@
 -- Each step on the table of a book keeps its rule.
-use Rattle.std.proofs.Common.{◌≡◌, ◌≢◌, ℕ, zero, suc, ◌+◌, ◌^◌, ◌<◌, ◌≤◌, Bool, true, false, ◌||◌, filter, cond, eqb, eq-eqb, ne_eqb, List, [], ◌∷◌, ◌++◌, length, get_or, set, sym, refl, ap, ◌∙◌, subst, inl, inr, ⊎_elim, arith, length-set, length-append, Option, Some, None}
+use Rattle.std.proofs.Common.{◌≡◌, ◌≢◌, ℕ, zero, suc, ◌+◌, ◌^◌, ◌<◌, ◌≤◌, Bool, true, false, ◌||◌, cond, eqb, eq-eqb, ne_eqb, List, [], ◌∷◌, ◌++◌, length, get_or, set, sym, refl, ap, ◌∙◌, subst, inl, inr, ⊎_elim, arith, length-set, length-append, Option, Some, None}
 use Rattle.std.proofs.lemmas.Bool.{false≢true, le-leb, lt-leb}
 use Rattle.std.proofs.lemmas.List.Elements.{filter-append}
 use mathlib.Core.Logic.{dite}
@@ -16,7 +16,7 @@ use Rattle.so_book.specs.declared.view.Stage.{Stage}
 use Rattle.so_book.specs.declared.view.Stage.TheVariants.{Opens, Fills, Free, Waits, Holds, Wrote}
 use Rattle.so_book.specs.declared.view.View.{View}
 use Rattle.so_book.specs.History.{Began, Extends, signed_by, AddsAtMostOne, OthersAdded}
-use Rattle.so_book.specs.Rule.{note, view_of, note_count, total, EachNote, first_note, told, has_slot, has_written, wrote_mark, length_word, is_marked, Stands, IsTrueNote, IsHome, IsOut, IsThere, Runs, Kept, drew, Takes, served, looked, wrote, gave}
+use Rattle.so_book.specs.Rule.{note, view_of, note_count, total, EachNote, first_note, told, has_slot, has_written, length_word, is_marked, Stands, IsTrueNote, IsHome, IsOut, IsThere, Runs, Kept, drew, Takes, served, looked, wrote, gave}
 
 abbrev pub is_new : Stage → Bool
 is_new Opens = true

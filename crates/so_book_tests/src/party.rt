@@ -47,7 +47,13 @@ pub fn work<M: Machine, R: Wait>(rt: &R, book: &Book<M>, pass: Pass<M>, by: Part
 }
 
 /// Signs one number in the log, if it has room.
-pub fn sign<R: Wait>(rt: &R, book: &Book<Log>, pass: Pass<Log>, by: PartyId, number: u32) -> Pass<Log>
+pub fn sign<R: Wait>(
+    rt: &R,
+    book: &Book<Log>,
+    pass: Pass<Log>,
+    by: PartyId,
+    number: u32,
+) -> Pass<Log>
     requires { IsPassOf book.now pass × (party_of pass ≡ by) }
     ensures { IsPassOf book.now result × (party_of result ≡ by) }
 {
@@ -59,7 +65,13 @@ pub fn sign<R: Wait>(rt: &R, book: &Book<Log>, pass: Pass<Log>, by: PartyId, num
 }
 
 /// Signs the numbers from 0 on, this many, each under a holding of its own.
-pub fn sign_all<R: Wait>(rt: &R, book: &Book<Log>, pass: Pass<Log>, by: PartyId, count: u32) -> Pass<Log>
+pub fn sign_all<R: Wait>(
+    rt: &R,
+    book: &Book<Log>,
+    pass: Pass<Log>,
+    by: PartyId,
+    count: u32,
+) -> Pass<Log>
     requires { IsPassOf book.now pass × (party_of pass ≡ by) }
     ensures { IsPassOf book.now result × (party_of result ≡ by) }
 {
