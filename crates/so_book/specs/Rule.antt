@@ -101,19 +101,35 @@ module _ {E : Type 0} where
   module _ (signer : E → PartyId) (now : List E) (marked : Bool) (seat_of : ℕ → ℕ) (j : ℕ) where
     -- what the note says is so, and its party is the seat's
     abbrev pub IsTrueNote : Note E → Type 0
-    IsTrueNote x = (seat_of x.party.0 ≡ j) × Began x.seen now × (signed_by signer x.party now ≡ x.mine) × (x.last ≡ true → marked ≡ true)
+    IsTrueNote x =
+        (seat_of x.party.0 ≡ j)
+        × Began x.seen now
+        × (signed_by signer x.party now ≡ x.mine)
+        × (x.last ≡ true → marked ≡ true)
 
 module _ {V E : Type 0} (history : V → List E) (signer : E → PartyId) where
   -- the value is at home, has the history `now`, and the word says how long it is
   abbrev pub IsHome : List (maybe.Option (Option V)) → Bool → ℕ → List E → Bool → Type 0
-  IsHome homes away len now marked = (away ≡ false) × ((v : V) × (homes ≡ some (Some v) ∷ []) × (history v ≡ now)) × (len ≡ length_word (length now) marked)
+  IsHome homes away len now marked =
+      (away ≡ false)
+      × ((v : V) × (homes ≡ some (Some v) ∷ []) × (history v ≡ now))
+      × (len ≡ length_word (length now) marked)
 
   -- the seat that drew the ticket that is served has the value, and saw `now`. Until it writes the length, the word is as it was
   abbrev pub IsOut : List (View E) → (ℕ → ℕ) → Bool → ℕ → ℕ → List E → Bool → Type 0
-  IsOut views drawer away serving len now marked = (away ≡ true) × ((x : Note E) × (g : Stage) × (get_elem? views (drawer serving) ≡ some (view_of (x ∷ []) g)) × (has_slot g ≡ true) × (x.seen ≡ now) × (x.last ≡ marked) × (has_written g ≡ false → len ≡ length_word (length now) marked))
+  IsOut views drawer away serving len now marked =
+      (away ≡ true)
+      × ((x : Note E)
+      × (g : Stage)
+      × (get_elem? views (drawer serving) ≡ some (view_of (x ∷ []) g))
+      × (has_slot g ≡ true)
+      × (x.seen ≡ now)
+      × (x.last ≡ marked)
+      × (has_written g ≡ false → len ≡ length_word (length now) marked))
 
   abbrev pub IsThere : List (maybe.Option (Option V)) → List (View E) → (ℕ → ℕ) → Bool → ℕ → ℕ → List E → Bool → Type 0
-  IsThere homes views drawer away serving len now marked = IsHome homes away len now marked ⊎ IsOut views drawer away serving len now marked
+  IsThere homes views drawer away serving len now marked =
+      IsHome homes away len now marked ⊎ IsOut views drawer away serving len now marked
 
   -- The book is in use: `now` is its history, and `marked` says whether `close_last` was called.
   -- `seat_of` gives the seat of a party, and `drawer` the seat that drew a ticket
@@ -130,7 +146,8 @@ module _ {V E : Type 0} (history : V → List E) (signer : E → PartyId) where
     pub slot : length s.homes ≡ 1
     pub order : serving ≤ next
     pub short : length now < 2 ^ 32
-    pub each_view : (j : ℕ) (d : View E) → get_elem? s.views j ≡ some d → Stands drawer away serving next len j d.stage × EachNote (IsTrueNote signer now marked seat_of j) d.notes
+    pub each_view : (j : ℕ) (d : View E) → get_elem? s.views j ≡ some d
+        → Stands drawer away serving next len j d.stage × EachNote (IsTrueNote signer now marked seat_of j) d.notes
     pub there : IsThere s.homes s.views drawer away serving len now marked
     pub stays : marked ≡ true → 2 ^ 32 ≤ len
     pub counted : total note_count s.views ≡ seats
@@ -155,16 +172,25 @@ module _ {V E : Type 0} (history : V → List E) (signer : E → PartyId) where
   -- The seat took the value. Its history began with what was seen, and has just the party's entries that the note has.
   -- The seat learns whether `close_last` was called, and what it knew of that stays so
   abbrev pub Takes : ℕ → Note E → Sat → Type 0
-  Takes k x m' = (v : V) × (last : Bool) × Began x.seen (history v) × (signed_by signer x.party (history v) ≡ x.mine) × (x.last ≡ true → last ≡ true)
+  Takes k x m' =
+      (v : V)
+      × (last : Bool)
+      × Began x.seen (history v)
+      × (signed_by signer x.party (history v) ≡ x.mine)
+      × (x.last ≡ true → last ≡ true)
       × (m' ≡ (view_of (note x.party (history v) x.mine last ∷ []) (Holds k), (0, Some v) ∷ []))
 
   -- the value was taken, where the ticket found is the seat's own
   abbrev pub served : Step (Option V) → Sat → ℕ → Sat → Type 0
   served st m r m' = (m.0.stage ≡ Waits r → Takes r (first_note m.0.notes) m') × (m.0.stage ≢ Waits r → m' ≡ m)
 
-  -- The length's word was found. It is marked where the party knows that `close_last` was called, and no other word is found by the party that has the value
+  -- The length's word was found. It is marked where the party knows that `close_last` was called.
+  -- It isn't where the party has the value, and knows nothing of that
   abbrev pub looked : Step (Option V) → Sat → ℕ → Sat → Type 0
-  looked st m r m' = (m' ≡ m) × ((first_note m.0.notes).last ≡ true → 2 ^ 32 ≤ r) × ((k : ℕ) → m.0.stage ≡ Holds k → (first_note m.0.notes).last ≡ false → r < 2 ^ 32)
+  looked st m r m' =
+      (m' ≡ m)
+      × ((first_note m.0.notes).last ≡ true → 2 ^ 32 ≤ r)
+      × ((k : ℕ) → m.0.stage ≡ Holds k → (first_note m.0.notes).last ≡ false → r < 2 ^ 32)
 
   -- the length was written
   abbrev pub wrote : Step (Option V) → Sat → ℕ → Sat → Type 0
@@ -181,7 +207,9 @@ module _ {V E : Type 0} (history : V → List E) (signer : E → PartyId) where
 
   -- The value was given back. Its history is what the parties of the notes have seen, and they know whether the word is marked
   abbrev pub gave : Step (Option V) → Sat → ℕ → Sat → Type 0
-  gave st m r m' = (m' ≡ (view_of (map (told signer (last_history m.1) (wrote_mark m.0.stage)) m.0.notes) Free, [])) × EachNote (λ x. signed_by signer x.party x.seen ≡ x.mine) m.0.notes
+  gave st m r m' =
+      (m' ≡ (view_of (map (told signer (last_history m.1) (wrote_mark m.0.stage)) m.0.notes) Free, []))
+      × EachNote (λ x. signed_by signer x.party x.seen ≡ x.mine) m.0.notes
 
   -- the empty slot was taken
   abbrev pub opened : Step (Option V) → Sat → ℕ → Sat → Type 0

@@ -13,7 +13,8 @@ use std::alloc::Global;
 #[derive(Drop)]
 pub struct Book<V: Chronicle> {
     pub(crate) table: Table<Option<V>, View<V::Entry>, Start, Turns<V>, Global>,
-    ghost sized: { (table.shared.table_id.words ≡ 3) × (table.shared.table_id.slots ≡ 1) × (0 < table.shared.key.seats) },
+    ghost sized: { (table.shared.table_id.words ≡ 3) × (table.shared.table_id.slots ≡ 1) },
+    ghost some: { 0 < table.shared.key.seats },
 }
 
 /// The right of one party to wait for the value, and what the party knows of its history.

@@ -9,7 +9,8 @@ use crate::rule::Gather;
 impl<V: Chronicle> Book<V> {
     /// Gives the value back, for all passes of the book, each once.
     ///
-    /// Its history began with what each pass has seen, and has just the entries of its party that the pass made.
+    /// Its history began with what each pass has seen, and the entries of that party in it are just those
+    /// that the pass made, each once and in order.
     pub fn finish(self, mut passes: Vec<Pass<V>>) -> V
         requires passes { All (IsPassOf self) passes.items }
         requires all { length passes.items ≡ seats_of self }

@@ -3,7 +3,8 @@ ghost use Rattle.std.specs.Prelude.{◌≡◌, ◌+◌, ◌<◌, ◌^◌, true};
 ghost use Rattle.so_book.specs.History.{Began, signed_by, OthersAdded};
 ghost use Rattle.so_book.specs.Rule.{Takes};
 ghost use Rattle.so_book.specs.Seats.{IsAtRest, IsWaiting, IsSameSeat, note_at};
-ghost use Rattle.so_book.specs.Passes.{IsPassOf, party_of, seen_by, made_by, knows_last, holder_of, found_by, had_made, found_last, held_value, book_of};
+ghost use Rattle.so_book.specs.Passes.{IsPassOf, party_of, seen_by, made_by, knows_last};
+ghost use Rattle.so_book.specs.Passes.{holder_of, found_by, had_made, found_last, held_value, book_of};
 
 use crate::Chronicle;
 use crate::book::{Book, Held, Pass};
@@ -16,7 +17,8 @@ use std::sync::Wait;
 impl<V: Chronicle> Book<V> {
     /// Waits until the party is served, and hands out the value.
     ///
-    /// The history began with all that the pass has seen, and the party's entries in it are those that the pass made.
+    /// The history began with all that the pass has seen, and the party's entries in it are those that
+    /// the pass made.
     pub fn hold<R: Wait>(&self, rt: &R, pass: Pass<V>) -> Held<'_, V>
         requires { IsPassOf self.now pass }
         ensures seen { Began (seen_by pass) (V.history (held_value result)) }
@@ -42,10 +44,11 @@ impl<V: Chronicle> Book<V> {
         }
     }
 
-    // Draws a ticket. Once all 2^64 - 1 are drawn, it waits for ever, so that no number comes twice.
+    // Draws a ticket. Once all 2^64 - 1 are drawn it waits for ever, so that no number comes twice.
     fn draw<R: Wait>(&self, rt: &R, seat: &mut Seat<Option<V>, View<V::Entry>>) -> u64
         requires { (seat.old.table_id ≡ self.now.table.shared.table_id) × IsAtRest seat.old }
-        ensures { IsSameSeat seat.old seat.new × IsWaiting result seat.new × (note_at seat.new ≡ note_at seat.old) × (result + 1 < 2 ^ 64) }
+        ensures same { IsSameSeat seat.old seat.new × (note_at seat.new ≡ note_at seat.old) }
+        ensures drawn { IsWaiting result seat.new × (result + 1 < 2 ^ 64) }
     {
         for _ in rt.forever() {
             let shared = &self.table.shared;
@@ -63,7 +66,8 @@ impl<V: Chronicle> Book<V> {
     // Waits until the ticket is served, and takes the value's slot.
     fn take<R: Wait>(&self, rt: &R, seat: &mut Seat<Option<V>, View<V::Entry>>, ticket: u64)
         requires { (seat.old.table_id ≡ self.now.table.shared.table_id) × IsWaiting ticket seat.old }
-        ensures { IsSameSeat seat.old seat.new × Takes V.history V.signer ticket (note_at seat.old) seat.new.me }
+        ensures same { IsSameSeat seat.old seat.new }
+        ensures taken { Takes V.history V.signer ticket (note_at seat.old) seat.new.me }
     {
         for _ in rt.forever() {
             let shared = &self.table.shared;

@@ -10,8 +10,8 @@
 //!
 //! Histories are lists with the newest entry first.
 //!
-//! Nobody promises when a wait ends or that it ends, who comes next, or that a thread that sleeps is woken.
-//! The parties draw tickets, which are served in their order, but no clause says so.
+//! Nobody promises that a wait ends, or when, who comes next, or that a thread that sleeps is woken. The
+//! parties draw tickets, which are served in their order, but no clause says so.
 #![tactic(auto)]
 
 mod book;

@@ -15,8 +15,8 @@ use so_ids::NoMemory;
 use std::alloc::Global;
 
 impl<V: Chronicle> Book<V> {
-    /// A book round the value, for this many parties. Pass k is party k's. It has seen the value's history, and the
-    /// entries that it made are those that party k signed there.
+    /// A book round the value, for this many parties. Pass k is party k's. It has seen the value's
+    /// history, and the entries that it made are those that party k signed there.
     ///
     /// Without memory the value comes back.
     pub fn new(
@@ -55,7 +55,8 @@ impl<V: Chronicle> Book<V> {
         len: u32,
         mut passes: Vec<Pass<V>>,
     ) -> Vec<Pass<V>>
-        requires seat { (seat.table_id ≡ self.now.table.shared.table_id) × (seat.me ≡ (view_of (told_notes V.signer (note_at seat).seen 0 seats) Free, [])) }
+        requires of { seat.table_id ≡ self.now.table.shared.table_id }
+        requires notes { seat.me ≡ (view_of (told_notes V.signer (note_at seat).seen 0 seats) Free, []) }
         requires room { (passes.items ≡ []) × (seats ≤ vec_capacity passes) }
         requires len { len ≡ length (note_at seat).seen }
         ensures passes { (length result.items ≡ seats) × ArePartiesFrom self.now 0 result.items }

@@ -12,7 +12,8 @@ use atomic_table::Seat;
 use std::sync::Wait;
 
 impl<V: Chronicle> Book<V> {
-    /// May wait until another party has closed with a longer history than the pass has seen, or has called `close_last`.
+    /// May wait until another party has closed with a longer history than the pass has seen, or has called
+    /// `close_last`.
     ///
     /// The party learns nothing by it. Nothing is promised of when it returns.
     pub fn rest<R: Wait>(&self, rt: &R, pass: Pass<V>) -> Pass<V>
@@ -31,7 +32,8 @@ impl<V: Chronicle> Book<V> {
         Pass { seat, len }
     }
 
-    // The length's word to sleep at. There is none for a party that may go on, as one that knows that `close_last` was called.
+    // The length's word to sleep at. There is none for a party that may go on, as one that knows that
+    // `close_last` was called.
     fn sleeps_at(&self, seat: &mut Seat<Option<V>, View<V::Entry>>, len: u32) -> Option<u64>
         requires { (seat.old.table_id ≡ self.now.table.shared.table_id) × IsAtRest seat.old }
         ensures same { IsSameSeat seat.old seat.new × (seat.new.me ≡ seat.old.me) }

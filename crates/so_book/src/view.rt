@@ -1,4 +1,5 @@
-//! What a seat at a book's table knows. These types stand in proofs alone: no value of them but `Start` is made.
+//! What a seat at a book's table knows. These types stand in proofs alone: no value of them is made, but
+//! of `Start`.
 use so_ids::PartyId;
 use std::collections::LinkedList;
 

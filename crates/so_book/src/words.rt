@@ -14,9 +14,9 @@ pub(crate) const LENGTH: usize = 2;
 /// A marked word is this or more.
 const MARK: u64 = 1 << 32;
 
-/// The word after a holding that found the word `before`, where the history now has this length: it is marked where it
-/// was or this is the last closing. A thread that sleeps on a word compares its low 32 bits alone, so a marked word is
-/// one more: these bits then change as well, and no sleeper misses the mark.
+/// The word after a holding that found the word `before`, where the history now has this length. It is
+/// marked where it was, or where this is the last closing. A thread that sleeps on a word compares its low
+/// 32 bits alone, so a marked word is one more: these bits then change too, and no sleeper misses the mark.
 pub(crate) fn word_after(before: u64, len: u32, last: bool) -> u64
     ensures { result ≡ length_word len (last || is_marked before) }
 {
