@@ -3,10 +3,12 @@
 
 mod log;
 mod party;
+mod setting;
 #[cfg(test)]
 mod tests;
 mod turns;
 
 pub use log::{Entry, Log};
 pub use party::{Machine, Went, sign, sign_all, work};
+pub use setting::{Line, Run, Setting, lanes};
 pub use turns::Turns;

@@ -1,7 +1,7 @@
 ghost use Rattle.std.specs.Prelude.{◌≡◌, ◌+◌, ◌<◌, length};
 ghost use Rattle.so_book.specs.Passes.{IsPassOf, party_of, ArePartiesFrom};
 
-use crate::{Entry, Log, Turns, sign, sign_all, work};
+use crate::{Entry, Log, Run, Setting, Turns, lanes, sign, sign_all, work};
 use so_book::{Book, Chronicle, Pass};
 use so_ids::PartyId;
 use std::sync::Wait;
@@ -211,4 +211,25 @@ fn close_beside_rest<R: Threads + Wait + Clock + Sync>(
             ensures { IsPassOf book.entry.now result }
         { look_and_rest(rt, book, rests) },
     )
+}
+
+#[test]
+fn the_setting_is_known_under_each_holding(rt: HostRuntime) -> Result<(), Fail> {
+    let setting = Setting { lanes: 3 };
+    let run = Run {
+        setting: &setting,
+        made: Vec::new(rt.alloc()),
+    };
+    let Ok((book, mut passes)) = Book::new(rt.alloc(), run, 1) else {
+        panic!(rt; "no memory")
+    };
+    let Some(pass) = passes.pop() else {
+        panic!(rt; "no pass")
+    };
+    let (pass, first) = lanes(&rt, &book, pass, &setting);
+    let (pass, second) = lanes(&rt, &book, pass, &setting);
+    assert!(rt; first == 3 && second == 3);
+    let run = book.finish(Vec::from_array(rt.alloc(), [pass])?);
+    assert!(rt; run.made.is_empty());
+    Ok(())
 }
