@@ -29,7 +29,6 @@ ghost use Rattle.std.specs.Prelude.{◌≡◌, List, length};
 ghost use Rattle.so_ids.specs.declared.PartyId.{PartyId};
 
 pub use book::{Book, Held, Pass};
-pub use view::{Note, Stage, Start, View};
 
 /// A value that keeps a history: a list of fewer than 2^32 entries, each signed by a party.
 pub trait Chronicle {
