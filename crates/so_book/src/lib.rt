@@ -6,9 +6,10 @@
 //! A party that is served has the value as a [`Held`], alone, until it closes. It then finds a history
 //! that began with what it had seen, in which its own entries are those that it made, and it may append
 //! one entry, which it signs. So nothing of what others did under the lock is lost on the way from
-//! one holding to the next, and nobody signs for another.
+//! one holding to the next, and nobody signs for another. A `Held` can't be dropped, only closed.
 //!
-//! Histories are lists with the newest entry first.
+//! Histories are lists with the newest entry first. A book says of its value no more than how its history
+//! goes on. What else a party has to find again, as what the value was made over, can be the oldest entry.
 //!
 //! Nobody promises that a wait ends, or when, who comes next, or that a thread that sleeps is woken. The
 //! parties draw tickets, which are served in their order, but no clause says so.
