@@ -132,7 +132,13 @@ impl PlainQueues {
         }
         match best {
             None => Some(key),
-            Some(other) => { if is_above(front, self.front(other)) { Some(key) } else { best } }
+            Some(other) => {
+                if is_above(front, self.front(other)) {
+                    Some(key)
+                } else {
+                    best
+                }
+            }
         }
     }
 
