@@ -1,6 +1,6 @@
 -- Demands compare as their ranks.
-use Rattle.std.proofs.Common.{◌≡◌, ℕ, ◌+◌, ◌*◌, ◌<◌, ◌≤◌, Bool, true, false, arith, refl, inl, inr}
-use Rattle.std.specs.Prelude.{◌^◌, ◌==◌, ◌&&◌, ◌||◌, nat_lt, nat_eq}
+use Rattle.std.proofs.Common.{◌≡◌, ◌<◌, ◌≤◌, true, false, arith, refl, inl, inr}
+use Rattle.std.specs.Prelude.{◌^◌, ◌==◌, ◌&&◌, nat_lt}
 use Rattle.std.proofs.lemmas.Bool.{cases_Bool, or_cases, and_parts, ltb-true, ltb-false, eqb-true, lt-ltb, eq-eqb}
 use Rattle.so_ids.specs.declared.DemandId.{DemandId}
 use Rattle.so_ids.specs.Ids.{is_earlier}

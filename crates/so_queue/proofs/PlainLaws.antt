@@ -1,12 +1,10 @@
 -- One list of all waiting demands, after a push and a take.
-use Rattle.std.proofs.Common.{◌≡◌, ◌≢◌, ℕ, zero, suc, ◌+◌, ◌*◌, ◌<◌, ◌≤◌, List, [], ◌∷◌, ◌++◌, length, Option, Some, None, arith, refl, sym, ◌∙◌, ap, subst, inl, inr}
-use Rattle.std.specs.Prelude.{slice_set, slice_index_or, replicate, remove}
-use Rattle.std.proofs.lemmas.Bool.{cases_eq, cases_lt, eq-eqb, ne_eqb}
-use Rattle.so_ids.specs.declared.DemandId.{DemandId}
+use Rattle.std.proofs.Common.{◌≡◌, ◌≢◌, ℕ, zero, suc, ◌<◌, List, [], ◌∷◌, ◌++◌, length, Some, None, arith, refl, sym, ◌∙◌, inl, inr}
+use Rattle.std.specs.Prelude.{slice_set, replicate, remove}
+use Rattle.std.proofs.lemmas.Bool.{cases_eq, eq-eqb, ne_eqb}
 use Rattle.so_queue.specs.declared.plain.Waiting.{Waiting}
 use Rattle.so_queue.specs.Queues.{list_at, head_of, behind_head}
-use Rattle.so_queue.specs.Lists.{each_below}
-use Rattle.so_queue.specs.Plain.{is_on, on_slot, lists_on, waiting_at, IsFirstOn, IsPlaceOf}
+use Rattle.so_queue.specs.Plain.{on_slot, lists_on, waiting_at, IsFirstOn, IsPlaceOf}
 use Rattle.so_queue.proofs.Lists.{length-each_below, get_or-each_below, each_below-set, each_below-replicate}
 
 -- the list of a slot

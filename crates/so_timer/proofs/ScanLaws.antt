@@ -1,5 +1,5 @@
 -- A table of slots, gone through from its end.
-use Rattle.std.proofs.Common.{◌≡◌, ℕ, suc, ◌+◌, ◌-◌, ◌<◌, ◌≤◌, List, [], ◌∷◌, length, drop, drop-cons, add-one, Option, Some, None, arith, refl, ap, ◌∙◌}
+use Rattle.std.proofs.Common.{◌≡◌, ℕ, suc, ◌+◌, ◌<◌, ◌≤◌, List, [], ◌∷◌, length, drop, drop-cons, add-one, Option, Some, None, arith, refl}
 use Rattle.std.proofs.Math.Seq.{drop-length}
 use Rattle.so_timer.specs.declared.timer.Armed.{Armed}
 use Rattle.so_timer.specs.declared.timer.Timer.{Timer}

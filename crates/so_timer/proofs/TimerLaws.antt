@@ -102,11 +102,6 @@ length-set_some m (suc i) (o ∷ rest) t u h =
     let e : length (armed_from (m + 1) (slice_set rest i (Some u))) + 0 ≡ length (armed_from (m + 1) rest) = omega (arith, length-set_some (m + 1) i rest t u h) in
     omega (arith, slot_length m o (armed_from (m + 1) (slice_set rest i (Some u))) (armed_from (m + 1) rest) 0 e)
 
--- nothing of that number
-without_slot : (n : ℕ) (a : Armed) (b : Bool) (xs ys : List Armed) → has_number n a ≡ b → ys ≡ xs → (b ≡ true → ⊥) → cond (not b) (a ∷ ys) ys ≡ a ∷ xs
-without_slot n a true xs ys e h d = absurd (d refl)
-without_slot n a false xs ys e h d = ap (λ zs. a ∷ zs) h
-
 tail_none : (a : Armed) (b : Bool) (r : Option Armed) → cond b (Some a) r ≡ None → (b ≡ false) × (r ≡ None)
 tail_none a true r h = cc
 tail_none a false r h = (refl, h)

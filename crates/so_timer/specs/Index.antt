@@ -1,5 +1,5 @@
 -- The heap and the table of places, as an index of the table of slots.
-use Rattle.std.specs.Prelude.{◌≡◌, ℕ, ◌<◌, ◌≤◌, ◌^◌, List, length, Option, Some, None}
+use Rattle.std.specs.Prelude.{◌≡◌, ℕ, ◌<◌, ◌≤◌, ◌^◌, List, length, Option, Some}
 use Rattle.so_timer.specs.declared.timer.Timer.{Timer}
 use Rattle.so_timer.specs.declared.heap.Due.{Due}
 use Rattle.so_timer.specs.Heap.{rank_at, due_at, IsHeap, IsPlaced, IsIn}

@@ -2,7 +2,6 @@
 use Rattle.std.specs.Prelude.{◌≡◌, ℕ, ◌+◌, ◌^◌, ◌≤◌, Bool, not, ◌&&◌, ◌||◌, nat_eq, nat_lt, nat_le, if◌then◌else◌, min, List, [], ◌∷◌, ◌++◌, Option, Some, None, find, is_some, option_map, filter}
 use Rattle.so_ids.specs.declared.TimerId.{TimerId}
 use Rattle.so_timer.specs.declared.timer.Armed.{Armed}
-use Rattle.so_timer.specs.declared.timer.Timer.{Timer}
 use Rattle.so_timer.specs.declared.timer.TimerTask.{TimerTask}
 
 -- next is the number of the next timer, cap how many may be armed at once, total how many in all

@@ -1,4 +1,4 @@
-use Rattle.std.proofs.Common.{◌≡◌, ◌≤◌, ◌+◌, length}
+use Rattle.std.proofs.Common.{◌≡◌, ◌≤◌, length}
 use Rattle.so_timer.specs.Timers.{earliest_of}
 use Rattle.so_timer.proofs.ScanLaws.{rest_of}
 use Rattle.so_timer.proofs.plain.earliest_in.Given as goal

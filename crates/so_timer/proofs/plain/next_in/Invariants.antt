@@ -1,4 +1,4 @@
-use Rattle.std.proofs.Common.{◌≡◌, ◌≤◌, ◌+◌, length}
+use Rattle.std.proofs.Common.{◌≡◌, ◌≤◌, length}
 use Rattle.so_timer.specs.Timers.{next_of}
 use Rattle.so_timer.proofs.ScanLaws.{rest_of}
 use Rattle.so_timer.proofs.plain.next_in.Given as goal

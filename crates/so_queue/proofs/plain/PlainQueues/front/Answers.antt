@@ -1,4 +1,4 @@
-use Rattle.std.proofs.Common.{◌≡◌, ℕ, ◌+◌, ◌*◌, ◌<◌, ◌≤◌, List, Option, None, refl, sym, ◌∙◌, ap, add-one, arith, rules, ◌≢◌}
+use Rattle.std.proofs.Common.{◌≡◌, ℕ, ◌+◌, ◌*◌, List, refl, sym, ◌∙◌, ap, add-one, arith}
 use Rattle.so_ids.specs.declared.DemandId.{DemandId}
 use Rattle.so_queue.specs.Queues.{list_at, head_of, least_to, lesser, front_of_key}
 use Rattle.so_queue.proofs.plain.PlainQueues.front.Goals as goal

@@ -1,9 +1,7 @@
-use Rattle.std.proofs.Common.{◌≡◌, ℕ, ◌+◌, ◌-◌, ◌*◌, ◌<◌, ◌≤◌, List, [], ◌∷◌, ◌++◌, length, Option, Some, None, refl, sym, ◌∙◌, ap, subst, arith, rules, ◌≢◌}
-use Rattle.std.specs.Prelude.{slice_set, slice_index_or, IsSome, ◌^◌}
-use Rattle.std.proofs.lemmas.List.{length-set}
+use Rattle.std.proofs.Common.{◌≡◌, ◌<◌, List, length, sym, ap, subst, arith}
+use Rattle.std.specs.Prelude.{IsSome}
 use Rattle.so_ids.specs.declared.DemandId.{DemandId}
-use Rattle.so_queue.specs.Queues.{QueueTable, front_of_key, IsAfterAll, list_at, head_of, behind_head, slot_of, queue_of, keys_of, IsNextKey}
-use Rattle.so_queue.specs.Fronts.{IsQueues, IsQueuesBut, height_of_key}
+use Rattle.so_queue.specs.Queues.{QueueTable, front_of_key, IsNextKey}
 use Rattle.so_queue.specs.Ring.{height, height_at}
 use Rattle.so_queue.proofs.QueueLaws.{kept_link, next_key, front_small, live_front}
 use Rattle.so_queue.proofs.queues.Queues.ready_after.Goals as goal
