@@ -37,9 +37,17 @@ impl Model for PlainQueues {
 
     ghost Value = { QueueTable };
 
-    ghost view = { λ q. record { lists = lists_on (8 * length q.safe.items) q.waiting.items; room = q.room; safe = q.safe.items; exclusive = q.exclusive.items } };
+    ghost view = { λ q. record {
+      lists = lists_on (8 * length q.safe.items) q.waiting.items;
+      room = q.room;
+      safe = q.safe.items;
+      exclusive = q.exclusive.items;
+    } };
 
-    ghost invariant = { λ q. IsApart (lists_on (8 * length q.safe.items) q.waiting.items) × AreAligned (length q.safe.items) (length q.exclusive.items) (length q.safe.items) × (length q.waiting.items + q.room ≤ vec_capacity q.waiting) × (length q.waiting.items + q.room < 2 ^ 32) };
+    ghost invariant = { λ q. IsApart (lists_on (8 * length q.safe.items) q.waiting.items)
+        × AreAligned (length q.safe.items) (length q.exclusive.items) (length q.safe.items)
+        × (length q.waiting.items + q.room ≤ vec_capacity q.waiting)
+        × (length q.waiting.items + q.room < 2 ^ 32) };
 }
 
 impl PlainQueues {

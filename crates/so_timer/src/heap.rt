@@ -3,7 +3,7 @@
 //! These functions work on the two tables while they don't agree. `places` is indexed by the number of
 //! the timer.
 ghost use Rattle.std.specs.Prelude.{◌≡◌, ◌≢◌, ℕ, ◌+◌, ◌*◌, ◌-◌, ◌/◌, ◌<◌, ◌≤◌, ◌^◌, ◌↔◌, IsTrue, nat_lt, if◌then◌else◌, IsNone, IfSome, length, take, slice_set, vec_len, vec_capacity, [], ◌∷◌, ◌++◌};
-ghost use Rattle.so_timer.specs.Heap.{rank, rank_at, due_at, IsHeap, IsHeapBut, IsAbove, IsBelow, IsPlaced, IsMoved, IsTakenOut, later_due, IsEarliest};
+ghost use Rattle.so_timer.specs.Heap.{rank, rank_at, due_at, IsHeap, IsHeapBut, IsAbove, IsBelow, IsPlaced, IsMoved, IsTakenOut, with_exchanged, later_due, IsEarliest};
 ghost use Rattle.so_timer.specs.Timers.{lesser};
 
 use so_ids::TimerId;
@@ -38,7 +38,7 @@ fn exchange(heap: &mut [Due], places: &mut [u32], i: usize, j: usize)
     requires j_in { j < length heap.old }
     requires few { length heap.old ≤ 2 ^ 32 }
     requires placed { IsPlaced heap.old places.old }
-    ensures heap { heap.new ≡ slice_set (slice_set heap.old i (due_at heap.old j)) j (due_at heap.old i) }
+    ensures heap { heap.new ≡ with_exchanged heap.old i j }
     ensures placed { IsPlaced heap.new places.new }
     ensures table { length places.new ≡ length places.old }
 {
@@ -81,7 +81,8 @@ fn lesser_below(heap: &[Due], at: usize) -> Option<usize>
     requires few { length heap.now ≤ 2 ^ 32 }
     ensures none { IsNone result → length heap.now ≤ 2 * at + 1 }
     ensures below { IfSome result (λ c. IsBelow at c × (c < length heap.now)) }
-    ensures least { IfSome result (λ c. (k : ℕ) → IsBelow at k → k < length heap.now → rank_at heap.now c ≤ rank_at heap.now k) }
+    ensures least { IfSome result (λ c. (k : ℕ) → IsBelow at k → k < length heap.now
+        → rank_at heap.now c ≤ rank_at heap.now k) }
 {
     let left = 2 * at + 1;
     if left >= heap.len() {
@@ -157,7 +158,8 @@ fn fill(heap: &mut Vec<Due>, places: &mut Vec<u32>, at: usize)
     requires within { at + 1 < vec_len heap.old }
     requires few { vec_len heap.old ≤ 2 ^ 32 }
     requires placed { IsPlaced heap.old.items places.old.items }
-    ensures heap { heap.new.items ≡ take (vec_len heap.old - 1) (slice_set (slice_set heap.old.items at (due_at heap.old.items (vec_len heap.old - 1))) (vec_len heap.old - 1) (due_at heap.old.items at)) }
+    ensures heap { heap.new.items ≡ take (vec_len heap.old - 1)
+        (with_exchanged heap.old.items at (vec_len heap.old - 1)) }
     ensures len { vec_len heap.new + 1 ≡ vec_len heap.old }
     ensures placed { IsPlaced heap.new.items places.new.items }
     ensures table { length places.new.items ≡ length places.old.items }
@@ -199,7 +201,8 @@ pub(crate) fn change(heap: &mut Vec<Due>, places: &mut Vec<u32>, at: usize, dead
     requires placed { IsPlaced heap.old.items places.old.items }
     ensures order { IsHeap (rank_at heap.new.items) (length heap.new.items) }
     ensures placed { IsPlaced heap.new.items places.new.items }
-    ensures changed { IsMoved (slice_set heap.old.items at (later_due deadline (due_at heap.old.items at))) heap.new.items }
+    ensures changed { IsMoved (slice_set heap.old.items at
+        (later_due deadline (due_at heap.old.items at))) heap.new.items }
     ensures table { length places.new.items ≡ length places.old.items }
     ensures heap_capacity { vec_capacity heap.new ≡ vec_capacity heap.old }
     ensures places_capacity { vec_capacity places.new ≡ vec_capacity places.old }

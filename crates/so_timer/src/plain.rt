@@ -24,9 +24,15 @@ impl Model for PlainTimers {
 
     ghost Value = { TimerTable };
 
-    ghost view = { λ t. record { armed = armed_from 0 t.slots.items; next = length t.slots.items; cap = t.cap; total = t.total } };
+    ghost view = { λ t. record {
+      armed = armed_from 0 t.slots.items;
+      next = length t.slots.items;
+      cap = t.cap;
+      total = t.total;
+    } };
 
-    ghost invariant = { λ t. (length t.slots.items ≤ t.total) × (t.total ≤ vec_capacity t.slots) × (t.total < 2 ^ 32) };
+    ghost invariant = { λ t. (length t.slots.items ≤ t.total) × (t.total ≤ vec_capacity t.slots)
+        × (t.total < 2 ^ 32) };
 }
 
 impl PlainTimers {
@@ -42,7 +48,8 @@ impl PlainTimers {
 
     /// Tells whether one more timer may be armed.
     pub fn has_room(&self) -> bool
-        ensures { IsTrue result ↔ ((length self.now.armed < self.now.cap) × (self.now.next < self.now.total)) }
+        ensures { IsTrue result ↔ ((length self.now.armed < self.now.cap)
+            × (self.now.next < self.now.total)) }
     {
         count_in(&self.slots) < self.cap && self.slots.len() < self.total as usize
     }
@@ -118,7 +125,8 @@ impl PlainTimers {
     /// Tells whether a timer may fire: it is armed, and its deadline with its period added is at most
     /// 2^63.
     pub fn may_fire(&self, timer: TimerId) -> bool
-        ensures { IsTrue result ↔ (IsTrue (is_armed timer.0 self.now.armed) × IsInRange timer.0 self.now.armed) }
+        ensures { IsTrue result ↔ (IsTrue (is_armed timer.0 self.now.armed)
+            × IsInRange timer.0 self.now.armed) }
     {
         match self.timer(timer) {
             Some(found) => found.is_in_range(),

@@ -30,9 +30,16 @@ impl Model for Timers {
 
     ghost Value = { TimerTable };
 
-    ghost view = { λ t. record { armed = armed_from 0 t.slots.items; next = length t.slots.items; cap = t.cap; total = t.total } };
+    ghost view = { λ t. record {
+      armed = armed_from 0 t.slots.items;
+      next = length t.slots.items;
+      cap = t.cap;
+      total = t.total;
+    } };
 
-    ghost invariant = { λ t. IsIndex t.slots.items t.places.items t.heap.items × HasRoom (length t.slots.items) (length t.heap.items) t.cap t.total (vec_capacity t.slots) (vec_capacity t.places) (vec_capacity t.heap) };
+    ghost invariant = { λ t. IsIndex t.slots.items t.places.items t.heap.items
+        × HasRoom (length t.slots.items) (length t.heap.items) t.cap t.total
+        (vec_capacity t.slots) (vec_capacity t.places) (vec_capacity t.heap) };
 }
 
 impl Timers {
@@ -60,7 +67,8 @@ impl Timers {
 
     /// Tells whether one more timer may be armed.
     pub fn has_room(&self) -> bool
-        ensures { IsTrue result ↔ ((length self.now.armed < self.now.cap) × (self.now.next < self.now.total)) }
+        ensures { IsTrue result ↔ ((length self.now.armed < self.now.cap)
+            × (self.now.next < self.now.total)) }
     {
         self.heap.len() < self.cap as usize && self.slots.len() < self.total as usize
     }
@@ -113,7 +121,8 @@ impl Timers {
     fn disarm(&mut self, timer: TimerId)
         requires armed { IsTrue (is_armed timer.0 self.old.armed) }
         ensures after { self.new ≡ after_cancel timer.0 self.old }
-        ensures single { (a : Armed) → timer_of timer.0 self.old.armed ≡ Some a → a.period ≡ 0 → self.new.armed ≡ fired timer.0 self.old.armed }
+        ensures single { (a : Armed) → timer_of timer.0 self.old.armed ≡ Some a → a.period ≡ 0
+            → self.new.armed ≡ fired timer.0 self.old.armed }
     {
         let at = self.places[timer.0 as usize];
         heap::take_out(&mut self.heap, &mut self.places, at as usize);
@@ -150,7 +159,8 @@ impl Timers {
     /// Tells whether a timer may fire: it is armed, and its deadline with its period added is at most
     /// 2^63.
     pub fn may_fire(&self, timer: TimerId) -> bool
-        ensures { IsTrue result ↔ (IsTrue (is_armed timer.0 self.now.armed) × IsInRange timer.0 self.now.armed) }
+        ensures { IsTrue result ↔ (IsTrue (is_armed timer.0 self.now.armed)
+            × IsInRange timer.0 self.now.armed) }
     {
         match self.timer(timer) {
             Some(found) => found.is_in_range(),
