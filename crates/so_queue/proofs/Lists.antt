@@ -1,0 +1,58 @@
+-- Lists by number, which stand for a function.
+use Rattle.std.proofs.Common.{◌≡◌, ℕ, zero, suc, ◌<◌, [], ◌∷◌, ◌++◌, length, arith, refl, sym, ◌∙◌, ap, get_or, inl, inr, add-one}
+use Rattle.std.specs.Prelude.{slice_set, replicate}
+use Rattle.std.proofs.lemmas.List.{length-append, set-append_left, get_or_append_left}
+use Rattle.std.proofs.Math.Seq.{set-append_seam, get_or-append_seam}
+use Rattle.std.proofs.lemmas.Grind.{replicate_next}
+use Rattle.std.proofs.lemmas.Bool.{cases_lt}
+use Rattle.so_queue.specs.Lists.{each_below}
+
+pub length-each_below : {X : Type 0} (f : ℕ → X) (n : ℕ) → length (each_below f n) ≡ n
+unfolding each_below
+length-each_below f zero = refl
+length-each_below f (suc n) = omega (arith, length-append (each_below f n) (f n ∷ []), length-each_below f n)
+
+-- the element at a number
+pub get_or-each_below : {X : Type 0} (f : ℕ → X) (n i : ℕ) (d : X) → i < n → get_or (each_below f n) i d ≡ f i
+unfolding each_below
+get_or-each_below f zero i d l = absurd (omega arith)
+get_or-each_below f (suc n) i d l =
+    elim (cases_lt i n) [
+      | inl before ↦
+          (let within : i < length (each_below f n) = omega (arith, length-each_below f n) in
+          get_or_append_left (each_below f n) (f n ∷ []) d i within ∙ get_or-each_below f n i d before)
+      | inr last ↦
+          (let here : i ≡ length (each_below f n) = omega (arith, length-each_below f n) in
+          let same : n ≡ i = omega arith in
+          ap (λ k. get_or (each_below f n ++ f n ∷ []) k d) here ∙ (get_or-append_seam (each_below f n) (f n) [] d ∙ ap f same))
+    ]
+
+-- functions that agree
+pub each_below-same : {X : Type 0} (f g : ℕ → X) (n : ℕ) → ((i : ℕ) → i < n → f i ≡ g i) → each_below f n ≡ each_below g n
+unfolding each_below
+each_below-same f g zero e = refl
+each_below-same f g (suc n) e = rw (each_below-same f g n (λ i l. e i (omega arith)), e n (omega arith)) refl
+
+-- functions that agree but at one number
+pub each_below-set : {X : Type 0} (f g : ℕ → X) (n i : ℕ) (x : X) → i < n → g i ≡ x → ((j : ℕ) → j < n → (j ≡ i → ⊥) → g j ≡ f j) → each_below g n ≡ slice_set (each_below f n) i x
+unfolding each_below
+each_below-set f g zero i x l e o = absurd (omega arith)
+each_below-set f g (suc n) i x l e o =
+    elim (cases_lt i n) [
+      | inl before ↦
+          (let within : i < length (each_below f n) = omega (arith, length-each_below f n) in
+          let rest = each_below-set f g n i x before e (λ j k. o j (omega arith)) in
+          let last : g n ≡ f n = o n (omega arith) (λ same. omega arith) in
+          rw (rest, last) (sym (set-append_left (each_below f n) (f n ∷ []) i x within)))
+      | inr here ↦
+          (let place : length (each_below f n) ≡ i = omega (arith, length-each_below f n) in
+          let same : n ≡ i = omega arith in
+          let rest : each_below g n ≡ each_below f n = each_below-same g f n (λ j k. o j (omega arith) (λ s. omega arith)) in
+          rw (rest, ap g same ∙ e) (sym (ap (λ k. slice_set (each_below f n ++ f n ∷ []) k x) (sym place) ∙ set-append_seam (each_below f n) (f n) [] x)))
+    ]
+
+-- a function with one value
+pub each_below-replicate : {X : Type 0} (f : ℕ → X) (n : ℕ) (x : X) → ((i : ℕ) → f i ≡ x) → each_below f n ≡ replicate n x
+unfolding each_below
+each_below-replicate f zero x e = refl
+each_below-replicate f (suc n) x e = rw (each_below-replicate f n x e, e n) (sym (sym (ap (λ k. replicate k x) (add-one n)) ∙ replicate_next n x))

@@ -1,0 +1,9 @@
+use Rattle.std.proofs.Common.{◌≡◌, ◌≤◌, ◌+◌, length}
+use Rattle.so_timer.proofs.ScanLaws.{rest_of}
+use Rattle.so_timer.proofs.plain.count_in.Given as goal
+
+abbrev pub invariant-loop-at : goal.invariant-loop-at
+invariant-loop-at l = record { within : l.at ≤ length l.slots; few : l.count + l.at ≤ length l.slots; is : l.count ≡ length (rest_of l.slots l.at) }
+
+abbrev pub decreases-loop-at : goal.decreases-loop-at
+decreases-loop-at l = l.at

@@ -1,0 +1,4 @@
+pub mod Heap
+pub mod Index
+pub mod Slots
+pub mod Timers
