@@ -1,0 +1,6 @@
+pub mod Fields
+pub mod Acts
+pub mod Texts
+pub mod Agents
+pub mod Scene
+pub mod Reads
