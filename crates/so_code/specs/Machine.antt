@@ -6,7 +6,6 @@ use Rattle.so_ids.specs.declared.Payload.{Payload}
 use Rattle.so_code.specs.declared.instr.Operand.{Operand}
 use Rattle.so_code.specs.declared.instr.Operand.TheVariants.{Num}
 use Rattle.so_code.specs.declared.instr.Args.{Args}
-use Rattle.so_code.specs.declared.instr.Body.{Body}
 use Rattle.so_code.specs.declared.instr.Body.TheVariants.{Start, Finish}
 use Rattle.so_code.specs.declared.instr.Instr.{Instr}
 use Rattle.so_code.specs.declared.instr.Instr.TheVariants as instr

@@ -1,5 +1,5 @@
 -- What a code keeps.
-use Rattle.std.specs.Prelude.{◌≡◌, ℕ, ◌≤◌, List, [], ◌∷◌, length, true}
+use Rattle.std.specs.Prelude.{◌≡◌, ◌≤◌, List, [], ◌∷◌, length, true}
 use Rattle.std.specs.List.{All}
 use Rattle.so_code.specs.declared.instr.Body.TheVariants.{Start, Finish}
 use Rattle.so_code.specs.declared.instr.Instr.{Instr}

@@ -4,7 +4,6 @@ use Rattle.std.proofs.lemmas.Bool.Decides.{nat_tests}
 use Rattle.std.proofs.lemmas.List.{take-append-le}
 use Rattle.std.proofs.Math.Seq.{take-add, take-append_seam, drop-append_seam}
 use Rattle.std.specs.Io.KnownBytes.{Appends}
-use Rattle.so_io.specs.Count.{Rose}
 use Rattle.so_io.specs.Sink.{AppendsPart}
 use Rattle.so_io.proofs.Pieces.{Appends-none, Appends-more}
 use Rattle.so_io.proofs.Rising.{Rose-within}

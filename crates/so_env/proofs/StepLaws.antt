@@ -1,10 +1,9 @@
 -- A step that says Nothing leaves the next step to be tried, and any other answer is the answer.
-use Rattle.std.proofs.Common.{◌≡◌, ℕ, suc, ◌+◌, ◌<◌, [], Option, Some, None, Result, Ok, Err, refl, sym, ◌∙◌, ap, subst, arith, add-one}
+use Rattle.std.proofs.Common.{◌≡◌, ℕ, ◌+◌, ◌<◌, Option, None, Err, sym, ◌∙◌, ap, subst, add-one}
 use Rattle.so_ids.specs.declared.LaneId.{LaneId}
-use Rattle.so_lists.specs.Lists.{or_else, first_below}
+use Rattle.so_lists.specs.Lists.{or_else}
 use Rattle.so_scene.specs.Lanes.{lanes}
 use Rattle.so_history.specs.declared.entry.Entry.{Entry}
-use Rattle.so_history.specs.Turns.{running_at, lane_number}
 use Rattle.so_history.specs.Chain.{begin_entry, lane_entry}
 use Rattle.so_history.proofs.ChainLaws.{lane_entry-free}
 use Rattle.so_kernel.specs.Shapes.{Core}

@@ -1,5 +1,5 @@
 -- What holds on the way of a simulation.
-use Rattle.std.specs.Prelude.{◌≡◌, ℕ, ◌<◌, List, [], true, false, Option, Some, None, slice_index_or, is_some}
+use Rattle.std.specs.Prelude.{◌≡◌, ℕ, ◌<◌, List, [], true, false, Option, None, slice_index_or, is_some}
 use Rattle.so_lists.specs.Lists.{or_else, first_below}
 use Rattle.so_scene.specs.declared.parts.SceneParts.{SceneParts}
 use Rattle.so_scene.specs.Lanes.{lanes}

@@ -1,21 +1,18 @@
 -- The entries of the picks, and that a run that is not over goes on.
-use Rattle.std.proofs.Common.{◌≡◌, ℕ, zero, suc, ◌+◌, ◌<◌, ◌≤◌, List, [], ◌∷◌, length, Bool, true, false, not, ◌&&◌, cond, Option, Some, None, arith, refl, sym, ◌∙◌, ap, subst, inl, inr}
-use Rattle.std.specs.Prelude.{◌==◌, ◌⊎◌}
-use Rattle.std.specs.List.{filter, find, AllByRecursion}
+use Rattle.std.proofs.Common.{◌≡◌, ℕ, ◌<◌, List, [], ◌∷◌, length, Bool, true, false, not, ◌&&◌, cond, Option, Some, None, refl, sym, ◌∙◌, ap, subst}
+use Rattle.std.specs.List.{find, AllByRecursion}
 use Rattle.std.specs.Option.{option_map}
-use Rattle.std.proofs.lemmas.Bool.{cases_Bool, and_parts, eq-eqb, false≢true}
+use Rattle.std.proofs.lemmas.Bool.{and_parts, false≢true}
 use Rattle.so_ids.specs.declared.CoopId.{CoopId}
-use Rattle.so_ids.specs.declared.PartyId.{PartyId}
 use Rattle.so_ids.specs.declared.LaneId.{LaneId}
 use Rattle.so_ids.specs.declared.Reason.{Reason}
 use Rattle.so_ids.specs.declared.Reason.TheVariants.{Shutdown}
-use Rattle.so_ids.specs.Ids.{party_of}
 use Rattle.so_lists.specs.Lists.{is_empty, or_else, head, first_below}
-use Rattle.so_lists.proofs.Filters.{each-weaker, each-filter}
-use Rattle.so_lists.proofs.First.{or_else-none, or_else-last, or_else-swap, first_below-none, none-first_below, first_below-from, first_below-some, option_map-none, empty-list}
+use Rattle.so_lists.proofs.Filters.{each-weaker}
+use Rattle.so_lists.proofs.First.{or_else-none, or_else-swap, first_below-none, none-first_below, first_below-some, option_map-none}
 use Rattle.so_scene.specs.declared.parts.SceneParts.{SceneParts}
 use Rattle.so_scene.specs.Parts.{IsScene}
-use Rattle.so_scene.specs.Lanes.{lanes, key_of, serves}
+use Rattle.so_scene.specs.Lanes.{lanes, key_of}
 use Rattle.so_scene.proofs.LaneLaws.{some_lane}
 use Rattle.so_history.specs.declared.entry.Entry.{Entry}
 use Rattle.so_history.specs.declared.entry.EntryKind.{EntryKind}
@@ -27,11 +24,11 @@ use Rattle.so_history.specs.Demands.{waiting}
 use Rattle.so_history.specs.Turns.{Started, Course, running, running_at, running_on, running_with, lane_number, key_number, course}
 use Rattle.so_history.specs.Coops.{tried, present, leaving, stopped, has_reason}
 use Rattle.so_history.specs.Units.{fits}
-use Rattle.so_history.specs.Order.{is_free, may_take, pick, taking}
-use Rattle.so_history.specs.Steps.{the_coop, may_leave, is_idle, finished, IsStep, Legal}
+use Rattle.so_history.specs.Order.{is_free, may_take, pick}
+use Rattle.so_history.specs.Steps.{the_coop, may_leave, is_idle, finished, Legal}
 use Rattle.so_history.specs.Chain.{by_main, next_of, turn_entry, turn_on, begin_entry, registration, leaving_entry, left_entry, stop_entry, tidying, lane_entry, first, fitting, next_entry, StopsAtLimit}
 use Rattle.so_history.proofs.DemandLaws.{pick-free, waiting_of}
-use Rattle.so_history.proofs.TurnLaws.{running_looked_up, at_looked_up, running_nowhere, running_at-nil}
+use Rattle.so_history.proofs.TurnLaws.{at_looked_up, running_nowhere, running_at-nil}
 use Rattle.so_history.proofs.CourseLaws.{has_course}
 
 registered_cond : (b : Bool) (e : Entry) → cond b None (Some (by_main (Register the_coop))) ≡ Some e → e ≡ by_main (Register the_coop)

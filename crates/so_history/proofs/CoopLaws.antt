@@ -1,16 +1,15 @@
 -- Cooperations: what their entries queue, and that agents start first and finish last.
-use Rattle.std.proofs.Common.{◌≡◌, ℕ, ◌+◌, ◌<◌, ◌≤◌, List, [], ◌∷◌, ◌++◌, length, Bool, true, false, not, ◌&&◌, cond, Option, Some, None, arith, refl, sym, ◌∙◌, ap, subst, inl, inr}
-use Rattle.std.specs.Prelude.{◌==◌, ◌⊎◌}
+use Rattle.std.proofs.Common.{◌≡◌, ℕ, ◌+◌, ◌<◌, List, [], ◌∷◌, ◌++◌, length, Bool, true, false, cond, Option, Some, None, arith, refl, sym, ◌∙◌, ap, subst}
+use Rattle.std.specs.Prelude.{◌==◌}
 use Rattle.std.specs.List.{filter, last_or, AllByRecursion}
 use Rattle.std.proofs.lemmas.List.{append-nil}
 use Rattle.std.proofs.lemmas.List.Elements.{filter-append}
-use Rattle.std.proofs.lemmas.Bool.{cases_Bool, and_parts, ne_eqb, eq-eqb, false≢true}
+use Rattle.std.proofs.lemmas.Bool.{and_parts, ne_eqb, eq-eqb, false≢true}
 use Rattle.std.proofs.lemmas.Option.{same_Some}
 use Rattle.so_ids.specs.declared.AgentId.{AgentId}
 use Rattle.so_ids.specs.declared.CoopId.{CoopId}
 use Rattle.so_ids.specs.declared.PartyId.{PartyId}
 use Rattle.so_ids.specs.declared.Reason.{Reason}
-use Rattle.so_ids.specs.declared.Reason.TheVariants.{Shutdown}
 use Rattle.so_lists.specs.Lists.{is_empty, head}
 use Rattle.so_lists.proofs.First.{empty-list}
 use Rattle.so_lists.proofs.Filters.{each-weaker, each-filter, filter_keeps, filter_none}
@@ -23,10 +22,10 @@ use Rattle.so_history.specs.declared.entry.Demand.{Demand}
 use Rattle.so_history.specs.declared.entry.DemandKind.{DemandKind}
 use Rattle.so_history.specs.declared.entry.DemandKind.TheVariants.{Start, Finish}
 use Rattle.so_history.specs.Places.{entry_at, before}
-use Rattle.so_history.specs.Demands.{Asked, ask_each, asked_by, demands_from, queued_by, demands, waiting}
+use Rattle.so_history.specs.Demands.{ask_each, asked_by, demands_from, queued_by, demands, waiting}
 use Rattle.so_history.specs.Turns.{running}
 use Rattle.so_history.specs.Coops.{tried, tried_by, present, present_by, leaving, leaving_by, stopped, has_reason}
-use Rattle.so_history.specs.Steps.{the_coop, may_leave, IsLeaving, IsLeft, IsRow, IsStep, Legal}
+use Rattle.so_history.specs.Steps.{the_coop, may_leave, IsLeaving, IsRow, Legal}
 use Rattle.so_history.specs.Facts.{StandsAt, queued_at, WholeCoops, demands_for, StartsAndFinishes}
 use Rattle.so_history.proofs.DemandLaws.{queued_here, demands_early}
 use Rattle.so_history.proofs.PlaceLaws.{Where, is_last, is_early, place_of_entry, before-last, before-early, steps_at}

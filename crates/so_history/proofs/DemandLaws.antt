@@ -1,6 +1,5 @@
 -- What waits after one more entry, and which demands a legal history may have taken.
-use Rattle.std.proofs.Common.{◌≡◌, ℕ, zero, suc, ◌+◌, ◌<◌, ◌≤◌, List, [], ◌∷◌, ◌++◌, length, Bool, true, false, not, ◌&&◌, ◌||◌, cond, Option, Some, None, arith, refl, sym, ◌∙◌, ap, inl, inr, length-append}
-use Rattle.std.specs.Prelude.{◌==◌, ◌⊎◌, map, count_by}
+use Rattle.std.proofs.Common.{◌≡◌, ℕ, ◌+◌, ◌<◌, ◌≤◌, List, [], ◌∷◌, ◌++◌, length, true, false, not, ◌||◌, cond, Some, None, arith, refl, sym, ◌∙◌, ap, inl, inr, length-append}
 use Rattle.std.specs.List.{filter, find, AllByRecursion}
 use Rattle.std.proofs.lemmas.List.{append-nil}
 use Rattle.std.proofs.lemmas.List.Elements.{filter-append, filter_agree}
@@ -10,8 +9,7 @@ use Rattle.so_ids.specs.declared.AgentId.{AgentId}
 use Rattle.so_ids.specs.declared.DemandId.{DemandId}
 use Rattle.so_ids.specs.declared.LaneId.{LaneId}
 use Rattle.so_ids.specs.declared.PartyId.{PartyId}
-use Rattle.so_ids.specs.Ids.{same_demand, is_earlier}
-use Rattle.so_lists.specs.Lists.{is_empty}
+use Rattle.so_ids.specs.Ids.{same_demand}
 use Rattle.so_lists.proofs.Filters.{each-append, each-weaker, each-filter, each_passes, found, filter_keeps, filter-filter, either_way, ap2_append}
 use Rattle.so_scene.specs.declared.parts.SceneParts.{SceneParts}
 use Rattle.so_scene.specs.Parts.{coop_of, agents_of, IsScene}
@@ -25,9 +23,9 @@ use Rattle.so_history.specs.declared.entry.EntryKind.{EntryKind}
 use Rattle.so_history.specs.declared.entry.EntryKind.TheVariants.{Register, Begin, Act, End, Leaving, Left, Stop}
 use Rattle.so_history.specs.declared.entry.Demand.{Demand}
 use Rattle.so_history.specs.Demands.{ask_each, asked_by, demands_from, queued_by, demands, takes, taken, waiting, without}
-use Rattle.so_history.specs.Units.{units, cost}
-use Rattle.so_history.specs.Order.{is_free, may_take, pick, taking}
-use Rattle.so_history.specs.Steps.{IsBegin, IsRow, IsStep, Legal}
+use Rattle.so_history.specs.Units.{units}
+use Rattle.so_history.specs.Order.{is_free, may_take, pick}
+use Rattle.so_history.specs.Steps.{IsBegin, IsRow, Legal}
 use Rattle.so_history.specs.Facts.{takings}
 use Rattle.so_history.proofs.NameLaws.{same_place, Sorted, sorted-append, sorted-filter, named_here, demands_from_sorted, length-demands_from, all_earlier, filter-without}
 

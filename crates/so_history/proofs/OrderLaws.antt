@@ -1,9 +1,7 @@
 -- Demands of one queue are taken in order, and each turn begins as its demand says.
-use Rattle.std.proofs.Common.{◌≡◌, ℕ, ◌+◌, ◌<◌, ◌≤◌, List, [], ◌∷◌, ◌++◌, length, Bool, true, false, not, ◌&&◌, ◌||◌, cond, Option, Some, None, arith, refl, sym, ◌∙◌, ap, subst, inl, inr}
-use Rattle.std.specs.Prelude.{◌==◌, ◌⊎◌}
-use Rattle.std.specs.List.{filter, find, AllByRecursion}
-use Rattle.std.proofs.lemmas.List.{append-nil}
-use Rattle.std.proofs.lemmas.Bool.{cases_Bool, or_cases, and_parts, and_left, ne_eqb, false≢true}
+use Rattle.std.proofs.Common.{◌≡◌, ℕ, ◌<◌, ◌≤◌, List, [], ◌∷◌, length, Bool, true, false, not, ◌&&◌, ◌||◌, Option, Some, None, arith, refl, sym, ◌∙◌, ap, subst, inl, inr}
+use Rattle.std.specs.Prelude.{◌==◌}
+use Rattle.std.proofs.lemmas.Bool.{cases_Bool, or_cases, and_left, ne_eqb, false≢true}
 use Rattle.std.proofs.lemmas.Option.{same_Some}
 use Rattle.so_ids.specs.declared.AgentId.{AgentId}
 use Rattle.so_ids.specs.declared.LaneId.{LaneId}
@@ -21,16 +19,16 @@ use Rattle.so_history.specs.declared.entry.Entry.{Entry}
 use Rattle.so_history.specs.declared.entry.EntryKind.{EntryKind}
 use Rattle.so_history.specs.declared.entry.EntryKind.TheVariants.{Register, Begin, Act, End, Leaving, Left, Stop}
 use Rattle.so_history.specs.declared.entry.Demand.{Demand}
-use Rattle.so_history.specs.Places.{entry_at, before}
+use Rattle.so_history.specs.Places.{before}
 use Rattle.so_history.specs.Demands.{queued_by, demands, takes, taken, waiting}
 use Rattle.so_history.specs.Turns.{running_with}
-use Rattle.so_history.specs.Order.{may_take, pick, taking, opening_of}
+use Rattle.so_history.specs.Order.{may_take, pick}
 use Rattle.so_history.specs.Steps.{IsBegin, IsRow, IsStep, Legal}
-use Rattle.so_history.specs.Facts.{StandsAt, named, TakesAt, TakenBefore, InOrder, BeginsWith, ByChoice}
-use Rattle.so_history.proofs.NameLaws.{same_place, earlier_differs, found_by_name, found_least}
+use Rattle.so_history.specs.Facts.{named, TakesAt, TakenBefore, InOrder, BeginsWith, ByChoice}
+use Rattle.so_history.proofs.NameLaws.{same_place, found_by_name, found_least}
 use Rattle.so_history.proofs.DemandLaws.{queued_here, waiting_sorted, picked, takes_waiting, taken_early}
 use Rattle.so_history.proofs.TurnLaws.{may_be_taken}
-use Rattle.so_history.proofs.PlaceLaws.{Where, is_last, is_early, place_of_entry, inside, entry_at-last, entry_at-early, steps_at}
+use Rattle.so_history.proofs.PlaceLaws.{Where, is_last, is_early, place_of_entry, entry_at-last, entry_at-early, steps_at}
 
 or_true : (b : Bool) → (b || true) ≡ true
 or_true true = refl

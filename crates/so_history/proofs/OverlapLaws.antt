@@ -1,9 +1,8 @@
 -- Two turns of one queue don't overlap.
-use Rattle.std.proofs.Common.{◌≡◌, ℕ, ◌+◌, ◌<◌, ◌≤◌, List, [], ◌∷◌, ◌++◌, length, Bool, true, false, not, ◌||◌, cond, Option, Some, None, arith, refl, sym, ◌∙◌, ap, subst, inl, inr}
-use Rattle.std.specs.Prelude.{◌==◌, ◌⊎◌}
-use Rattle.std.specs.List.{filter, find, AllByRecursion}
-use Rattle.std.proofs.lemmas.Bool.{cases_Bool, or_cases, ne_eqb, eq-eqb, eqb-true, false≢true}
-use Rattle.std.proofs.lemmas.Option.{same_Some}
+use Rattle.std.proofs.Common.{◌≡◌, ℕ, ◌<◌, ◌≤◌, List, [], ◌∷◌, ◌++◌, length, Bool, true, false, not, cond, Option, Some, arith, refl, sym, ◌∙◌, ap, subst, inl, inr}
+use Rattle.std.specs.Prelude.{◌==◌}
+use Rattle.std.specs.List.{filter, AllByRecursion}
+use Rattle.std.proofs.lemmas.Bool.{or_cases, eq-eqb, false≢true}
 use Rattle.so_ids.specs.declared.AgentId.{AgentId}
 use Rattle.so_ids.specs.declared.LaneId.{LaneId}
 use Rattle.so_ids.specs.declared.KeyId.{KeyId}
@@ -14,13 +13,13 @@ use Rattle.so_scene.specs.declared.parts.SceneParts.{SceneParts}
 use Rattle.so_scene.specs.Lanes.{key_of}
 use Rattle.so_history.specs.declared.entry.Entry.{Entry}
 use Rattle.so_history.specs.declared.entry.EntryKind.{EntryKind}
-use Rattle.so_history.specs.declared.entry.EntryKind.TheVariants.{Register, Begin, Act, End, Leaving, Left, Stop}
+use Rattle.so_history.specs.declared.entry.EntryKind.TheVariants.{Begin}
 use Rattle.so_history.specs.Places.{entry_at}
 use Rattle.so_history.specs.Turns.{Started, started_by, turns, ends, ended, running, running_at, key_number}
 use Rattle.so_history.specs.Steps.{IsRow, IsStep, Legal}
-use Rattle.so_history.specs.Facts.{StandsAt, BeginsAt, EndsBefore, NoOverlap}
-use Rattle.so_history.proofs.PlaceLaws.{Where, is_last, is_early, place_of_entry, inside, entry_at-last, entry_at-early}
-use Rattle.so_history.proofs.TurnLaws.{ends_early, turns_early, keys_free}
+use Rattle.so_history.specs.Facts.{BeginsAt, EndsBefore, NoOverlap}
+use Rattle.so_history.proofs.PlaceLaws.{Where, is_last, is_early, place_of_entry, entry_at-last, entry_at-early}
+use Rattle.so_history.proofs.TurnLaws.{ends_early, keys_free}
 
 -- what ends before a place ends there in a longer history too
 later : (e : Entry) (h : List Entry) (i j : ℕ) → j ≤ length h → EndsBefore h i j → EndsBefore (e ∷ h) i j

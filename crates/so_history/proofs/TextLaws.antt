@@ -1,14 +1,10 @@
 -- What the lines of a legal history name is there.
-use Rattle.std.proofs.Common.{◌≡◌, ℕ, zero, suc, ◌+◌, ◌<◌, ◌≤◌, List, [], ◌∷◌, length, Bool, true, false, cond, Option, Some, None, arith, refl, sym, ◌∙◌, ap, subst, get_or, inl, inr}
-use Rattle.std.specs.Prelude.{◌==◌, ◌⊎◌, slice_get}
-use Rattle.std.specs.List.{All}
-use Rattle.std.proofs.lemmas.Bool.{cases_Bool}
-use Rattle.std.proofs.lemmas.Option.{same_Some, slice_get_read}
+use Rattle.std.proofs.Common.{◌≡◌, ℕ, zero, suc, ◌<◌, List, [], ◌∷◌, length, Bool, true, false, cond, Some, arith, refl, sym, ◌∙◌, ap, subst, get_or}
+use Rattle.std.specs.Prelude.{◌==◌, slice_get}
+use Rattle.std.proofs.lemmas.Option.{same_Some}
 use Rattle.so_ids.specs.declared.AgentId.{AgentId}
 use Rattle.so_ids.specs.declared.PartyId.{PartyId}
 use Rattle.so_ids.specs.declared.Place.{Place}
-use Rattle.so_ids.specs.declared.TextId.{TextId}
-use Rattle.so_ids.specs.declared.Payload.{Payload}
 use Rattle.so_code.specs.declared.instr.Instr.{Instr}
 use Rattle.so_code.specs.declared.instr.Instr.TheVariants as instr
 use Rattle.so_code.specs.declared.effect.Answer.{Answer}
@@ -20,13 +16,13 @@ use Rattle.so_code.specs.declared.frame.Frame.{Frame}
 use Rattle.so_code.specs.Machine.{act}
 use Rattle.so_code.proofs.Moves.{Comes, comes}
 use Rattle.so_scene.specs.declared.parts.SceneParts.{SceneParts}
-use Rattle.so_scene.specs.Parts.{no_agent, agent_of, code_of, NamesTexts, IsScene}
+use Rattle.so_scene.specs.Parts.{no_agent, code_of, NamesTexts, IsScene}
 use Rattle.so_history.specs.declared.entry.Entry.{Entry}
 use Rattle.so_history.specs.declared.entry.EntryKind.{EntryKind}
 use Rattle.so_history.specs.declared.entry.EntryKind.TheVariants.{Register, Begin, Act, End, Leaving, Left, Stop}
 use Rattle.so_history.specs.Places.{entry_at, before}
-use Rattle.so_history.specs.Turns.{Started, Course, started_by, turn_at, course, move_of}
-use Rattle.so_history.specs.Steps.{IsMove, IsRow, Legal, answer_of, entry_of}
+use Rattle.so_history.specs.Turns.{Started, Course, started_by, course, move_of}
+use Rattle.so_history.specs.Steps.{IsRow, Legal, entry_of}
 use Rattle.so_history.specs.Text.{beginner, beginner_at, HasText}
 use Rattle.so_history.proofs.PlaceLaws.{steps_at, before-entry, inside}
 use Rattle.so_history.proofs.TurnLaws.{turn_of, started_at_entry, turn_found, turn_agent, turn_looked_up}

@@ -1,14 +1,13 @@
 -- Which turns run after one more entry, and that lanes and queues run one at a time.
-use Rattle.std.proofs.Common.{◌≡◌, ℕ, zero, suc, ◌+◌, ◌<◌, ◌≤◌, List, [], ◌∷◌, ◌++◌, length, Bool, true, false, not, ◌&&◌, ◌||◌, cond, Option, Some, None, arith, refl, sym, ◌∙◌, ap, eqb, inl, inr}
+use Rattle.std.proofs.Common.{◌≡◌, ℕ, ◌<◌, ◌≤◌, List, [], ◌∷◌, ◌++◌, length, Bool, true, false, not, ◌||◌, cond, Option, Some, None, arith, refl, sym, ◌∙◌, ap, eqb, inl, inr}
 use Rattle.std.specs.Prelude.{◌==◌, ◌⊎◌}
 use Rattle.std.specs.List.{filter, find, AllByRecursion}
-use Rattle.std.proofs.lemmas.List.{append-nil, length-append}
+use Rattle.std.proofs.lemmas.List.{append-nil}
 use Rattle.std.proofs.lemmas.List.Elements.{filter-append, filter_agree}
-use Rattle.std.proofs.lemmas.Bool.{cases_Bool, or_cases, or_parts, and_parts, ne_eqb, eq-eqb, eqb-true, eqb-false, false≢true, not-true}
+use Rattle.std.proofs.lemmas.Bool.{cases_Bool, or_cases, and_parts, ne_eqb, eq-eqb, eqb-true}
 use Rattle.std.proofs.lemmas.Option.{same_Some}
 use Rattle.so_ids.specs.declared.PartyId.{PartyId}
 use Rattle.so_ids.specs.declared.LaneId.{LaneId}
-use Rattle.so_ids.specs.declared.KeyId.{KeyId}
 use Rattle.so_ids.specs.declared.AgentId.{AgentId}
 use Rattle.so_ids.specs.declared.DemandId.{DemandId}
 use Rattle.so_ids.specs.declared.Opening.{Opening}
@@ -24,8 +23,8 @@ use Rattle.so_history.specs.declared.entry.EntryKind.TheVariants.{Register, Begi
 use Rattle.so_history.specs.declared.entry.Demand.{Demand}
 use Rattle.so_history.specs.Demands.{waiting}
 use Rattle.so_history.specs.Turns.{Started, started_by, turns, ends, ended, running, running_at, running_on, running_with, lane_number, key_number, turn_at}
-use Rattle.so_history.specs.Order.{is_free, may_take, taking}
-use Rattle.so_history.specs.Steps.{IsMove, IsBegin, IsRow, IsStep, Legal}
+use Rattle.so_history.specs.Order.{may_take}
+use Rattle.so_history.specs.Steps.{IsBegin, IsRow, Legal}
 use Rattle.so_history.proofs.DemandLaws.{picked, picked_of}
 
 started_here : (place : ℕ) (by : PartyId) (kind : EntryKind) → AllByRecursion (λ t. t.place ≡ place) (started_by place by kind)

@@ -1,6 +1,5 @@
 -- What is asked of one agent more.
 use Rattle.std.proofs.Common.{◌≡◌, ℕ, suc, ◌+◌, List, [], ◌∷◌, ◌++◌, length, arith, refl, sym, ◌∙◌, ap, add-one, append_assoc}
-use Rattle.std.specs.Prelude.{map}
 use Rattle.std.proofs.lemmas.List.{map-append, append-nil}
 use Rattle.so_ids.specs.declared.AgentId.{AgentId}
 use Rattle.so_lists.specs.Lists.{each_below}
@@ -8,7 +7,7 @@ use Rattle.so_scene.specs.Parts.{agents_from}
 use Rattle.so_lists.proofs.EachBelow.{length-each_below}
 use Rattle.so_history.specs.declared.entry.Demand.{Demand}
 use Rattle.so_history.specs.declared.entry.DemandKind.{DemandKind}
-use Rattle.so_history.specs.Demands.{Asked, ask_each, demands_from}
+use Rattle.so_history.specs.Demands.{ask_each, demands_from}
 use Rattle.so_history.proofs.NameLaws.{demands_from-append, length-demands_from}
 
 each_below-next : (f : ℕ → AgentId) (k : ℕ) → each_below f (k + 1) ≡ each_below f k ++ f k ∷ []

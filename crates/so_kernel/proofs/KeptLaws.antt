@@ -1,7 +1,6 @@
 -- What the kernel keeps goes on after one more entry.
-use Rattle.std.proofs.Common.{◌≡◌, ℕ, ◌+◌, ◌<◌, ◌≤◌, ◌^◌, List, [], ◌∷◌, length, Bool, true, false, Option, Some, None, Result, Ok, Err, arith, refl, sym, ◌∙◌, ap, subst, cond}
-use Rattle.std.specs.Prelude.{nat_le}
-use Rattle.std.proofs.lemmas.Bool.{leb-true, false≢true, cases_Bool, eq-eqb}
+use Rattle.std.proofs.Common.{◌≡◌, ℕ, ◌+◌, ◌<◌, ◌≤◌, List, ◌∷◌, length, Bool, true, false, Option, Some, None, Ok, Err, arith, refl, sym, ◌∙◌, ap, subst, cond}
+use Rattle.std.proofs.lemmas.Bool.{leb-true, false≢true}
 use Rattle.so_ids.specs.declared.LaneId.{LaneId}
 use Rattle.so_ids.specs.declared.CoopId.{CoopId}
 use Rattle.so_ids.specs.declared.Reason.{Reason}
@@ -14,15 +13,14 @@ use Rattle.so_scene.specs.declared.parts.SceneParts.{SceneParts}
 use Rattle.so_scene.specs.Parts.{IsScene}
 use Rattle.so_history.specs.declared.entry.Entry.{Entry}
 use Rattle.so_history.specs.Units.{units, cost, fits}
-use Rattle.so_history.specs.Steps.{the_coop, finished, IsStep, IsRow, Legal}
+use Rattle.so_history.specs.Steps.{the_coop, finished, IsRow}
 use Rattle.so_history.proofs.DemandLaws.{waiting-units}
-use Rattle.so_kernel.specs.declared.answers.Refused.{Refused}
-use Rattle.so_kernel.specs.declared.answers.Refused.TheVariants.{Nothing, Full, Over}
+use Rattle.so_kernel.specs.declared.answers.Refused.TheVariants.{Full, Over}
 use Rattle.so_kernel.specs.declared.tables.Tables.{Tables}
 use Rattle.so_kernel.specs.Shapes.{Core}
 use Rattle.so_kernel.specs.Tables.{tables_of, HasRoom}
 use Rattle.so_kernel.specs.Kept.{IsKept, IsReady}
-use Rattle.so_kernel.specs.Gates.{gated, gated_entry, core_after}
+use Rattle.so_kernel.specs.Gates.{gated, gated_entry}
 
 pub kept_after : {s : SceneParts} {limit : ℕ} {h : List Entry} {t : Tables} {full : Bool} (e : Entry) (u : Tables) → IsKept s limit h t full →
     IsReady (record { scene = s; limit = limit; history = h; full = full }) e → u ≡ tables_of s limit (e ∷ h) → IsKept s limit (e ∷ h) u full

@@ -1,44 +1,38 @@
 -- The tables after one more entry: one law for each kind.
-use Rattle.std.proofs.Common.{◌≡◌, ℕ, ◌+◌, ◌<◌, ◌≤◌, List, [], ◌∷◌, ◌++◌, length, Bool, true, false, not, cond, Option, Some, None, arith, refl, sym, ◌∙◌, ap, eqb, inl, inr, get_or, subst}
-use Rattle.std.specs.Prelude.{◌==◌, ◌⊎◌, ◌↔◌, ◌&&◌, IsTrue, slice_set, slice_index_or}
-use Rattle.std.specs.List.{filter, find, All, AllByRecursion}
+use Rattle.std.proofs.Common.{◌≡◌, ℕ, ◌<◌, List, [], ◌∷◌, length, Bool, true, false, Some, None, arith, refl, sym, ◌∙◌, ap, inl, inr, get_or}
+use Rattle.std.specs.Prelude.{◌==◌, ◌↔◌, ◌&&◌, IsTrue, slice_set}
+use Rattle.std.specs.List.{find, All}
 use Rattle.std.specs.Option.{is_none}
-use Rattle.std.proofs.lemmas.List.{append-nil, length-append}
-use Rattle.std.proofs.lemmas.Bool.{cases_Bool, and_parts, false≢true, ne_eqb, eq-eqb, eqb-true}
-use Rattle.so_ids.specs.declared.AgentId.{AgentId}
+use Rattle.std.proofs.lemmas.List.{append-nil}
+use Rattle.std.proofs.lemmas.Bool.{cases_Bool, and_parts, false≢true, ne_eqb, eq-eqb}
 use Rattle.so_ids.specs.declared.CoopId.{CoopId}
 use Rattle.so_ids.specs.declared.LaneId.{LaneId}
-use Rattle.so_ids.specs.declared.KeyId.{KeyId}
-use Rattle.so_ids.specs.declared.DemandId.{DemandId}
 use Rattle.so_ids.specs.declared.Place.{Place}
-use Rattle.so_ids.specs.declared.Opening.{Opening}
 use Rattle.so_ids.specs.declared.Reason.{Reason}
 use Rattle.so_code.specs.declared.effect.Effect.{Effect}
 use Rattle.so_code.specs.declared.effect.Answer.{Answer}
-use Rattle.so_lists.specs.Lists.{is_empty, each_below}
+use Rattle.so_lists.specs.Lists.{is_empty}
 use Rattle.so_lists.proofs.First.{empty-list}
 use Rattle.so_lists.proofs.EachBelow.{length-each_below, get_or-each_below, each_below-same, each_below-set, each_below-replicate}
 use Rattle.so_scene.specs.declared.parts.SceneParts.{SceneParts}
-use Rattle.so_scene.specs.Parts.{agents_of, coop_of}
+use Rattle.so_scene.specs.Parts.{agents_of}
 use Rattle.so_scene.specs.Lanes.{lanes, keys, key_of, serves}
 use Rattle.so_scene.proofs.LaneLaws.{key_in_range}
 use Rattle.so_history.specs.declared.entry.Entry.{Entry}
-use Rattle.so_history.specs.declared.entry.EntryKind.{EntryKind}
-use Rattle.so_history.specs.declared.entry.EntryKind.TheVariants.{Register, Begin, Act, End, Leaving, Left, Stop}
+use Rattle.so_history.specs.declared.entry.EntryKind.TheVariants.{Register, Act, End, Leaving, Left, Stop}
 use Rattle.so_history.specs.declared.entry.Demand.{Demand}
-use Rattle.so_history.specs.declared.entry.DemandKind.{DemandKind}
 use Rattle.so_history.specs.declared.entry.DemandKind.TheVariants.{Start, Finish}
 use Rattle.so_history.specs.declared.entry.StopCause.{StopCause}
-use Rattle.so_history.specs.Demands.{ask_each, demands_from, queued_by, demands, taken, takes, waiting}
+use Rattle.so_history.specs.Demands.{ask_each, demands, taken, waiting}
 use Rattle.so_history.specs.Units.{units}
 use Rattle.so_history.specs.Turns.{Started, started_by, ends, turns, running, running_at, running_on, running_with, lane_number, key_number, turn_at}
 use Rattle.so_history.specs.Coops.{tried, present, leaving, stopped}
-use Rattle.so_history.specs.Order.{is_free, may_take, pick, opening_of, taking}
+use Rattle.so_history.specs.Order.{may_take, pick, opening_of, taking}
 use Rattle.so_history.specs.Steps.{Legal}
-use Rattle.so_history.proofs.DemandLaws.{waiting-queued, waiting-same, waiting-taken, picked, cost-asked}
+use Rattle.so_history.proofs.DemandLaws.{waiting-queued, waiting-same, waiting-taken, picked}
 use Rattle.so_history.proofs.NameLaws.{length-demands_from}
 use Rattle.so_history.proofs.TurnLaws.{Frees, running_at-begun, running_at-same, running_at-ended, running_at-other, alone, turn_found, running_nowhere, running_at-nil, lanes_free, keys_free, may_be_taken}
-use Rattle.so_kernel.specs.Tables.{tables_of, places, first_place, marks_of, fresh, may_take_by, after_register, after_begin, after_act, after_end, after_leaving, after_left, after_stop}
+use Rattle.so_kernel.specs.Tables.{tables_of, places, first_place, fresh, may_take_by, after_register, after_begin, after_act, after_end, after_leaving, after_left, after_stop}
 
 -- where turns run after an entry that begins and ends nothing
 places-same : (f : Started → ℕ) (s : SceneParts) (h : List Entry) (e : Entry) (n : ℕ) → Legal s h → started_by (length h) e.by e.kind ≡ [] → ((t : ℕ) → ends e.kind t ≡ false) →

@@ -1,6 +1,5 @@
 -- The turns that are in hand, and a row of picks.
 use Rattle.std.specs.Prelude.{◌≡◌, ℕ, ◌<◌, List, [], ◌∷◌, length, Option, Some, None, slice_index_or}
-use Rattle.so_ids.specs.declared.LaneId.{LaneId}
 use Rattle.so_code.specs.declared.effect.Move.{Move}
 use Rattle.so_code.specs.declared.frame.Frame.{Frame}
 use Rattle.so_code.specs.Machine.{after}

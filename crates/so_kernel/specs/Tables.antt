@@ -1,5 +1,5 @@
 -- The tables of a history, and what each entry makes of them.
-use Rattle.std.specs.Prelude.{◌≡◌, ℕ, ◌+◌, ◌<◌, ◌≤◌, ◌^◌, ◌&&◌, List, [], ◌∷◌, ◌++◌, length, Bool, true, false, Option, Some, None, slice_set, slice_index_or, replicate}
+use Rattle.std.specs.Prelude.{ℕ, ◌+◌, ◌<◌, ◌≤◌, ◌^◌, ◌&&◌, List, [], ◌∷◌, ◌++◌, length, Bool, true, false, Option, Some, None, slice_set, slice_index_or, replicate}
 use Rattle.std.specs.Option.{is_none}
 use Rattle.so_ids.specs.declared.AgentId.{AgentId}
 use Rattle.so_ids.specs.declared.KeyId.{KeyId}

@@ -1,6 +1,6 @@
 -- Lists by number, which stand for a function.
-use Rattle.std.proofs.Common.{◌≡◌, ℕ, zero, suc, ◌+◌, ◌<◌, ◌≤◌, List, [], ◌∷◌, ◌++◌, length, arith, refl, sym, ◌∙◌, ap, get_or, inl, inr, add-one}
-use Rattle.std.specs.Prelude.{◌⊎◌, slice_set, replicate}
+use Rattle.std.proofs.Common.{◌≡◌, ℕ, zero, suc, ◌<◌, [], ◌∷◌, ◌++◌, length, arith, refl, sym, ◌∙◌, ap, get_or, inl, inr, add-one}
+use Rattle.std.specs.Prelude.{slice_set, replicate}
 use Rattle.std.proofs.lemmas.List.{length-append, set-append_left, get_or_append_left}
 use Rattle.std.proofs.Math.Seq.{set-append_seam, get_or-append_seam}
 use Rattle.std.proofs.lemmas.Grind.{replicate_next}

@@ -1,5 +1,5 @@
 -- Each queue is served by a lane.
-use Rattle.std.proofs.Common.{◌≡◌, ℕ, ◌<◌, length, true, arith, refl}
+use Rattle.std.proofs.Common.{◌≡◌, ◌<◌, length, true, arith, refl}
 use Rattle.so_ids.specs.declared.AgentId.{AgentId}
 use Rattle.so_ids.specs.declared.LaneId.{LaneId}
 use Rattle.so_scene.specs.declared.parts.SceneParts.{SceneParts}

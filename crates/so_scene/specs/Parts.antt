@@ -1,5 +1,5 @@
 -- The parts of a scene by number, and what a checked scene keeps.
-use Rattle.std.specs.Prelude.{◌≡◌, ℕ, ◌+◌, ◌<◌, ◌≤◌, List, [], ◌∷◌, length, slice_index_or}
+use Rattle.std.specs.Prelude.{◌≡◌, ℕ, ◌+◌, ◌<◌, ◌≤◌, List, [], length, slice_index_or}
 use Rattle.std.specs.List.{All}
 use Rattle.so_lists.specs.Lists.{each_below}
 use Rattle.so_ids.specs.declared.AgentId.{AgentId}

@@ -9,3 +9,6 @@ mod words;
 
 pub use report::Report;
 pub use top::quiet;
+
+#[cfg(test)]
+mod tests;

@@ -1,7 +1,5 @@
-use Rattle.std.proofs.Common.{◌≡◌, ℕ, [], ◌<◌, ◌≤◌, length, ◌∙◌, sym, ap, arith}
-use Rattle.so_scene.specs.declared.parts.SceneParts.{SceneParts}
+use Rattle.std.proofs.Common.{◌≡◌, ◌∙◌, sym, ap, arith}
 use Rattle.so_scene.specs.Lanes.{lanes}
-use Rattle.so_history.specs.Turns.{running_at, lane_number}
 use Rattle.so_history.specs.Chain.{lane_entry, first}
 use Rattle.so_history.proofs.ChainLaws.{first-free}
 use Rattle.so_kernel.specs.Gates.{gated, core_after, stepped}

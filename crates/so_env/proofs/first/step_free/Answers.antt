@@ -1,7 +1,6 @@
-use Rattle.std.proofs.Common.{◌≡◌, ◌∙◌, sym, ap, subst}
+use Rattle.std.proofs.Common.{◌∙◌, sym, subst}
 use Rattle.so_history.specs.Chain.{registration}
 use Rattle.so_kernel.specs.Shapes.{Core}
-use Rattle.so_kernel.specs.Gates.{gated, core_after, stepped}
 use Rattle.so_kernel.specs.declared.answers.Stepped.TheVariants.{Nothing}
 use Rattle.so_env.specs.Runs.{NoneRuns, tidy_first}
 use Rattle.so_env.proofs.StepLaws.{Steps, unchanged, second, first_of}

@@ -2,7 +2,7 @@ use Rattle.std.proofs.Common.{◌≡◌, ◌<◌, ◌+◌, ◌∙◌, sym, ap, E
 use Rattle.so_scene.specs.Lanes.{lanes}
 use Rattle.so_history.specs.Chain.{begin_entry, lane_entry}
 use Rattle.so_kernel.specs.Shapes.{Core}
-use Rattle.so_kernel.specs.Gates.{gated, core_after, stepped}
+use Rattle.so_kernel.specs.Gates.{gated}
 use Rattle.so_kernel.specs.declared.answers.Refused.TheVariants.{Nothing}
 use Rattle.so_kernel.specs.declared.answers.Stepped.TheVariants.{Nothing as NothingStep}
 use Rattle.so_env.specs.Runs.{lanes_entry}

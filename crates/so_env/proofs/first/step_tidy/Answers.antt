@@ -1,8 +1,7 @@
-use Rattle.std.proofs.Common.{◌≡◌, ◌∙◌, sym, ap, subst}
+use Rattle.std.proofs.Common.{◌∙◌, sym, subst}
 use Rattle.so_history.specs.Chain.{tidying}
 use Rattle.so_scene.specs.Lanes.{lanes}
 use Rattle.so_kernel.specs.Shapes.{Core}
-use Rattle.so_kernel.specs.Gates.{gated, core_after, stepped}
 use Rattle.so_kernel.specs.declared.answers.Stepped.TheVariants.{Nothing}
 use Rattle.so_env.specs.Runs.{NoneRuns, lanes_entry}
 use Rattle.so_env.proofs.StepLaws.{Steps, unchanged, goes_on, second, first_of}

@@ -1,7 +1,5 @@
-use Rattle.std.proofs.Common.{◌≡◌, ◌<◌, ◌+◌, ◌∷◌, length, sym, ◌∙◌, ap, subst, arith, List}
-use Rattle.so_scene.specs.declared.parts.SceneParts.{SceneParts}
+use Rattle.std.proofs.Common.{◌≡◌, ◌∷◌, length, sym, ◌∙◌, ap, subst, arith, List}
 use Rattle.so_history.specs.declared.entry.Entry.{Entry}
-use Rattle.so_history.specs.Steps.{Legal}
 use Rattle.so_history.specs.Text.{text}
 use Rattle.so_env.specs.Prints.{Printed, Counts}
 use Rattle.so_env.proofs.RunLaws.{way_on, way_shorter, way_end, added_entry, same_after}

@@ -1,4 +1,3 @@
-use Rattle.std.proofs.Common.{◌≡◌, sym, ◌∙◌}
 use Rattle.so_kernel.proofs.HeldLaws.{held_registered, held_tidied}
 use Rattle.so_kernel.proofs.steps.step.Goals as goal
 

@@ -1,9 +1,6 @@
-use Rattle.std.proofs.Common.{◌≡◌, refl, sym, ◌∙◌, ap}
-use Rattle.so_code.specs.declared.effect.Move.{Move}
-use Rattle.so_code.specs.declared.effect.Move.TheVariants.{Do, Done}
-use Rattle.so_code.specs.declared.frame.Frame.{Frame}
-use Rattle.so_history.specs.Steps.{entry_of}
-use Rattle.so_kernel.specs.Gates.{act_entry, gated, stepped}
+use Rattle.std.proofs.Common.{refl, sym, ◌∙◌}
+use Rattle.so_code.specs.declared.effect.Move.TheVariants.{Do}
+use Rattle.so_kernel.specs.Gates.{act_entry}
 use Rattle.so_kernel.proofs.GateLaws.{act_full}
 use Rattle.so_kernel.proofs.HeldLaws.{lane_moved, held_went}
 use Rattle.so_kernel.proofs.steps.step_act.Goals as goal

@@ -1,4 +1,3 @@
-use Rattle.std.proofs.Common.{◌≡◌}
 use Rattle.so_kernel.proofs.HeldLaws.{held_began}
 use Rattle.so_kernel.proofs.steps.step_begin.Goals as goal
 

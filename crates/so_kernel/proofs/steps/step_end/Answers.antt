@@ -1,5 +1,5 @@
-use Rattle.std.proofs.Common.{◌≡◌, refl, sym, ◌∙◌, ap}
-use Rattle.so_code.specs.declared.effect.Move.TheVariants.{Do, Done}
+use Rattle.std.proofs.Common.{refl, sym, ◌∙◌}
+use Rattle.so_code.specs.declared.effect.Move.TheVariants.{Done}
 use Rattle.so_kernel.specs.Gates.{end_entry}
 use Rattle.so_kernel.proofs.GateLaws.{end_full}
 use Rattle.so_kernel.proofs.HeldLaws.{lane_moved, held_done}

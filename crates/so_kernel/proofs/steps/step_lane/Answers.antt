@@ -1,4 +1,4 @@
-use Rattle.std.proofs.Common.{◌≡◌, sym, ◌∙◌, ap, subst, Option}
+use Rattle.std.proofs.Common.{sym, ◌∙◌, ap, subst, Option}
 use Rattle.so_kernel.specs.Gates.{gated, core_after, stepped}
 use Rattle.so_kernel.specs.Held.{IsLaneHeld}
 use Rattle.so_kernel.specs.declared.answers.Turn.{Turn}

@@ -1,4 +1,3 @@
-use Rattle.std.proofs.Common.{◌≡◌, ◌<◌, length, sym, ◌∙◌, ap}
 use Rattle.so_history.proofs.CourseLaws.{course_awake}
 use Rattle.so_kernel.proofs.HeldLaws.{lane_held, held_agent}
 use Rattle.so_kernel.proofs.steps.step_turn.Goals as goal

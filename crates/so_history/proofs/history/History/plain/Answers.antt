@@ -1,4 +1,4 @@
-use Rattle.std.proofs.Common.{◌≡◌, ◌<◌, length, ap, sym, ◌∙◌, arith, refl}
+use Rattle.std.proofs.Common.{ap, sym, ◌∙◌, arith, refl}
 use Rattle.so_history.specs.Text.{beginner_at}
 use Rattle.so_history.proofs.PlaceLaws.{inside, before-entry}
 use Rattle.so_history.proofs.TextLaws.{act_named}

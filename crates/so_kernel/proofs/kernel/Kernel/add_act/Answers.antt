@@ -1,4 +1,4 @@
-use Rattle.std.proofs.Common.{◌≡◌, ◌<◌, ◌≤◌, length, refl, sym, ◌∙◌, arith}
+use Rattle.std.proofs.Common.{arith}
 use Rattle.so_code.proofs.Moves.{comes}
 use Rattle.so_scene.specs.Parts.{code_of, no_agent}
 use Rattle.so_kernel.proofs.HeldLaws.{held_acted, held_agent}

@@ -1,8 +1,5 @@
-use Rattle.std.proofs.Common.{◌≡◌, ◌<◌, length, Some, refl, sym, ◌∙◌, subst, ap}
+use Rattle.std.proofs.Common.{◌≡◌, Some, refl, sym, ◌∙◌, subst}
 use Rattle.so_lists.proofs.EachBelow.{length-each_below}
-use Rattle.so_scene.specs.declared.parts.SceneParts.{SceneParts}
-use Rattle.so_scene.specs.Lanes.{lanes, keys}
-use Rattle.so_scene.proofs.LaneLaws.{key_in_range}
 use Rattle.so_history.specs.Order.{pick}
 use Rattle.so_history.proofs.DemandLaws.{picked_of}
 use Rattle.so_kernel.specs.Shapes.{Core}

@@ -1,9 +1,7 @@
-use Rattle.std.proofs.Common.{◌≡◌, ◌<◌, length, refl, sym, ◌∙◌, subst, ap}
-use Rattle.so_ids.specs.declared.LaneId.{LaneId}
-use Rattle.so_ids.specs.declared.AgentId.{AgentId}
+use Rattle.std.proofs.Common.{◌<◌, refl, sym, ◌∙◌, subst, ap}
 use Rattle.so_code.specs.declared.effect.Move.TheVariants.{Done}
 use Rattle.so_lists.proofs.EachBelow.{length-each_below}
-use Rattle.so_scene.specs.Lanes.{lanes, keys, key_of}
+use Rattle.so_scene.specs.Lanes.{lanes, key_of}
 use Rattle.so_history.proofs.TurnLaws.{turn_in_range}
 use Rattle.so_kernel.specs.Shapes.{Core}
 use Rattle.so_kernel.specs.Tables.{after_end}

@@ -1,4 +1,4 @@
-use Rattle.std.proofs.Common.{◌≡◌, ◌+◌, ◌<◌, ◌≤◌, ◌^◌, refl, ap, sym, ◌∙◌, length, arith}
+use Rattle.std.proofs.Common.{sym, ◌∙◌, arith}
 use Rattle.so_history.specs.declared.entry.DemandKind.TheVariants.{Finish}
 use Rattle.so_history.proofs.DemandLaws.{cost-asked}
 use Rattle.so_kernel.proofs.KeptLaws.{kept_after, has_room, has_place, leaving_coop}

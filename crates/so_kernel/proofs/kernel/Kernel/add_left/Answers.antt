@@ -1,4 +1,4 @@
-use Rattle.std.proofs.Common.{◌≡◌, refl, sym, ◌∙◌}
+use Rattle.std.proofs.Common.{refl, sym, ◌∙◌}
 use Rattle.so_kernel.proofs.KeptLaws.{kept_after, has_room, has_place}
 use Rattle.so_kernel.proofs.TableLaws.{tables-left}
 use Rattle.so_kernel.proofs.kernel.Kernel.add_left.Goals as goal

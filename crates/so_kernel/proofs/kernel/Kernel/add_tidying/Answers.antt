@@ -1,4 +1,3 @@
-use Rattle.std.proofs.Common.{◌≡◌}
 use Rattle.so_history.proofs.ChainLaws.{tidied, not_tidied}
 use Rattle.so_kernel.proofs.kernel.Kernel.add_tidying.Goals as goal
 

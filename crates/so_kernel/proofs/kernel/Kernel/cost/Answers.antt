@@ -1,4 +1,4 @@
-use Rattle.std.proofs.Common.{◌≡◌, ◌+◌, sym, ◌∙◌}
+use Rattle.std.proofs.Common.{sym}
 use Rattle.so_history.specs.declared.entry.DemandKind.TheVariants.{Start, Finish}
 use Rattle.so_history.proofs.DemandLaws.{cost-asked}
 use Rattle.so_kernel.proofs.kernel.Kernel.cost.Goals as goal

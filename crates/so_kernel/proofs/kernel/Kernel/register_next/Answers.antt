@@ -1,4 +1,4 @@
-use Rattle.std.proofs.Common.{◌≡◌, sym, ◌∙◌, ap}
+use Rattle.std.proofs.Common.{sym, ◌∙◌, ap}
 use Rattle.so_history.specs.declared.entry.Entry.{Entry}
 use Rattle.so_history.proofs.ChainLaws.{registered}
 use Rattle.so_kernel.proofs.kernel.Kernel.register_next.Goals as goal

@@ -1,4 +1,4 @@
-use Rattle.std.proofs.Common.{◌≡◌, ◌++◌, ◌+◌, length, ap, sym, ◌∙◌, arith, refl}
+use Rattle.std.proofs.Common.{length, ap, arith, refl}
 use Rattle.std.proofs.lemmas.List.{length-append}
 use Rattle.so_scene.specs.Parts.{agents_from}
 use Rattle.so_history.specs.Demands.{ask_each, demands_from}
