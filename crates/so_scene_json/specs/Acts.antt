@@ -1,5 +1,5 @@
 -- A log act: the word, a text, and at most four numbers.
-use Rattle.std.specs.Prelude.{ℕ, ◌<◌, ◌≤◌, ℤ, pos, List, [], ◌∷◌, length, codes, Bool, true, false, nat_le, Option, Some, None, option_map, bytes_eq, position, slice_get}
+use Rattle.std.specs.Prelude.{ℕ, ◌<◌, ◌≤◌, pos, List, [], ◌∷◌, length, codes, Bool, false, nat_le, Option, Some, None, option_map, bytes_eq, position, slice_get}
 use Rattle.serde_json.specs.Data.{Data}
 use Rattle.serde_json.specs.Find.{as_str}
 use Rattle.so_code.specs.declared.instr.Operand.{Operand}

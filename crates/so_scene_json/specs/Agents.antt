@@ -1,5 +1,5 @@
 -- An agent: its name, and the code of its start handler.
-use Rattle.std.specs.Prelude.{ℕ, List, [], ◌∷◌, ◌++◌, codes, Bool, true, ◌&&◌, not, Option, Some, None, bytes_eq}
+use Rattle.std.specs.Prelude.{ℕ, List, [], ◌∷◌, ◌++◌, codes, Bool, true, ◌&&◌, not, Option, Some, bytes_eq}
 use Rattle.std.specs.List.{list_any}
 use Rattle.serde_json.specs.Data.{Data}
 use Rattle.so_code.specs.declared.instr.Body.TheVariants.{Start, Finish}

@@ -1,4 +1,4 @@
-use Rattle.std.proofs.Common.{◌≡◌, length, refl, sym, arith, Option, None, Err}
+use Rattle.std.proofs.Common.{◌≡◌, arith, Option, None, Err}
 use Rattle.std.proofs.lemmas.Grind.{common_steps}
 use Rattle.so_scene.specs.declared.fault.SceneRefusal.{SceneRefusal}
 use Rattle.so_scene.specs.declared.fault.SceneRefusal.TheVariants.{Fault, NoMemory}

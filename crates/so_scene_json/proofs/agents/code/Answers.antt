@@ -1,5 +1,5 @@
-use Rattle.std.proofs.Common.{ap, subst, sym, ◌≤◌, length, ◌∙◌}
-use Rattle.so_scene_json.proofs.Codes.{is_code, names_texts}
+use Rattle.std.proofs.Common.{subst, sym, ◌≤◌}
+use Rattle.so_scene_json.proofs.Codes.{is_code}
 use Rattle.so_scene_json.proofs.agents.code.Goals as goal
 
 pub new-requires : goal.new-requires
