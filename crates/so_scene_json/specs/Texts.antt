@@ -1,5 +1,5 @@
 -- The texts of a scene, in the order in which they first appear.
-use Rattle.std.specs.Prelude.{ℕ, List, [], ◌∷◌, ◌++◌, length, codes, nat_le, if◌then◌else◌, Option, Some, None, is_some, bytes_eq, position, fold, filter_map, flat_map}
+use Rattle.std.specs.Prelude.{ℕ, List, [], ◌∷◌, length, codes, nat_le, not, Option, Some, None, bytes_eq, filter, filter_map, flat_map}
 use Rattle.serde_json.specs.Data.{Data}
 use Rattle.serde_json.specs.Find.{get}
 use Rattle.so_scene_json.specs.Fields.{◌>>=◌, where_true, listed}
@@ -23,13 +23,10 @@ or_none (Some ds) = ds
 abbrev pub logged : Data → List (List ℕ)
 logged agent = filter_map text_of (or_none (acts_of agent))
 
--- a text goes to the end, unless it is there already
-abbrev pub with_text : List (List ℕ) → List ℕ → List (List ℕ)
-with_text texts t = if is_some (position (bytes_eq t) texts) then texts else texts ++ t ∷ []
-
--- each text once
+-- each text once, where it first appears
 abbrev pub distinct : List (List ℕ) → List (List ℕ)
-distinct ts = fold with_text [] ts
+distinct [] = []
+distinct (t ∷ ts) = t ∷ filter (λ u. not (bytes_eq u t)) (distinct ts)
 
 -- the texts of agents, by number
 abbrev pub texts_of : List Data → List (List ℕ)

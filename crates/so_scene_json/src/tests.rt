@@ -34,14 +34,14 @@ fn one_agent_logs_its_text(rt: HostRuntime) {
     assert_eq!(rt; scene.agents(), 1);
     assert_eq!(rt; scene.texts(), 1);
     for coop in scene.parts().coops.as_slice() {
-        assert!(rt; coop.name.bytes() == b"main");
+        assert!(rt; coop.name.bytes() == b"main".as_slice());
         assert!(rt; coop.first.0 == 0 && coop.count == 1);
     }
     for text in scene.parts().texts.as_slice() {
-        assert!(rt; text.bytes() == b"hello");
+        assert!(rt; text.bytes() == b"hello".as_slice());
     }
     for agent in scene.parts().agents.as_slice() {
-        assert!(rt; agent.name.bytes() == b"hello");
+        assert!(rt; agent.name.bytes() == b"hello".as_slice());
         assert!(rt; agent.code.instrs().len() == 3);
     }
 }

@@ -3,7 +3,8 @@ ghost use Rattle.std.specs.Prelude.{◌≡◌, ◌≤◌, ◌<◌, length, optio
 ghost use Rattle.std.specs.List.{All};
 ghost use Rattle.serde_json.specs.View.{view};
 ghost use Rattle.so_scene_json.specs.Acts.{text_of};
-ghost use Rattle.so_scene_json.specs.Texts.{acts_in, acts_of, or_none, logged, with_text, texts_of};
+ghost use Rattle.so_scene_json.specs.Texts.{acts_in, acts_of, or_none, logged, texts_of};
+ghost use Rattle.so_scene_json.specs.Adding.{with_text};
 ghost use Rattle.so_scene_json.specs.Reads.{Builds, Leaves};
 
 use crate::acts::text;

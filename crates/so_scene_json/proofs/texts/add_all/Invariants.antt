@@ -3,7 +3,7 @@ use Rattle.std.specs.Prelude.{fold, filter_map}
 use Rattle.std.specs.List.{All}
 use Rattle.serde_json.specs.View.{view}
 use Rattle.so_scene_json.specs.Acts.{text_of}
-use Rattle.so_scene_json.specs.Texts.{with_text}
+use Rattle.so_scene_json.specs.Adding.{with_text}
 use Rattle.so_scene_json.proofs.texts.add_all.Given as goal
 
 abbrev pub invariant-loop-act : goal.invariant-loop-act
