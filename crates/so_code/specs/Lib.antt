@@ -1,4 +1,0 @@
-pub mod Bodies
-pub mod Valid
-pub mod Machine
-pub mod Running
