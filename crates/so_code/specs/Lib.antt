@@ -8,5 +8,6 @@ pub mod Machine
 pub mod Running
 pub mod Answers
 pub mod Openings
+pub mod Origins
 pub mod Turns
 pub mod Differs

@@ -29,12 +29,9 @@ pub record Part : Type 0 where
   pub body : Body
   pub acts : List Act
 
-abbrev pub handler_code : Handler → List Instr
-handler_code h = Case h.case h.msg ∷ (h.acts ++ Back ∷ [])
-
 abbrev pub handlers_code : List Handler → List Instr
 handlers_code [] = []
-handlers_code (h ∷ rest) = handler_code h ++ handlers_code rest
+handlers_code (h ∷ rest) = Case h.case h.msg ∷ (h.acts ++ Back ∷ handlers_code rest)
 
 abbrev pub act_code : Act → List Instr
 act_code (plain i) = i ∷ []
@@ -74,7 +71,7 @@ pub record IsHandler (cases : ℕ) (h : Handler) : Type 0 where
 pub record PassesOver (count : ℕ) (rest : List Act) : Type 0 where
   pub acts : ℕ
   pub few : acts ≤ length rest
-  pub count : count ≡ length (acts_code (take acts rest))
+  pub width : count ≡ length (acts_code (take acts rest))
 
 -- a state's enter and exit bodies make no switch
 abbrev pub may_switch : Body → Bool
@@ -92,7 +89,7 @@ pub record IsPlainAct (body : Body) (i : Instr) (rest : List Act) : Type 0 where
 pub record IsReceiving (i : Instr) (handlers : List Handler) : Type 0 where
   pub receive : is_receive i ≡ true
   pub parts : HasParts i
-  pub handlers : AllByRecursion (IsHandler (cases_of i)) handlers
+  pub each : AllByRecursion (IsHandler (cases_of i)) handlers
 
 abbrev pub IsAct : Body → Act → List Act → Type 0
 IsAct body (plain i) rest = IsPlainAct body i rest

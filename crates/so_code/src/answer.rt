@@ -2,8 +2,7 @@
 
 ghost use Rattle.std.specs.Prelude.{◌≡◌, ◌+◌, ◌-◌, ◌<◌, ◌≤◌, ◌^◌, List, pos};
 ghost use Rattle.so_code.specs.declared.instr.Instr.{Instr as AnyInstr};
-ghost use Rattle.so_code.specs.Running.{IsFrame, IsRunning};
-ghost use Rattle.so_code.specs.Shape.{IsCode};
+ghost use Rattle.so_code.specs.Running.{IsFrame, IsAwake, IsRunning};
 ghost use Rattle.so_code.specs.Machine.{plan_left, ran_one, with_todo};
 ghost use Rattle.so_code.specs.Answers.{FitsChosen, FitsChoose, Fits, HasRoom, IsAnswerTo, acted, acted_with, said, armed, put_done, sent, switched, has_transferred, chose, chosen_by, subscribed, refusal_number, registered, reason_number, took, answered_to, answered};
 
@@ -214,7 +213,8 @@ impl Frame {
         requires fits { IsAnswerTo self.old.todo answer }
         requires running { IsRunning self.old }
         ensures answered { self.new ≡ answered answer self.old }
-        ensures frame { (code : List AnyInstr) → IsCode code → IsFrame code self.old → IsFrame code self.new }
+        ensures frame { (code : List AnyInstr) → IsFrame code self.old → IsFrame code self.new }
+        ensures awake { IsAwake self.new.todo }
     {
         if let Todo::Wait(effect) = self.todo {
             self.answered_to(effect, answer);

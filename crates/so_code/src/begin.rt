@@ -1,6 +1,8 @@
 //! How a turn begins.
 
-ghost use Rattle.std.specs.Prelude.{◌≡◌};
+ghost use Rattle.std.specs.Prelude.{◌≡◌, List};
+ghost use Rattle.so_code.specs.declared.instr.Instr.{Instr as AnyInstr};
+ghost use Rattle.so_code.specs.Running.{IsFrame, IsAwake};
 ghost use Rattle.so_code.specs.Openings.{FitsOpening, fresh, opened, begun};
 
 use crate::frame::{Frame, Todo};
@@ -11,7 +13,9 @@ impl Frame {
     /// The frame of a turn that begins with this opening, its owner's variables and its message.
     pub fn begin(opening: Opening, vars: Vars, msg: Payload) -> Frame
         requires { FitsOpening opening }
-        ensures { result ≡ begun opening vars msg }
+        ensures begun { result ≡ begun opening vars msg }
+        ensures frame { (code : List AnyInstr) → IsFrame code result }
+        ensures awake { IsAwake result.todo }
     {
         let mut frame = fresh(opening, vars, msg);
         frame.opened(opening);

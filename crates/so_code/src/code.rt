@@ -52,14 +52,14 @@ impl Code {
     }
 }
 
-#[tactic(auto, using(crate::proofs::Same::sames))]
+#[tactic(auto, using(crate::proofs::SameInstrs::sames))]
 fn is_same(a: Instr, b: Instr) -> bool
     ensures { IsTrue result ↔ (a ≡ b) }
 {
     a == b
 }
 
-#[tactic(auto, using(crate::proofs::Lists::codes))]
+#[tactic(auto, using(crate::proofs::SameCodes::codes))]
 fn difference(a: &[Instr], b: &[Instr]) -> Option<u32>
     requires a { length a.now ≤ 1024 }
     requires b { length b.now ≤ 1024 }
