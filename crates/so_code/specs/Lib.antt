@@ -9,5 +9,6 @@ pub mod Running
 pub mod Answers
 pub mod Openings
 pub mod Origins
+pub mod Own
 pub mod Turns
 pub mod Differs
