@@ -10,7 +10,7 @@ use Rattle.so_code.specs.declared.instr.Instr.{Instr}
 use Rattle.so_code.specs.declared.instr.Instr.TheVariants as instr
 use Rattle.so_code.specs.Receives.{is_receive, is_case, is_back, handlers, past}
 use Rattle.so_code.specs.Valid.{HasParts, jump, is_act, is_switch}
-use Rattle.so_code.specs.Shape.{Handler, Act, Part, plain, receiving, handlers_code, act_code, acts_code, flatten, cases_of, IsHandlerAct, AreHandlerActs, IsHandler, PassesOver, IsPlainAct, IsReceiving, IsAct, AreActs, IsPart, IsCode}
+use Rattle.so_code.specs.Shape.{Handler, Act, Part, plain, receiving, handlers_code, act_code, acts_code, flatten, cases_of, IsActBefore, AreActsBefore, IsHandler, PassesOver, IsPlainAct, IsReceiving, IsAct, AreActs, IsPart, IsCode}
 use Rattle.so_code.specs.Places.{reach, is_plain, IsAt, IsReceiveAt, IsIn, HasReceive, HasPlaces}
 
 -- ---- two lists, one after the other
@@ -57,6 +57,10 @@ act_reach instr.Back e = absurd cc
 act_reach (instr.End body) e = absurd cc
 act_reach other e = refl
 
+no_switch : (i : Instr) → (is_switch i ≡ true → false ≡ true) → is_switch i ≡ false
+no_switch (instr.Switch to) h = let no : false ≡ true = h refl in absurd cc
+no_switch other h = refl
+
 act_plain : (i : Instr) → is_act i ≡ true → is_switch i ≡ false → is_plain i ≡ true
 act_plain (instr.Switch to) e s = absurd cc
 act_plain (instr.Receive chains cases handle_n extract_n empty_timeout total_time no_wait) e s = absurd cc
@@ -99,13 +103,13 @@ pub record IsInner (i : Instr) (place length_is : ℕ) : Type 0 where
   pub plain : is_plain i ≡ true
   pub leads : place + reach i < length_is
 
-acts_inner : (acts : List Instr) (k : ℕ) (i : Instr) → AreHandlerActs acts → slice_get acts k ≡ Some i → IsInner i k (length acts + 1)
+acts_inner : (acts : List Instr) (k : ℕ) (i : Instr) → AreActsBefore false 0 acts → slice_get acts k ≡ Some i → IsInner i k (length acts + 1)
 acts_inner [] k i acts e = absurd cc
 acts_inner (j ∷ rest) zero i acts e =
     let same : j ≡ i = cc in
     subst (λ (x : Instr). IsInner x 0 (length (j ∷ rest) + 1)) same (record {
       parts = acts.0.parts;
-      plain = act_plain j acts.0.act acts.0.no_switch;
+      plain = act_plain j acts.0.act (no_switch j acts.0.switch);
       leads = omega (arith, act_reach j acts.0.act, acts.0.jumps);
     })
 acts_inner (j ∷ rest) (suc k) i acts e =
@@ -149,7 +153,7 @@ handlers_none : (code : List Instr) → begins_case code ≡ false → handlers 
 handlers_none [] e = refl
 handlers_none (i ∷ code) e = rw e refl
 
-inside_width : (acts rest : List Instr) → AreHandlerActs acts → handlers true (acts ++ instr.Back ∷ rest) ≡ length acts + (1 + handlers false rest)
+inside_width : (acts rest : List Instr) → AreActsBefore false 0 acts → handlers true (acts ++ instr.Back ∷ rest) ≡ length acts + (1 + handlers false rest)
 inside_width [] rest acts = omega arith
 inside_width (i ∷ more) rest acts =
     let e : is_back i ≡ false = act_no_back i acts.0.act in

@@ -51,21 +51,23 @@ abbrev pub cases_of : Instr → ℕ
 cases_of (Receive chains cases handle_n extract_n empty_timeout total_time no_wait) = cases
 cases_of other = 0
 
--- an act of a handler, before the rest of the handler: no receive and no switch, and a jump stays in the handler
-pub record IsHandlerAct (i : Instr) (rest : List Instr) : Type 0 where
+-- an act of one instruction that so many follow in its list: it stands for an act by itself, it is a switch only where
+-- switches may stand, and its jump stays in the list
+pub record IsActBefore (switches : Bool) (i : Instr) (ahead : ℕ) : Type 0 where
   pub act : is_act i ≡ true
-  pub no_switch : is_switch i ≡ false
+  pub switch : is_switch i ≡ true → switches ≡ true
   pub parts : HasParts i
-  pub jumps : jump i ≤ length rest
+  pub jumps : jump i ≤ ahead
 
-abbrev pub AreHandlerActs : List Instr → Type 0
-AreHandlerActs [] = Unit {0}
-AreHandlerActs (i ∷ rest) = IsHandlerAct i rest × AreHandlerActs rest
+-- acts of one instruction each, which so many more follow in their list
+abbrev pub AreActsBefore : Bool → ℕ → List Instr → Type 0
+AreActsBefore switches more [] = Unit {0}
+AreActsBefore switches more (i ∷ rest) = IsActBefore switches i (length rest + more) × AreActsBefore switches more rest
 
--- a handler of a receive of so many cases
+-- a handler of a receive of so many cases: its acts are whole, and no receive or switch is among them
 pub record IsHandler (cases : ℕ) (h : Handler) : Type 0 where
   pub case : h.case < cases
-  pub acts : AreHandlerActs h.acts
+  pub acts : AreActsBefore false 0 h.acts
 
 -- so many instructions are whole acts, the next ones of the list
 pub record PassesOver (count : ℕ) (rest : List Act) : Type 0 where
@@ -79,7 +81,7 @@ may_switch (Enter s) = false
 may_switch (Exit s) = false
 may_switch other = true
 
--- an act of one instruction, before the rest of its body
+-- an act of one instruction, before the rest of its body's acts, of which its jump passes over whole ones
 pub record IsPlainAct (body : Body) (i : Instr) (rest : List Act) : Type 0 where
   pub act : is_act i ≡ true
   pub switch : is_switch i ≡ true → may_switch body ≡ true
