@@ -1,6 +1,7 @@
 -- A turn of a code without switch and receive asks only for the effects of its own acts.
-use Rattle.std.proofs.Common.{◌≡◌, ℕ, zero, suc, ◌+◌, ◌-◌, ℤ, Bool, true, false, List, Option, Some, None, arith, refl, sym, ap, ◌∙◌, subst}
+use Rattle.std.proofs.Common.{◌≡◌, ℕ, zero, suc, ◌+◌, ◌-◌, ℤ, Bool, true, false, List, [], ◌∷◌, Option, Some, None, arith, refl, sym, ap, ◌∙◌, subst}
 use Rattle.std.specs.Prelude.{slice_get, nat_lt, if◌then◌else◌, ◌+ℤ◌, ◌-ℤ◌, ◌*ℤ◌}
+use Rattle.std.specs.List.{AllByRecursion}
 use Rattle.std.proofs.lemmas.Bool.{ltb-true}
 use Rattle.so_ids.specs.declared.Vars.{Vars}
 use Rattle.so_ids.specs.declared.Payload.{Payload}
@@ -179,6 +180,12 @@ pub answered_runs : (a : Answer) (f : Frame) → RunsActs f → RunsActs (answer
 answered_runs a f runs = answered_in_runs f.todo a f refl runs
 
 -- ---- its effects
+
+-- each instruction of a list that passes a test
+pub all_at : (test : Instr → Bool) (code : List Instr) (p : ℕ) (i : Instr) → AllByRecursion (λ j. test j ≡ true) code → IsAt code p i → test i ≡ true
+all_at test [] p i all at = let none : None ≡ Some i = at.here in absurd cc
+all_at test (j ∷ code) zero i all at = let here : Some j ≡ Some i = at.here in let same : j ≡ i = cc in ap test (sym same) ∙ all.0
+all_at test (j ∷ code) (suc p) i all at = all_at test code p i all.1 (record { here = at.here })
 
 receive_not_own : (i : Instr) → is_receive i ≡ true → is_own i ≡ true → ⊥
 receive_not_own (instr.Receive chains cases handle_n extract_n empty_timeout total_time no_wait) r own = cc

@@ -27,10 +27,11 @@ use Rattle.so_code.specs.declared.frame.Todo.TheVariants as todo
 use Rattle.so_code.specs.Values.{in_range, holds, value, put, payload}
 use Rattle.so_code.specs.Machine.{Step, goes_on, next_by, put_if, with_todo, does, fails, is_done, act, act_at, ended, step_of, step, go_on, first_move, steps, after}
 use Rattle.so_code.specs.Answers.{said, armed, put_done, sent, subscribed, registered, answered_to, answered}
-use Rattle.so_code.specs.Places.{HasPlaces, IsAt}
+use Rattle.so_code.specs.Shape.{IsCode}
 use Rattle.so_code.specs.Running.{IsFrame}
-use Rattle.so_code.specs.Turns.{with_effect, effects_by, is_straight, ends_turn, is_acting, and_further, effects_in, is_log, and_line, lines_of}
+use Rattle.so_code.specs.Turns.{with_effect, effects_by, is_straight, ends_turn, is_acting, and_further, effects_in, is_log, and_line, lines_of, at_place, IsIf, GoesOnWith}
 use Rattle.so_code.proofs.MoveLaws.{after_silent}
+use Rattle.so_code.proofs.ShapeLaws.{places-code}
 
 -- ---- an answer leads to the next act, or raises an exception
 
@@ -210,7 +211,7 @@ log_straight (i ∷ acts) logs = (one i logs.0, log_straight acts logs.1)
     one (instr.Log text args) e = refl
     one other e = absurd cc
 
-lines_same : (acts : List Instr) (f : Frame) (t : Todo) (p : ℕ) → lines_of (record f { todo = t; place = p }) acts ≡ lines_of f acts
+pub lines_same : (acts : List Instr) (f : Frame) (t : Todo) (p : ℕ) → lines_of (record f { todo = t; place = p }) acts ≡ lines_of f acts
 lines_same [] f t p = refl
 lines_same (i ∷ acts) f t p = one i acts f t p (lines_same acts f t p)
   where
@@ -226,8 +227,8 @@ lines_in (instr.Log text args ∷ acts) f logs =
 lines_in (other ∷ acts) f logs = absurd cc
 
 -- a body of log acts writes its lines in their order, with the values that the frame has at its beginning
-pub lines_in_order : (code : List Instr) (body : Body) (rest acts : List Instr) (f : Frame) → ends_turn body ≡ true → f.todo ≡ todo.Act → drop f.place code ≡ acts ++ instr.End body ∷ rest → AllByRecursion (λ i. is_log i ≡ true) acts → effects_by (after code) (replicate (length acts) answer.Okay) f ≡ lines_of f acts
-lines_in_order code body rest acts f last at here logs =
+pub lines_from : (code : List Instr) (body : Body) (rest acts : List Instr) (f : Frame) → ends_turn body ≡ true → f.todo ≡ todo.Act → drop f.place code ≡ acts ++ instr.End body ∷ rest → AllByRecursion (λ i. is_log i ≡ true) acts → effects_by (after code) (replicate (length acts) answer.Okay) f ≡ lines_of f acts
+lines_from code body rest acts f last at here logs =
     in_order code body rest last (replicate (length acts) answer.Okay) acts f (at, here, log_straight acts logs) ∙ lines_in acts f logs
 
 -- ---- a conditional
@@ -242,14 +243,26 @@ drop_past (x ∷ code) zero q i passed rest e d =
 drop_past (x ∷ code) (suc p) zero i passed rest e d = absurd (omega arith)
 drop_past (x ∷ code) (suc p) (suc q) i passed rest e d = drop_past code p q i passed rest (omega arith) d
 
-module _ (code : List Instr) (places : HasPlaces code) (f : Frame) (frame : IsFrame code f) (at : f.todo ≡ todo.Act) (a : Operand) (cmp : Cmp) (b : Operand) (passed rest : List Instr) (here : drop f.place code ≡ instr.If a cmp b (length passed) ∷ (passed ++ rest)) where
-  pub if_step : (c : Bool) → holds cmp (value f a) (value f b) ≡ c → step code f ≡ goes_on (next_by (if c then 1 else length passed + 1) f)
-  if_step c e = step_at code f (instr.If a cmp b (length passed)) (passed ++ rest) at here ∙ ap (λ (x : Bool). goes_on (next_by (if x then 1 else length passed + 1) f)) e
+module _ (code : List Instr) (f : Frame) (a : Operand) (cmp : Cmp) (b : Operand) (passed rest : List Instr) (is_code : IsCode code) (frame : IsFrame code f) (is_if : IsIf code f a cmp b passed rest) where
+  if_step : (c : Bool) → holds cmp (value f a) (value f b) ≡ c → step code f ≡ goes_on (next_by (if c then 1 else length passed + 1) f)
+  if_step c e = step_at code f (instr.If a cmp b (length passed)) (passed ++ rest) is_if.acts is_if.here ∙ ap (λ (x : Bool). goes_on (next_by (if x then 1 else length passed + 1) f)) e
+
+  if_moves : (c : Bool) → holds cmp (value f a) (value f b) ≡ c → after code f ≡ after code (at_place (f.place + (if c then 1 else length passed + 1)) f)
+  if_moves c e =
+      let by : ℕ = if c then 1 else length passed + 1 in
+      after_silent code (places-code code is_code) f (next_by by f) frame (if_step c e)
+      ∙ ap (λ (t : Todo). after code (record f { todo = t; place = f.place + by })) is_if.acts
 
   -- where its comparison is true, an `if` goes on with the next act
-  pub if_true : holds cmp (value f a) (value f b) ≡ true → (after code f ≡ after code (next_by 1 f)) × (drop (f.place + 1) code ≡ passed ++ rest)
-  if_true e = (after_silent code places f (next_by 1 f) frame (if_step true e), drop_next code f.place (f.place + 1) (instr.If a cmp b (length passed)) (passed ++ rest) refl here)
+  pub if_true : holds cmp (value f a) (value f b) ≡ true → GoesOnWith code f (f.place + 1) (passed ++ rest)
+  if_true e = record {
+    moves = if_moves true e;
+    follows = drop_next code f.place (f.place + 1) (instr.If a cmp b (length passed)) (passed ++ rest) refl is_if.here;
+  }
 
   -- where it is false, it passes over exactly its acts
-  pub if_false : holds cmp (value f a) (value f b) ≡ false → (after code f ≡ after code (next_by (length passed + 1) f)) × (drop (f.place + (length passed + 1)) code ≡ rest)
-  if_false e = (after_silent code places f (next_by (length passed + 1) f) frame (if_step false e), drop_past code f.place (f.place + (length passed + 1)) (instr.If a cmp b (length passed)) passed rest refl here)
+  pub if_false : holds cmp (value f a) (value f b) ≡ false → GoesOnWith code f (f.place + (length passed + 1)) rest
+  if_false e = record {
+    moves = if_moves false e;
+    follows = drop_past code f.place (f.place + (length passed + 1)) (instr.If a cmp b (length passed)) passed rest refl is_if.here;
+  }

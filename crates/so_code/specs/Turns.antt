@@ -1,7 +1,10 @@
 -- What a turn does, told by its acts alone: no places, no look-ups and no count of steps.
-use Rattle.std.specs.Prelude.{ℕ, Bool, true, false, List, [], ◌∷◌, Option, Some, None, if◌then◌else◌}
+use Rattle.std.specs.Prelude.{◌≡◌, ℕ, ◌+◌, Bool, true, false, List, [], ◌∷◌, ◌++◌, length, drop, map, Option, Some, None, if◌then◌else◌}
+use Rattle.std.specs.List.{AllByRecursion}
 use Rattle.so_code.specs.declared.instr.Body.{Body}
 use Rattle.so_code.specs.declared.instr.Body.TheVariants.{Enter, Exit}
+use Rattle.so_code.specs.declared.instr.Cmp.{Cmp}
+use Rattle.so_code.specs.declared.instr.Operand.{Operand}
 use Rattle.so_code.specs.declared.instr.Instr.{Instr}
 use Rattle.so_code.specs.declared.instr.Instr.TheVariants as instr
 use Rattle.so_code.specs.declared.effect.Effect.{Effect}
@@ -12,9 +15,12 @@ use Rattle.so_code.specs.declared.effect.Move.TheVariants.{Do, Done, Fail}
 use Rattle.so_code.specs.declared.frame.Frame.{Frame}
 use Rattle.so_code.specs.declared.frame.Todo.{Todo}
 use Rattle.so_code.specs.declared.frame.Todo.TheVariants as todo
-use Rattle.so_code.specs.Values.{payload}
-use Rattle.so_code.specs.Machine.{Step, act}
+use Rattle.so_code.specs.Values.{holds, value, payload}
+use Rattle.so_code.specs.Bodies.{same_body}
+use Rattle.so_code.specs.Shape.{Part, plain, flatten, AreActs, IsPart, IsCode}
+use Rattle.so_code.specs.Machine.{Step, act, after}
 use Rattle.so_code.specs.Answers.{answered}
+use Rattle.so_code.specs.Running.{IsFrame}
 
 -- ---- the effects of a turn
 
@@ -75,3 +81,39 @@ and_line f other lines = lines
 abbrev pub lines_of : Frame → List Instr → List Effect
 lines_of f [] = []
 lines_of f (i ∷ acts) = and_line f i (lines_of f acts)
+
+-- ---- a turn that begins with a body
+
+-- the frame at the instruction at this place
+abbrev pub at_place : ℕ → Frame → Frame
+at_place place f = record f { todo = todo.Act; place = place }
+
+-- the turn begins with these acts, the whole body of one part of its code
+pub record BeginsWith (code : List Instr) (acts : List Instr) (f : Frame) : Type 0 where
+  pub front : List Part
+  pub body : Body
+  pub rest : List Part
+  pub made : code ≡ flatten (front ++ record { body = body; acts = map plain acts } ∷ rest)
+  pub is_code : IsCode code
+  pub each : AllByRecursion IsPart front
+  pub are : AreActs body (map plain acts)
+  pub first : AllByRecursion (λ (p : Part). same_body p.body body ≡ false) front
+  pub last : ends_turn body ≡ true
+  pub frame : IsFrame code f
+  pub opens : f.todo ≡ todo.Open body
+
+-- the place of the first of them
+abbrev pub first_place : {code acts : List Instr} {f : Frame} → BeginsWith code acts f → ℕ
+first_place begins = length (flatten begins.front)
+
+-- ---- a conditional
+
+-- an `if` at the frame's place, that passes over these acts, and what follows them
+pub record IsIf (code : List Instr) (f : Frame) (a : Operand) (cmp : Cmp) (b : Operand) (passed rest : List Instr) : Type 0 where
+  pub acts : f.todo ≡ todo.Act
+  pub here : drop f.place code ≡ instr.If a cmp b (length passed) ∷ (passed ++ rest)
+
+-- the turn goes on as from a place, from which these instructions follow
+pub record GoesOnWith (code : List Instr) (f : Frame) (place : ℕ) (follow : List Instr) : Type 0 where
+  pub moves : after code f ≡ after code (at_place place f)
+  pub follows : drop place code ≡ follow

@@ -13,6 +13,7 @@ mod code;
 mod effect;
 mod frame;
 mod instr;
+pub mod laws;
 mod receives;
 mod run;
 mod step;
