@@ -10,6 +10,6 @@ mod words;
 
 pub use fault::{SceneFault, SceneRefusal};
 pub use items::Items;
-pub use parts::{AgentDef, CoopDef, SceneParts};
+pub use parts::{AgentDef, CoopDef, MessageDef, SceneParts};
 pub use scene::Scene;
 pub use words::{Name, Text};

@@ -3,7 +3,15 @@
 use crate::items::Items;
 use crate::words::{Name, Text};
 use so_code::Code;
-use so_ids::{AgentId, CoopId};
+use so_ids::{AgentId, CoopId, Vars};
+use so_state::Row;
+
+/// A type of messages. A signal carries nothing.
+#[derive(Debug, Drop)]
+pub struct MessageDef {
+    pub name: Name,
+    pub signal: bool,
+}
 
 /// A cooperation: its agents are `count` agents from `first` on.
 #[derive(Debug, Drop)]
@@ -13,17 +21,21 @@ pub struct CoopDef {
     pub count: u32,
 }
 
-/// An agent: its cooperation, and the code of its handlers.
+/// An agent: its cooperation, the variables with which it begins, its subscriptions, and the code of its
+/// handlers.
 #[derive(Debug, Drop)]
 pub struct AgentDef {
     pub name: Name,
     pub coop: CoopId,
+    pub vars: Vars,
+    pub rows: Items<Row>,
     pub code: Code,
 }
 
 /// All parts.
 #[derive(Debug, Drop)]
 pub struct SceneParts {
+    pub messages: Items<MessageDef>,
     pub coops: Items<CoopDef>,
     pub agents: Items<AgentDef>,
     pub texts: Items<Text>,
