@@ -1,6 +1,7 @@
 -- The entry that each pick makes, the first legal step, and the chain of first steps: the run of the simulation.
 use Rattle.std.specs.Prelude.{◌≡◌, ℕ, List, [], ◌∷◌, false, not, ◌&&◌, Option, Some, None, if◌then◌else◌}
-use Rattle.std.specs.Option.{option_map}
+use Rattle.std.specs.Option.{option_map, option_and_then}
+use Rattle.so_ids.specs.declared.PartyId.{PartyId}
 use Rattle.so_ids.specs.declared.LaneId.{LaneId}
 use Rattle.so_ids.specs.declared.Reason.TheVariants.{Shutdown}
 use Rattle.so_ids.specs.Ids.{main_party, party_of}
@@ -10,25 +11,29 @@ use Rattle.so_scene.specs.Lanes.{lanes}
 use Rattle.so_history.specs.declared.entry.Entry.{Entry}
 use Rattle.so_history.specs.declared.entry.EntryKind.{EntryKind}
 use Rattle.so_history.specs.declared.entry.EntryKind.TheVariants.{Register, Leaving, Left, Stop}
-use Rattle.so_history.specs.declared.entry.StopCause.TheVariants.{Idle}
+use Rattle.so_history.specs.declared.entry.StopCause.{StopCause}
+use Rattle.so_history.specs.declared.entry.StopCause.TheVariants.{Asked, Idle}
 use Rattle.so_history.specs.declared.entry.Pick.{Pick}
 use Rattle.so_history.specs.declared.entry.Pick.TheVariants as pick
 use Rattle.so_history.specs.Turns.{Started, Course, running_on, course, move_of}
-use Rattle.so_history.specs.Coops.{tried, stopped, has_reason}
+use Rattle.so_history.specs.Coops.{the_coop, tried, has_reason}
 use Rattle.so_history.specs.Order.{pick as picked, taking}
 use Rattle.so_history.specs.Units.{fits}
-use Rattle.so_history.specs.Steps.{the_coop, may_leave, is_idle, finished, entry_of}
+use Rattle.so_history.specs.Steps.{may_leave, may_stop, is_over, entry_of}
 
 abbrev pub by_main : EntryKind → Entry
 by_main kind = record { by = main_party; kind = kind }
 
--- the entry of a turn's next move
-abbrev pub next_of : SceneParts → List Entry → Started → Course → Entry
-next_of s h t c = record { by = t.by; kind = entry_of s h t.place (move_of s c).0 }
+abbrev pub signed : PartyId → EntryKind → Entry
+signed by kind = record { by = by; kind = kind }
+
+-- the entry of a turn's next move, where it has one
+abbrev pub next_of : SceneParts → List Entry → Started → Course → Option Entry
+next_of s h t c = option_map (signed t.by) (entry_of s h t.place (move_of s c).0)
 
 abbrev pub turn_entry : SceneParts → List Entry → Option Started → Option Entry
 turn_entry s h None = None
-turn_entry s h (Some t) = option_map (next_of s h t) (course s h t.place)
+turn_entry s h (Some t) = option_and_then (next_of s h t) (course s h t.place)
 
 -- the first turn that runs on a lane
 abbrev pub turn_on : List Entry → LaneId → Option Started
@@ -36,7 +41,7 @@ turn_on h lane = head (running_on h lane)
 
 -- the entry by which a lane takes the demand that it may take
 abbrev pub begin_entry : SceneParts → List Entry → LaneId → Option Entry
-begin_entry s h lane = option_map (λ d. record { by = party_of lane; kind = taking lane d }) (picked s h lane)
+begin_entry s h lane = option_map (λ d. record { by = party_of lane; kind = taking s h lane d }) (picked s h lane)
 
 -- main's registration, if it has not tried it
 unfoldable pub registration : List Entry → Option Entry
@@ -48,12 +53,16 @@ leaving_entry h = if has_reason h then Some (by_main (Leaving the_coop Shutdown)
 abbrev pub left_entry : SceneParts → List Entry → Option Entry
 left_entry s h = if may_leave s h then Some (by_main (Left the_coop)) else None
 
-abbrev pub stop_entry : SceneParts → List Entry → Option Entry
-stop_entry s h = if not (stopped h) && is_idle s h then Some (by_main (Stop Idle)) else None
+abbrev pub stop_entry : SceneParts → List Entry → StopCause → Option Entry
+stop_entry s h cause = if may_stop s h cause then Some (by_main (Stop cause)) else None
 
--- what main is to tidy: the cooperation leaves, or has left, or the run stops
+-- what main is to tidy: a stop was asked for, the cooperation leaves, or has left, or nothing is left to do
 unfoldable pub tidying : SceneParts → List Entry → Option Entry
-tidying s h = or_else (leaving_entry h) (or_else (left_entry s h) (stop_entry s h))
+tidying s h =
+    or_else (stop_entry s h Asked)
+    (or_else (leaving_entry h)
+    (or_else (left_entry s h)
+    (stop_entry s h Idle)))
 
 -- the next step of a lane: that of its running turn, or else a Begin
 unfoldable pub lane_entry : SceneParts → List Entry → LaneId → Option Entry
@@ -70,10 +79,11 @@ unfoldable pub first : SceneParts → List Entry → Option Entry
 first s h =
     or_else (first_below (λ l. turn_entry s h (turn_on h (record { 0 = l }))) (lanes s))
     (or_else (registration h)
+    (or_else (stop_entry s h Asked)
     (or_else (leaving_entry h)
     (or_else (left_entry s h)
     (or_else (first_below (λ l. begin_entry s h (record { 0 = l })) (lanes s))
-    (stop_entry s h)))))
+    (stop_entry s h Idle))))))
 
 abbrev pub fitting : SceneParts → ℕ → List Entry → Option Entry → Option Entry
 fitting s limit h None = None
@@ -81,7 +91,7 @@ fitting s limit h (Some e) = if fits s limit h e then Some e else None
 
 -- the simulation's next entry: the first legal step, while the run goes on and the step fits
 unfoldable pub next_entry : SceneParts → ℕ → List Entry → Option Entry
-next_entry s limit h = if finished s h then None else fitting s limit h (first s h)
+next_entry s limit h = if is_over s h then None else fitting s limit h (first s h)
 
 -- each entry is the simulation's next after those before it
 abbrev pub FollowsFirst : SceneParts → ℕ → List Entry → Type 0

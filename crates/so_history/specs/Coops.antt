@@ -1,8 +1,15 @@
 -- How the cooperation and the run stand: the last entry that tells decides.
-use Rattle.std.specs.Prelude.{List, [], ◌∷◌, Bool, true, false, not, ◌&&◌}
+use Rattle.std.specs.Prelude.{List, [], ◌∷◌, Bool, true, false, not, ◌&&◌, ◌||◌}
+use Rattle.so_ids.specs.declared.CoopId.{CoopId}
+use Rattle.so_code.specs.declared.effect.Effect.{Effect}
+use Rattle.so_code.specs.declared.effect.Effect.TheVariants as effect
 use Rattle.so_history.specs.declared.entry.Entry.{Entry}
 use Rattle.so_history.specs.declared.entry.EntryKind.{EntryKind}
-use Rattle.so_history.specs.declared.entry.EntryKind.TheVariants.{Register, Leaving, Left, Stop}
+use Rattle.so_history.specs.declared.entry.EntryKind.TheVariants.{Register, Act, Leaving, Left, Stop, Abort}
+
+-- the one cooperation
+abbrev pub the_coop : CoopId
+the_coop = record { 0 = 0 }
 
 abbrev pub tried_by : EntryKind → Bool → Bool
 tried_by (Register coop) b = true
@@ -41,6 +48,28 @@ stopped_by _ b = b
 unfoldable pub stopped : List Entry → Bool
 stopped [] = false
 stopped (e ∷ h) = stopped_by e.kind (stopped h)
+
+abbrev pub is_stop : Effect → Bool
+is_stop effect.Stop = true
+is_stop other = false
+
+abbrev pub asks_stop : EntryKind → Bool
+asks_stop (Act turn effect answer) = is_stop effect
+asks_stop other = false
+
+-- a turn asked for a stop
+unfoldable pub stop_asked : List Entry → Bool
+stop_asked [] = false
+stop_asked (e ∷ h) = asks_stop e.kind || stop_asked h
+
+abbrev pub aborts : EntryKind → Bool
+aborts (Abort cause) = true
+aborts other = false
+
+-- the history ends in an abort
+unfoldable pub aborted : List Entry → Bool
+aborted [] = false
+aborted (e ∷ h) = aborts e.kind
 
 -- the cooperation has a reason to leave: the stop
 unfoldable pub has_reason : List Entry → Bool

@@ -1,17 +1,24 @@
 -- Which demands an entry queues, which were taken, and which wait.
-use Rattle.std.specs.Prelude.{ℕ, ◌+◌, List, [], ◌∷◌, ◌++◌, length, map, Bool, false, not, ◌||◌, Option, Some, None, if◌then◌else◌}
-use Rattle.std.specs.List.{filter}
+use Rattle.std.specs.Prelude.{ℕ, ◌+◌, pos, replicate, List, [], ◌∷◌, ◌++◌, length, map, Bool, false, not, ◌||◌, Option, Some, None, if◌then◌else◌}
+use Rattle.std.specs.List.{filter, find}
 use Rattle.so_ids.specs.declared.AgentId.{AgentId}
 use Rattle.so_ids.specs.declared.DemandId.{DemandId}
+use Rattle.so_ids.specs.declared.MsgId.{MsgId}
+use Rattle.so_ids.specs.declared.Payload.{Payload}
+use Rattle.so_ids.specs.declared.Target.{Target}
+use Rattle.so_ids.specs.declared.Target.TheVariants.{Mbox, Chain}
 use Rattle.so_ids.specs.Ids.{same_demand}
+use Rattle.so_code.specs.declared.effect.Effect.{Effect}
+use Rattle.so_code.specs.declared.effect.Effect.TheVariants.{Send}
 use Rattle.so_scene.specs.declared.parts.SceneParts.{SceneParts}
 use Rattle.so_scene.specs.Parts.{agents_of}
 use Rattle.so_history.specs.declared.entry.Entry.{Entry}
 use Rattle.so_history.specs.declared.entry.EntryKind.{EntryKind}
-use Rattle.so_history.specs.declared.entry.EntryKind.TheVariants.{Register, Begin, Leaving}
+use Rattle.so_history.specs.declared.entry.EntryKind.TheVariants.{Register, Begin, Act, Leaving}
 use Rattle.so_history.specs.declared.entry.Demand.{Demand}
+use Rattle.so_history.specs.Delivery.{reached}
 use Rattle.so_history.specs.declared.entry.DemandKind.{DemandKind}
-use Rattle.so_history.specs.declared.entry.DemandKind.TheVariants.{Start, Finish}
+use Rattle.so_history.specs.declared.entry.DemandKind.TheVariants.{Start, Finish, Event}
 
 -- what is asked of an agent
 pub record Asked : Type 0 where
@@ -22,11 +29,21 @@ pub record Asked : Type 0 where
 abbrev pub ask_each : DemandKind → List AgentId → List Asked
 ask_each kind agents = map (λ a. record { agent = a; kind = kind }) agents
 
--- what an entry asks: each agent of a cooperation is to start where it is registered, and to finish where it leaves
-abbrev pub asked_by : SceneParts → EntryKind → List Asked
-asked_by s (Register coop) = ask_each Start (agents_of s coop)
-asked_by s (Leaving coop reason) = ask_each Finish (agents_of s coop)
-asked_by s _ = []
+-- what a turn's effect asks: a message that is sent asks each agent that it reaches to handle it
+abbrev pub asked_by_target : SceneParts → List Entry → Target → MsgId → Payload → List Asked
+asked_by_target s h (Mbox mbox) msg payload = ask_each (Event mbox msg payload) (reached s h mbox msg)
+asked_by_target s h (Chain chain) msg payload = []
+
+abbrev pub asked_by_effect : SceneParts → List Entry → Effect → List Asked
+asked_by_effect s h (Send target msg payload) = asked_by_target s h target msg payload
+asked_by_effect s h other = []
+
+-- what an entry after this history asks: each agent of a cooperation is to start where it is registered, and to finish where it leaves
+abbrev pub asked_by : SceneParts → List Entry → EntryKind → List Asked
+asked_by s h (Register coop) = ask_each Start (agents_of s coop)
+asked_by s h (Leaving coop reason) = ask_each Finish (agents_of s coop)
+asked_by s h (Act turn effect answer) = asked_by_effect s h effect
+asked_by s h other = []
 
 -- the demands of what the entry at a place asks, from number k on
 abbrev pub demands_from : ℕ → ℕ → List Asked → List Demand
@@ -36,7 +53,7 @@ demands_from place k (a ∷ rest) =
 
 -- the demands that an entry queues after this history
 abbrev pub queued_by : SceneParts → List Entry → EntryKind → List Demand
-queued_by s h kind = demands_from (length h) 0 (asked_by s kind)
+queued_by s h kind = demands_from (length h) 0 (asked_by s h kind)
 
 -- all demands that were queued
 unfoldable pub demands : SceneParts → List Entry → List Demand
@@ -65,3 +82,24 @@ waiting s h = filter (λ d. not (taken h d.id)) (demands s h)
 abbrev pub without : DemandId → List Demand → List Demand
 without id [] = []
 without id (d ∷ ds) = if same_demand id d.id then ds else d ∷ without id ds
+
+-- the demand of a name, among these
+abbrev pub named : DemandId → List Demand → Option Demand
+named id ds = find (λ d. same_demand id d.id) ds
+
+-- ---- the message of a demand: for an event its payload, otherwise an empty one
+
+abbrev pub no_payload : Payload
+no_payload = record { fields = replicate 4 (pos 0); used = 0 }
+
+abbrev pub payload_of : DemandKind → Payload
+payload_of (Event mbox msg payload) = payload
+payload_of other = no_payload
+
+abbrev pub payload_in : Option Demand → Payload
+payload_in None = no_payload
+payload_in (Some d) = payload_of d.kind
+
+abbrev pub message_of : SceneParts → List Entry → Option DemandId → Payload
+message_of s h None = no_payload
+message_of s h (Some id) = payload_in (named id (demands s h))

@@ -18,7 +18,7 @@ use Rattle.so_history.specs.declared.entry.EntryKind.TheVariants.{Register, Begi
 use Rattle.so_history.specs.declared.entry.Demand.{Demand}
 use Rattle.so_history.specs.declared.entry.DemandKind.TheVariants.{Start, Finish}
 use Rattle.so_history.specs.Places.{entry_at, before}
-use Rattle.so_history.specs.Demands.{ask_each, demands_from, demands, takes, waiting}
+use Rattle.so_history.specs.Demands.{ask_each, demands_from, demands, named, takes, waiting}
 use Rattle.so_history.specs.Turns.{ends, running}
 use Rattle.so_history.specs.Order.{opening_of}
 
@@ -57,10 +57,6 @@ takings h d = count_by (λ e. takes e.kind d) h
 abbrev pub TakenOnce : List Entry → Type 0
 TakenOnce h = (d : DemandId) → takings h d ≤ 1
 
--- the demand of a name, among these
-abbrev pub named : DemandId → List Demand → Option Demand
-named id ds = find (λ d. same_demand id d.id) ds
-
 -- the entry at a place takes a demand
 pub record TakesAt (h : List Entry) (place : ℕ) (d : DemandId) : Type 0 where
   pub entry : Entry
@@ -83,7 +79,7 @@ InOrder s h =
 pub record BeginsWith (s : SceneParts) (h : List Entry) (id : DemandId) (opening : Opening) (agent : AgentId) : Type 0 where
   pub demand : Demand
   pub waits : named id (waiting s h) ≡ Some demand
-  pub chosen : opening ≡ opening_of demand.kind
+  pub chosen : opening ≡ opening_of s h demand
   pub its_agent : agent ≡ demand.agent
 
 -- by choice: each turn begins with what is chosen for its demand in the history before it

@@ -1,11 +1,13 @@
 pub mod Kept
 pub mod Places
+pub mod Coops
+pub mod Delivery
 pub mod Demands
 pub mod Turns
-pub mod Coops
 pub mod Units
 pub mod Order
 pub mod Steps
 pub mod Chain
 pub mod Facts
+pub mod Trace
 pub mod Text

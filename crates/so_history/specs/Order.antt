@@ -1,6 +1,7 @@
 -- Which demand a lane may take, and what it then begins.
 use Rattle.std.specs.Prelude.{List, Bool, ◌&&◌, Option, Some, None, if◌then◌else◌}
 use Rattle.std.specs.List.{find}
+use Rattle.so_ids.specs.declared.AgentId.{AgentId}
 use Rattle.so_ids.specs.declared.LaneId.{LaneId}
 use Rattle.so_ids.specs.declared.Opening.{Opening}
 use Rattle.so_ids.specs.declared.Opening.TheVariants as opening
@@ -12,7 +13,8 @@ use Rattle.so_history.specs.declared.entry.EntryKind.{EntryKind}
 use Rattle.so_history.specs.declared.entry.EntryKind.TheVariants.{Begin}
 use Rattle.so_history.specs.declared.entry.Demand.{Demand}
 use Rattle.so_history.specs.declared.entry.DemandKind.{DemandKind}
-use Rattle.so_history.specs.declared.entry.DemandKind.TheVariants.{Start, Finish}
+use Rattle.so_history.specs.declared.entry.DemandKind.TheVariants.{Start, Finish, Event}
+use Rattle.so_history.specs.Delivery.{chosen_for}
 use Rattle.so_history.specs.Demands.{waiting}
 use Rattle.so_history.specs.Turns.{running_on, running_with}
 
@@ -28,11 +30,15 @@ may_take s h lane d = serves s lane (key_of s d.agent) && is_empty (running_with
 unfoldable pub pick : SceneParts → List Entry → LaneId → Option Demand
 pick s h lane = if is_free h lane then find (may_take s h lane) (waiting s h) else None
 
--- how a turn begins with a demand
-abbrev pub opening_of : DemandKind → Opening
-opening_of Start = opening.Start
-opening_of Finish = opening.Finish
+-- how a turn begins with a demand after this history: an event with what is chosen for it
+abbrev pub opening_for : SceneParts → List Entry → AgentId → DemandKind → Opening
+opening_for s h a Start = opening.Start
+opening_for s h a Finish = opening.Finish
+opening_for s h a (Event mbox msg payload) = opening.Event (chosen_for s h a mbox msg)
+
+abbrev pub opening_of : SceneParts → List Entry → Demand → Opening
+opening_of s h d = opening_for s h d.agent d.kind
 
 -- the entry by which a lane takes a demand
-abbrev pub taking : LaneId → Demand → EntryKind
-taking lane d = Begin lane (Some d.id) (opening_of d.kind) d.agent
+abbrev pub taking : SceneParts → List Entry → LaneId → Demand → EntryKind
+taking s h lane d = Begin lane (Some d.id) (opening_of s h d) d.agent

@@ -1,32 +1,36 @@
 -- Which entry may follow a history, and which histories are legal.
-use Rattle.std.specs.Prelude.{◌≡◌, ℕ, ◌<◌, List, [], ◌∷◌, Bool, true, false, not, ◌&&◌, ◌⊎◌, Some}
+use Rattle.std.specs.Prelude.{◌≡◌, ℕ, ◌<◌, List, [], ◌∷◌, Bool, true, false, not, ◌&&◌, ◌||◌, ◌⊎◌, Option, Some, None}
+use Rattle.std.specs.Option.{option_map}
 use Rattle.so_ids.specs.declared.PartyId.{PartyId}
 use Rattle.so_ids.specs.declared.LaneId.{LaneId}
 use Rattle.so_ids.specs.declared.CoopId.{CoopId}
+use Rattle.so_ids.specs.declared.MsgId.{MsgId}
+use Rattle.so_ids.specs.declared.Target.{Target}
+use Rattle.so_ids.specs.declared.Target.TheVariants.{Mbox, Chain}
 use Rattle.so_ids.specs.declared.Reason.TheVariants.{Shutdown}
 use Rattle.so_ids.specs.Ids.{main_party, party_of}
 use Rattle.so_code.specs.declared.effect.Answer.{Answer}
-use Rattle.so_code.specs.declared.effect.Answer.TheVariants.{Okay}
+use Rattle.so_code.specs.declared.effect.Answer.TheVariants as answer
 use Rattle.so_code.specs.declared.effect.Effect.{Effect}
-use Rattle.so_code.specs.declared.effect.Effect.TheVariants.{Log}
+use Rattle.so_code.specs.declared.effect.Effect.TheVariants as effect
 use Rattle.so_code.specs.declared.effect.Move.{Move}
-use Rattle.so_code.specs.declared.effect.Move.TheVariants.{Do, Done}
+use Rattle.so_code.specs.declared.effect.Move.TheVariants.{Do, Done, Fail}
 use Rattle.so_lists.specs.Lists.{is_empty}
 use Rattle.so_scene.specs.declared.parts.SceneParts.{SceneParts}
 use Rattle.so_scene.specs.Lanes.{lanes}
 use Rattle.so_history.specs.declared.entry.Entry.{Entry}
 use Rattle.so_history.specs.declared.entry.EntryKind.{EntryKind}
-use Rattle.so_history.specs.declared.entry.EntryKind.TheVariants.{Register, Begin, Act, End, Leaving, Left, Stop}
+use Rattle.so_history.specs.declared.entry.EntryKind.TheVariants.{Register, Begin, Act, End, Leaving, Left, Stop, Abort}
 use Rattle.so_history.specs.declared.entry.Demand.{Demand}
-use Rattle.so_history.specs.declared.entry.StopCause.TheVariants.{Idle}
+use Rattle.so_history.specs.declared.entry.StopCause.{StopCause}
+use Rattle.so_history.specs.declared.entry.StopCause.TheVariants.{Asked, Idle}
+use Rattle.so_history.specs.declared.entry.AbortCause.{AbortCause}
+use Rattle.so_history.specs.declared.entry.AbortCause.TheVariants.{Exception}
+use Rattle.so_history.specs.Delivery.{sent}
 use Rattle.so_history.specs.Demands.{waiting}
 use Rattle.so_history.specs.Turns.{Started, Course, running, turn_at, course, move_of}
-use Rattle.so_history.specs.Coops.{tried, present, leaving, stopped, has_reason}
+use Rattle.so_history.specs.Coops.{the_coop, tried, present, leaving, stopped, stop_asked, aborted, has_reason}
 use Rattle.so_history.specs.Order.{pick, taking}
-
--- the one cooperation
-abbrev pub the_coop : CoopId
-the_coop = record { 0 = 0 }
 
 -- the cooperation is leaving, and none of its agents has a demand or a turn
 unfoldable pub may_leave : SceneParts → List Entry → Bool
@@ -41,14 +45,27 @@ is_idle s h =
 unfoldable pub finished : SceneParts → List Entry → Bool
 finished s h = stopped h && (not (present h) && is_empty (waiting s h))
 
--- the answer to an effect
-abbrev pub answer_of : SceneParts → List Entry → Effect → Answer
-answer_of s h (Log text payload) = Okay
+-- nothing follows: the run is over, or it was aborted
+abbrev pub is_over : SceneParts → List Entry → Bool
+is_over s h = finished s h || aborted h
 
--- the entry of a turn's move
-abbrev pub entry_of : SceneParts → List Entry → ℕ → Move → EntryKind
-entry_of s h place (Do effect) = Act (record { 0 = place }) effect (answer_of s h effect)
-entry_of s h place Done = End (record { 0 = place })
+-- the answer to a send
+abbrev pub answer_to_send : SceneParts → List Entry → Target → MsgId → Option Answer
+answer_to_send s h (Mbox mbox) msg = Some (answer.Sent (sent s h mbox msg))
+answer_to_send s h (Chain chain) msg = None
+
+-- the answer to an effect, where it has one
+abbrev pub answer_of : SceneParts → List Entry → Effect → Option Answer
+answer_of s h (effect.Log text payload) = Some answer.Okay
+answer_of s h (effect.Send target msg payload) = answer_to_send s h target msg
+answer_of s h effect.Stop = Some answer.Okay
+answer_of s h other = None
+
+-- the entry of a turn's move, where it has one. An exception aborts the run
+abbrev pub entry_of : SceneParts → List Entry → ℕ → Move → Option EntryKind
+entry_of s h place (Do effect) = option_map (Act (record { 0 = place }) effect) (answer_of s h effect)
+entry_of s h place Done = Some (End (record { 0 = place }))
+entry_of s h place (Fail kind) = Some (Abort (Exception (record { 0 = place }) kind))
 
 -- a lane's Begin is signed by main or by the lane's party
 abbrev pub IsSigner : PartyId → LaneId → Type 0
@@ -60,7 +77,7 @@ pub record IsBegin (s : SceneParts) (h : List Entry) (by : PartyId) (lane : Lane
   pub in_range : lane.0 < lanes s
   pub demand : Demand
   pub picked : pick s h lane ≡ Some demand
-  pub is : kind ≡ taking lane demand
+  pub is : kind ≡ taking s h lane demand
 
 -- a running turn makes its next move, signed by the party that began it
 pub record IsMove (s : SceneParts) (h : List Entry) (by : PartyId) (place : ℕ) (kind : EntryKind) : Type 0 where
@@ -69,7 +86,7 @@ pub record IsMove (s : SceneParts) (h : List Entry) (by : PartyId) (place : ℕ)
   pub signed : by ≡ turn.by
   pub reached : Course
   pub has : course s h place ≡ Some reached
-  pub is : kind ≡ entry_of s h place (move_of s reached).0
+  pub is : entry_of s h place (move_of s reached).0 ≡ Some kind
 
 pub record IsRegister (h : List Entry) (by : PartyId) (coop : CoopId) : Type 0 where
   pub signed : by ≡ main_party
@@ -86,11 +103,18 @@ pub record IsLeft (s : SceneParts) (h : List Entry) (by : PartyId) (coop : CoopI
   pub the_one : coop ≡ the_coop
   pub may : may_leave s h ≡ true
 
-pub record IsStop (s : SceneParts) (h : List Entry) (by : PartyId) (kind : EntryKind) : Type 0 where
+-- a stop comes once: where a turn asked for it, or else where nothing is left to do
+abbrev pub may_stop : SceneParts → List Entry → StopCause → Bool
+may_stop s h Asked = not (stopped h) && stop_asked h
+may_stop s h Idle = not (stopped h) && (not (stop_asked h) && is_idle s h)
+
+pub record IsStop (s : SceneParts) (h : List Entry) (by : PartyId) (cause : StopCause) : Type 0 where
   pub signed : by ≡ main_party
-  pub is : kind ≡ Stop Idle
-  pub first : stopped h ≡ false
-  pub idle : is_idle s h ≡ true
+  pub may : may_stop s h cause ≡ true
+
+-- a running turn's exception aborts the run
+abbrev pub IsAbort : SceneParts → List Entry → PartyId → AbortCause → Type 0
+IsAbort s h by (Exception turn kind) = IsMove s h by turn.0 (Abort (Exception turn kind))
 
 -- what an entry of each kind asks of the history before it
 abbrev pub IsRow : SceneParts → List Entry → PartyId → EntryKind → Type 0
@@ -100,11 +124,12 @@ IsRow s h by (Act turn effect answer) = IsMove s h by turn.0 (Act turn effect an
 IsRow s h by (End turn) = IsMove s h by turn.0 (End turn)
 IsRow s h by (Leaving coop reason) = IsLeaving h by (Leaving coop reason)
 IsRow s h by (Left coop) = IsLeft s h by coop
-IsRow s h by (Stop cause) = IsStop s h by (Stop cause)
+IsRow s h by (Stop cause) = IsStop s h by cause
+IsRow s h by (Abort cause) = IsAbort s h by cause
 
 -- an entry is a legal step after a history
 pub record IsStep (s : SceneParts) (h : List Entry) (e : Entry) : Type 0 where
-  pub goes_on : finished s h ≡ false
+  pub goes_on : is_over s h ≡ false
   pub row : IsRow s h e.by e.kind
 
 -- each entry is a legal step after those before it

@@ -10,9 +10,12 @@ use Rattle.so_scene.specs.declared.parts.SceneParts.{SceneParts}
 use Rattle.so_scene.specs.Parts.{agent_of, text_of}
 use Rattle.so_history.specs.declared.entry.Entry.{Entry}
 use Rattle.so_history.specs.declared.entry.EntryKind.{EntryKind}
-use Rattle.so_history.specs.declared.entry.EntryKind.TheVariants.{Begin, Act}
+use Rattle.so_history.specs.declared.entry.EntryKind.TheVariants.{Begin, Act, Abort}
+use Rattle.so_history.specs.declared.entry.AbortCause.{AbortCause}
+use Rattle.so_history.specs.declared.entry.AbortCause.TheVariants.{Exception}
+use Rattle.so_history.specs.Trace.{fail_words, trace_line}
 use Rattle.so_history.specs.declared.lines.Mode.{Mode}
-use Rattle.so_history.specs.declared.lines.Mode.TheVariants.{Plain}
+use Rattle.so_history.specs.declared.lines.Mode.TheVariants.{Plain, Trace}
 use Rattle.so_history.specs.Places.{entry_at, before}
 
 -- the agent whose turn begins with an entry
@@ -34,19 +37,27 @@ log_line s owner text payload = owner ++ codes ": " ++ text_of s text ++ payload
 
 abbrev pub effect_line : SceneParts → List ℕ → Effect → List ℕ
 effect_line s owner (Log text payload) = log_line s owner text payload
+effect_line s owner other = []
 
--- the texts that an effect names are texts of the scene
+-- the text that an effect names is one of the scene's
 abbrev pub HasText : SceneParts → Effect → Type 0
 HasText s (Log text payload) = text.0 < length s.texts
+HasText s other = Unit {0}
+
+-- why the run was aborted, in names
+abbrev pub abort_line : SceneParts → List Entry → AbortCause → List ℕ
+abort_line s h (Exception turn kind) = codes "abort: exception " ++ owner s h turn.0 ++ codes " " ++ fail_words kind ++ codes "\n"
 
 -- a line in plain words, in names
 abbrev pub plain_line : SceneParts → List Entry → EntryKind → List ℕ
 plain_line s h (Act turn effect answer) = effect_line s (owner s h turn.0) effect
-plain_line s h _ = []
+plain_line s h (Abort cause) = abort_line s h cause
+plain_line s h other = []
 
 -- the line of an entry after this history
 abbrev pub line_after : SceneParts → Mode → List Entry → Entry → List ℕ
 line_after s Plain h e = plain_line s h e.kind
+line_after s Trace h e = trace_line (length h) e
 
 -- the lines of all entries, in order of time
 unfoldable pub text : SceneParts → Mode → List Entry → List ℕ

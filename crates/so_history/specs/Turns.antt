@@ -6,17 +6,23 @@ use Rattle.so_ids.specs.declared.PartyId.{PartyId}
 use Rattle.so_ids.specs.declared.LaneId.{LaneId}
 use Rattle.so_ids.specs.declared.KeyId.{KeyId}
 use Rattle.so_ids.specs.declared.AgentId.{AgentId}
+use Rattle.so_ids.specs.declared.DemandId.{DemandId}
+use Rattle.so_ids.specs.declared.Payload.{Payload}
+use Rattle.so_ids.specs.declared.Vars.{Vars}
 use Rattle.so_ids.specs.declared.Opening.{Opening}
 use Rattle.so_code.specs.declared.frame.Frame.{Frame}
 use Rattle.so_code.specs.declared.effect.Answer.{Answer}
 use Rattle.so_code.specs.declared.effect.Move.{Move}
-use Rattle.so_code.specs.Machine.{begun, after, answered}
+use Rattle.so_code.specs.Machine.{after}
+use Rattle.so_code.specs.Openings.{begun}
+use Rattle.so_code.specs.Answers.{answered}
 use Rattle.so_scene.specs.declared.parts.SceneParts.{SceneParts}
-use Rattle.so_scene.specs.Parts.{code_of}
+use Rattle.so_scene.specs.Parts.{agent_of, code_of, vars_of}
 use Rattle.so_scene.specs.Lanes.{key_of}
 use Rattle.so_history.specs.declared.entry.Entry.{Entry}
 use Rattle.so_history.specs.declared.entry.EntryKind.{EntryKind}
-use Rattle.so_history.specs.declared.entry.EntryKind.TheVariants.{Begin, Act, End}
+use Rattle.so_history.specs.declared.entry.EntryKind.TheVariants.{Register, Begin, Act, End}
+use Rattle.so_history.specs.Demands.{message_of}
 
 -- a turn: the place of its Begin, and what stands there
 pub record Started : Type 0 where
@@ -84,15 +90,32 @@ move_of s c = after (code_of s c.agent) c.frame
 abbrev pub answer_to : SceneParts → Answer → Course → Course
 answer_to s answer c = record c { frame = answered answer (move_of s c).1 }
 
--- the course of the turn at place t after one more entry, at a place
-abbrev pub advanced : SceneParts → ℕ → EntryKind → ℕ → Option Course → Option Course
-advanced s place (Begin lane demand opening agent) t c =
-    if place == t then Some (record { agent = agent; frame = begun opening }) else c
-advanced s place (Act turn effect answer) t c =
-    if turn.0 == t then option_map (answer_to s answer) c else c
-advanced s place _ t c = c
+-- the variables of an agent after a turn that ends: those of the turn's last move, where the turn is its own
+abbrev pub ended_vars : SceneParts → AgentId → Option Course → Vars → Vars
+ended_vars s a None v = v
+ended_vars s a (Some c) v = if c.agent.0 == a.0 then (move_of s c).1.vars else v
 
--- the course of the turn that began at a place: its frame is moved by the turn's own acts
-unfoldable pub course : SceneParts → List Entry → ℕ → Option Course
-course s [] t = None
-course s (e ∷ h) t = advanced s (length h) e.kind t (course s h t)
+-- and after one more entry: a registration sets them anew
+abbrev pub vars_after : SceneParts → (ℕ → Option Course) → EntryKind → AgentId → Vars → Vars
+vars_after s courses (Register coop) a v = if (agent_of s a).coop.0 == coop.0 then vars_of s a else v
+vars_after s courses (End turn) a v = ended_vars s a (courses turn.0) v
+vars_after s courses other a v = v
+
+-- the course of the turn at place t after one more entry, at a place. A turn begins with its agent's variables and its demand's message
+abbrev pub advanced : SceneParts → (AgentId → Vars) → (Option DemandId → Payload) → ℕ → EntryKind → ℕ → Option Course → Option Course
+advanced s vars message place (Begin lane demand opening agent) t c =
+    if place == t then Some (record { agent = agent; frame = begun opening (vars agent) (message demand) }) else c
+advanced s vars message place (Act turn effect answer) t c =
+    if turn.0 == t then option_map (answer_to s answer) c else c
+advanced s vars message place other t c = c
+
+unfoldable mutual
+  -- the variables of an agent: those of its last turn that ended since its registration
+  pub vars : SceneParts → List Entry → AgentId → Vars
+  vars s [] a = vars_of s a
+  vars s (e ∷ h) a = vars_after s (course s h) e.kind a (vars s h a)
+
+  -- the course of the turn that began at a place: its frame is moved by the turn's own acts
+  pub course : SceneParts → List Entry → ℕ → Option Course
+  course s [] t = None
+  course s (e ∷ h) t = advanced s (vars s h) (message_of s h) (length h) e.kind t (course s h t)

@@ -1,13 +1,22 @@
 //! The entries of a history, and the demands that they queue.
 
-use so_code::{Answer, Effect};
-use so_ids::{AgentId, CoopId, DemandId, LaneId, Opening, PartyId, Place, Reason};
+use so_code::{Answer, Effect, FailKind};
+use so_ids::{AgentId, CoopId, DemandId, LaneId, MboxId, MsgId, Opening, PartyId, Payload, Place, Reason};
 
 /// Why the run stops.
 #[derive(Clone, Copy, Debug, PartialEq, Eq)]
 pub enum StopCause {
+    /// By a stop act.
+    Asked,
     /// Nothing is left to do.
     Idle,
+}
+
+/// Why the run is aborted.
+#[derive(Clone, Copy, Debug, PartialEq, Eq)]
+pub enum AbortCause {
+    /// The exception of a turn, whose owner's reaction is to abort (SObjectizer's `abort_on_exception`).
+    Exception(Place, FailKind),
 }
 
 /// What happened.
@@ -47,6 +56,10 @@ pub enum EntryKind {
     Stop {
         cause: StopCause,
     },
+    /// The run is aborted, and nothing follows.
+    Abort {
+        cause: AbortCause,
+    },
 }
 
 /// What happened, and which party made it happen. A turn is named by the place of its Begin.
@@ -63,6 +76,12 @@ pub enum DemandKind {
     Start,
     /// To run its finish handler.
     Finish,
+    /// To handle a message of this type that was sent through the mbox.
+    Event {
+        mbox: MboxId,
+        msg: MsgId,
+        payload: Payload,
+    },
 }
 
 /// A demand: it waits in the queue of its agent's events until a turn takes it.

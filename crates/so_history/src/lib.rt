@@ -6,6 +6,6 @@ mod history;
 pub mod laws;
 mod lines;
 
-pub use entry::{Demand, DemandKind, Entry, EntryKind, Pick, StopCause};
+pub use entry::{AbortCause, Demand, DemandKind, Entry, EntryKind, Pick, StopCause};
 pub use history::History;
 pub use lines::Mode;

@@ -18,6 +18,8 @@ use so_scene::Scene;
 pub enum Mode {
     /// What agents log, in names.
     Plain,
+    /// Every entry, in numbers.
+    Trace,
 }
 
 /// Writes the line of an act's effect.
@@ -35,6 +37,7 @@ fn put_effect(buf: &mut LineBuf, scene: &Scene, agent: AgentId, effect: Effect)
             put_payload(buf, &payload);
             put(buf, b"\n");
         }
+        _ => {}
     }
 }
 
@@ -60,7 +63,7 @@ impl History {
         requires legal { Legal scene.now self.now.entries }
         ensures { buf.new.items ≡ line_at scene.now mode self.now.entries place.0 }
     {
-        let Mode::Plain = mode;
+        let _mode = mode;
         buf.clear();
         let entry = self.get(place);
         self.plain(scene, place, entry, buf);
