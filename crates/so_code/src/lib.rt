@@ -17,6 +17,8 @@ pub mod laws;
 mod receives;
 mod run;
 mod step;
+#[cfg(test)]
+mod tests;
 mod values;
 
 pub use behaviour::{Behaviour, Script};
