@@ -1,6 +1,7 @@
 //! Worked turns.
 
 ghost use Rattle.std.specs.Prelude.{◌≡◌, IsTrue};
+ghost use Rattle.so_code.specs.Openings.{FitsOpening};
 ghost use Rattle.so_code.specs.Running.{IsFrame, IsAwake};
 
 use crate::{
@@ -177,6 +178,16 @@ fn last(code: &Code, frame: &mut Frame) -> Option<Move>
     } else {
         None
     }
+}
+
+/// A frame whose first variable is this.
+fn begin_with(code: &Code, opening: Opening, first: i64) -> Frame
+    requires { FitsOpening opening }
+    ensures { IsFrame code.now result }
+{
+    let mut vars = Vars([0; 16]);
+    vars.0[0] = first;
+    Frame::begin(opening, vars, nothing())
 }
 
 /// Agent b: on ping it logs the field and sends it back.
@@ -375,9 +386,7 @@ fn a_product_that_does_not_fit_and_a_throw_are_exceptions(rt: HostRuntime) -> Re
         ),
         (Opening::Finish, 0, Move::Fail(FailKind::Thrown(-3))),
     ] {
-        let mut vars = Vars([0; 16]);
-        vars.0[0] = before;
-        let mut frame = Frame::begin(opening, vars, nothing());
+        let mut frame = begin_with(&code, opening, before);
         assert_eq!(rt; last(&code, &mut frame), Some(want));
     }
     Ok(())
