@@ -10,6 +10,8 @@ mod begin;
 mod behaviour;
 mod bodies;
 mod code;
+#[cfg(test)]
+mod echo;
 mod effect;
 mod frame;
 mod instr;

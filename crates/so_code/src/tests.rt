@@ -1,9 +1,11 @@
 //! Worked turns.
 
-ghost use Rattle.std.specs.Prelude.{◌≡◌, IsTrue};
+ghost use Rattle.std.specs.Prelude.{◌≡◌, IsTrue, IfOk};
+ghost use Rattle.so_code.specs.Echo.{echo_code};
 ghost use Rattle.so_code.specs.Openings.{FitsOpening};
 ghost use Rattle.so_code.specs.Running.{IsFrame, IsAwake};
 
+use crate::echo::Echo;
 use crate::{
     Answer, Args, Behaviour, Body, Cmp, Code, Dest, Effect, FailKind, Frame, Instr, Move, Operand,
     Script, Todo, next,
@@ -191,7 +193,9 @@ fn begin_with(code: &Code, opening: Opening, first: i64) -> Frame
 }
 
 /// Agent b: on ping it logs the field and sends it back.
-fn echoing(alloc: Global) -> Result<Code, AllocError> {
+fn echoing(alloc: Global) -> Result<Code, AllocError>
+    ensures { IfOk result (λ code. code ≡ echo_code) }
+{
     let instrs = Vec::from_array(
         alloc,
         [
@@ -494,14 +498,18 @@ fn ends_only(alloc: Global) -> Result<Code, AllocError> {
 }
 
 #[test]
-fn a_script_moves_as_its_code(rt: HostRuntime) -> Result<(), Fail> {
+fn a_script_and_a_box_move_as_their_code(rt: HostRuntime) -> Result<(), Fail> {
     let script = Script::new(echoing(rt.alloc())?);
     assert_eq!(rt; script.code().instrs().len(), 5);
     let mut frame = Frame::begin(ROW, Vars([0; 16]), one(7));
-    let mut other = frame;
+    let (mut second, mut third) = (frame, frame);
     assert_eq!(rt; script.next(&mut frame), logs(0, one(7)));
     let boxed: Box<dyn Behaviour> = Box::new(rt.alloc(), script)?;
-    assert_eq!(rt; boxed.next(&mut other), logs(0, one(7)));
-    assert_eq!(rt; frame, other);
+    assert_eq!(rt; boxed.next(&mut second), logs(0, one(7)));
+    let echo: Box<dyn Behaviour> = Box::new(rt.alloc(), Echo::new(echoing(rt.alloc())?))?;
+    assert_eq!(rt; echo.code().differs(boxed.code()), None);
+    assert_eq!(rt; echo.next(&mut third), logs(0, one(7)));
+    assert_eq!(rt; frame, second);
+    assert_eq!(rt; frame, third);
     Ok(())
 }
