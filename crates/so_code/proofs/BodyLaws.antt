@@ -1,6 +1,6 @@
 -- A turn begins with the first act of the body that its opening names.
-use Rattle.std.proofs.Common.{◌≡◌, ℕ, suc, ◌+◌, ◌<◌, Bool, true, false, List, [], ◌∷◌, ◌++◌, length, drop, Option, Some, None, arith, refl, sym, ap, ◌∙◌, subst, length-append, append_assoc}
-use Rattle.std.specs.Prelude.{map, replicate, nat_eq, if◌then◌else◌}
+use Rattle.std.proofs.Common.{◌≡◌, ℕ, suc, ◌+◌, Bool, true, false, List, [], ◌∷◌, ◌++◌, length, drop, Some, arith, refl, sym, ap, ◌∙◌, length-append, append_assoc}
+use Rattle.std.specs.Prelude.{map, replicate}
 use Rattle.std.specs.List.{AllByRecursion}
 use Rattle.std.proofs.lemmas.Bool.{eq-eqb}
 use Rattle.std.proofs.Math.Seq.{drop-append_seam}
@@ -8,7 +8,6 @@ use Rattle.so_code.specs.declared.instr.Body.{Body}
 use Rattle.so_code.specs.declared.instr.Body.TheVariants.{Start, Finish, Enter, Exit, Row, Thread}
 use Rattle.so_code.specs.declared.instr.Instr.{Instr}
 use Rattle.so_code.specs.declared.instr.Instr.TheVariants as instr
-use Rattle.so_code.specs.declared.effect.Effect.{Effect}
 use Rattle.so_code.specs.declared.effect.Answer.{Answer}
 use Rattle.so_code.specs.declared.effect.Answer.TheVariants.{Okay}
 use Rattle.so_code.specs.declared.frame.Frame.{Frame}
@@ -16,8 +15,8 @@ use Rattle.so_code.specs.declared.frame.Todo.TheVariants as todo
 use Rattle.so_code.specs.Bodies.{same_body, is_end, ends, body_from, body_at}
 use Rattle.so_code.specs.Receives.{is_receive}
 use Rattle.so_code.specs.Valid.{is_act}
-use Rattle.so_code.specs.Shape.{Handler, Act, Part, plain, receiving, handlers_code, act_code, acts_code, flatten, cases_of, AreActsBefore, IsHandler, AreActs, IsPart, IsCode}
-use Rattle.so_code.specs.Machine.{goes_on, open_step, step_of, step, after}
+use Rattle.so_code.specs.Shape.{Handler, Act, Part, plain, receiving, handlers_code, acts_code, flatten, cases_of, AreActsBefore, IsHandler, AreActs, IsPart}
+use Rattle.so_code.specs.Machine.{open_step, step_of, after}
 use Rattle.so_code.specs.Places.{HasPlaces}
 use Rattle.so_code.specs.Running.{IsFrame}
 use Rattle.so_code.specs.Turns.{effects_by, is_straight, effects_in, is_log, lines_of, at_place, BeginsWith, first_place}

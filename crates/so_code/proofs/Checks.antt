@@ -1,13 +1,13 @@
 -- A test that computes whether a literal list of instructions is a code.
-use Rattle.std.proofs.Common.{◌≡◌, ℕ, zero, suc, ◌+◌, ◌-◌, ◌<◌, ◌≤◌, ⊎_elim, inl, inr, Bool, true, false, ◌&&◌, ◌||◌, not, List, [], ◌∷◌, ◌++◌, length, take, Option, Some, None, arith, refl, sym, ap, ◌∙◌, subst, length-append}
-use Rattle.std.specs.Prelude.{slice_get, slice_index, nat_lt, nat_le, nat_eq, map}
+use Rattle.std.proofs.Common.{◌≡◌, ℕ, zero, suc, ◌+◌, ◌-◌, ◌≤◌, ⊎_elim, inl, inr, Bool, true, false, ◌&&◌, ◌||◌, List, [], ◌∷◌, length, take, Option, Some, None, arith, length-append}
+use Rattle.std.specs.Prelude.{slice_get, nat_lt, nat_le, nat_eq, map}
 use Rattle.std.specs.List.{AllByRecursion}
 use Rattle.std.specs.List.Sorted.{IsStrictlyIncreasing}
 use Rattle.std.proofs.lemmas.Bool.{and_parts, or_cases, ltb-true, leb-true, eqb-true}
 use Rattle.so_ids.specs.declared.MsgId.{MsgId}
 use Rattle.so_ids.specs.declared.RowId.{RowId}
 use Rattle.so_code.specs.declared.instr.Body.{Body}
-use Rattle.so_code.specs.declared.instr.Body.TheVariants.{Start, Finish, Enter, Exit, Row, Thread}
+use Rattle.so_code.specs.declared.instr.Body.TheVariants.{Thread}
 use Rattle.so_code.specs.declared.instr.Operand.{Operand}
 use Rattle.so_code.specs.declared.instr.Operand.TheVariants.{Num, Var, Msg, Temp, Ans}
 use Rattle.so_code.specs.declared.instr.Dest.{Dest}
@@ -17,7 +17,7 @@ use Rattle.so_code.specs.declared.instr.Instr.{Instr}
 use Rattle.so_code.specs.declared.instr.Instr.TheVariants as instr
 use Rattle.so_code.specs.Receives.{is_receive}
 use Rattle.so_code.specs.Valid.{AreArgs, IsOperand, IsDest, HasParts, jump, is_act, is_switch}
-use Rattle.so_code.specs.Shape.{Handler, Act, Part, plain, receiving, handlers_code, act_code, acts_code, flatten, cases_of, IsActBefore, AreActsBefore, IsHandler, PassesOver, may_switch, IsPlainAct, IsReceiving, IsAct, AreActs, IsPart, agent_bodies, row_number, AreAgentBodies, AreInOrder, body_of, IsCode}
+use Rattle.so_code.specs.Shape.{Handler, Act, Part, plain, receiving, act_code, acts_code, flatten, cases_of, IsActBefore, AreActsBefore, IsHandler, PassesOver, may_switch, IsAct, AreActs, IsPart, agent_bodies, row_number, body_of, IsCode}
 
 -- ---- the numbers of an instruction
 

@@ -1,15 +1,15 @@
 -- The first move of the box that echoes is that of its code.
-use Rattle.std.proofs.Common.{◌≡◌, ℕ, suc, Option, Some, None, refl, ap, ◌∙◌}
+use Rattle.std.proofs.Common.{◌≡◌, ℕ, suc, Some, ap}
 use Rattle.std.specs.Prelude.{unwrap_or}
 use Rattle.so_code.specs.declared.instr.Body.TheVariants.{Row}
 use Rattle.so_code.specs.declared.effect.Move.{Move}
-use Rattle.so_code.specs.declared.effect.Move.TheVariants.{Do, Done}
+use Rattle.so_code.specs.declared.effect.Move.TheVariants.{Done}
 use Rattle.so_code.specs.declared.frame.Frame.{Frame}
 use Rattle.so_code.specs.declared.frame.Todo.TheVariants as todo
 use Rattle.so_code.specs.Machine.{with_todo, go_on, step_of, first_move, after}
 use Rattle.so_code.specs.Shape.{IsCode}
 use Rattle.so_code.specs.Running.{IsFrame}
-use Rattle.so_code.specs.Echo.{echo_code, echo_line, echoed}
+use Rattle.so_code.specs.Echo.{echo_code, echoed}
 use Rattle.so_code.proofs.ShapeLaws.{places-code}
 use Rattle.so_code.proofs.MoveLaws.{after_frame}
 

@@ -1,6 +1,5 @@
 -- The code of an agent that logs what it gets and sends it back, and its first move: a box of the tests gives it at once.
-use Rattle.std.specs.Prelude.{ℤ, pos, List, [], ◌∷◌}
-use Rattle.so_ids.specs.declared.Payload.{Payload}
+use Rattle.std.specs.Prelude.{pos, List, [], ◌∷◌}
 use Rattle.so_ids.specs.declared.Target.TheVariants.{Mbox}
 use Rattle.so_code.specs.declared.instr.Args.{Args}
 use Rattle.so_code.specs.declared.instr.Body.TheVariants.{Start, Finish, Row}

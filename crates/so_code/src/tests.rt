@@ -113,11 +113,11 @@ fn reply(code: &Code, frame: &mut Frame, answer: Answer) -> bool
             frame.answer(answer);
             true
         }
-        (Todo::Wait(Effect::Choose), Answer::Chose(Chosen::Transfer { from, .. }))
-            if from.0 < 64 => {
-            frame.answer(answer);
-            true
-        }
+        (Todo::Wait(Effect::Choose), Answer::Chose(Chosen::Transfer { from, .. })) if from.0 < 64 =>
+            {
+                frame.answer(answer);
+                true
+            }
         (
             Todo::Wait(
                 Effect::Log { .. }
@@ -128,10 +128,12 @@ fn reply(code: &Code, frame: &mut Frame, answer: Answer) -> bool
             Answer::Okay,
         )
         | (
-            Todo::Wait(Effect::Send {
-                target: Target::Mbox(_),
-                ..
-            }),
+            Todo::Wait(
+                Effect::Send {
+                    target: Target::Mbox(_),
+                    ..
+                },
+            ),
             Answer::Sent(_),
         )
         | (
@@ -383,11 +385,7 @@ fn a_product_that_does_not_fit_and_a_throw_are_exceptions(rt: HostRuntime) -> Re
     let code = failing(rt.alloc())?;
     for (opening, before, want) in [
         (Opening::Start, 3037000499, Move::Done),
-        (
-            Opening::Start,
-            3037000500,
-            Move::Fail(FailKind::Overflow),
-        ),
+        (Opening::Start, 3037000500, Move::Fail(FailKind::Overflow)),
         (Opening::Finish, 0, Move::Fail(FailKind::Thrown(-3))),
     ] {
         let mut frame = begin_with(&code, opening, before);
@@ -440,7 +438,10 @@ fn a_state_transfers_an_event_once(rt: HostRuntime) -> Result<(), Fail> {
         (Move::Do(Effect::Choose), Answer::Chose(transfer)),
     ];
     assert_eq!(rt; play(&code, &mut frame, &turns), 4);
-    assert_eq!(rt; last(&code, &mut frame), Some(Move::Fail(FailKind::TransferLoop)));
+    assert_eq!(rt;
+        last(&code, &mut frame),
+        Some(Move::Fail(FailKind::TransferLoop))
+    );
     Ok(())
 }
 
