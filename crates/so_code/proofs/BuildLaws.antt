@@ -8,7 +8,7 @@ use Rattle.so_code.specs.declared.instr.Instr.TheVariants as instr
 use Rattle.so_code.specs.Bodies.{with_end, bodies_in}
 use Rattle.so_code.specs.Receives.{is_receive}
 use Rattle.so_code.specs.Valid.{jump, is_act}
-use Rattle.so_code.specs.Shape.{Handler, Act, Part, plain, receiving, handlers_code, acts_code, flatten, cases_of, IsActBefore, AreActsBefore, IsHandler, PassesOver, may_switch, AreActs, IsPart, AreInOrder, body_of, IsCode}
+use Rattle.so_code.specs.Shape.{Handler, Act, Part, plain, receiving, handlers_code, acts_code, flatten, plain_part, cases_of, IsActBefore, AreActsBefore, IsHandler, PassesOver, may_switch, AreActs, IsPart, AreInOrder, body_of, IsCode}
 
 -- fine parts in order are a code
 pub structured : (parts : List Part) → length (flatten parts) ≤ 1024 → AreInOrder (map body_of parts) → AllByRecursion IsPart parts → IsCode (flatten parts)
@@ -53,6 +53,9 @@ plain_acts body (i ∷ rest) are = (
   record { act = are.0.act; switch = are.0.switch; parts = are.0.parts; jumps = plain_passes (jump i) rest (omega (arith, are.0.jumps)) },
   plain_acts body rest are.1,
 )
+
+pub plain_part_code : (body : Body) (acts : List Instr) (rest : List Part) → flatten (plain_part body acts ∷ rest) ≡ acts ++ instr.End body ∷ flatten rest
+plain_part_code body acts rest = ap (λ (l : List Instr). l ++ instr.End body ∷ flatten rest) (plain_code acts)
 
 -- ---- the bodies of a code
 
