@@ -1,5 +1,6 @@
 -- Trace lines: the place of an entry, its party, and what happened in words and numbers.
-use Rattle.std.specs.Prelude.{ℕ, List, [], ◌++◌, take, codes, decimal, signed_decimal, Bool, true, false, Option, Some, None}
+use Rattle.std.specs.Fmt.{signed_decimal}
+use Rattle.std.specs.Prelude.{ℕ, List, [], ◌++◌, take, codes, decimal, Bool, true, false, Option, Some, None}
 use Rattle.so_ids.specs.declared.AgentId.{AgentId}
 use Rattle.so_ids.specs.declared.DemandId.{DemandId}
 use Rattle.so_ids.specs.declared.Opening.{Opening}
