@@ -10,3 +10,4 @@ pub mod OrderLaws
 pub mod CoopLaws
 pub mod FactLaws
 pub mod TextLaws
+pub mod LineLaws

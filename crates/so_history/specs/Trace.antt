@@ -1,6 +1,6 @@
 -- Trace lines: the place of an entry, its party, and what happened in words and numbers.
-use Rattle.std.specs.Prelude.{ℕ, ◌+◌, ◌≤◌, List, [], ◌++◌, take, codes, decimal, Bool, true, false, Option, Some, None}
 use Rattle.std.specs.Fmt.{signed_decimal}
+use Rattle.std.specs.Prelude.{ℕ, List, [], ◌++◌, take, codes, decimal, Bool, true, false, Option, Some, None}
 use Rattle.so_ids.specs.declared.AgentId.{AgentId}
 use Rattle.so_ids.specs.declared.DemandId.{DemandId}
 use Rattle.so_ids.specs.declared.Opening.{Opening}
@@ -185,21 +185,3 @@ kind_words (entry.Abort cause) = abort_words cause
 -- the line of the entry at a place
 abbrev pub trace_line : ℕ → Entry → List ℕ
 trace_line place e = decimal place ++ codes " p" ++ decimal e.by.0 ++ codes " " ++ kind_words e.kind ++ codes "\n"
-
--- ---- how many bytes words may take. A line is short since a plan answers nothing but a switch
-
-abbrev pub effect_room : Effect → ℕ
-effect_room (effect.Switch to) = 17
-effect_room other = 145
-
-abbrev pub answer_room : Answer → ℕ
-answer_room (answer.Planned plan) = 380
-answer_room other = 109
-
-abbrev pub kind_room : EntryKind → ℕ
-kind_room (entry.Act turn effect answer) = effect_room effect + answer_room answer + 18
-kind_room other = 70
-
--- a line has room for a number of a place, a party's number, and the words
-abbrev pub IsShort : EntryKind → Type 0
-IsShort kind = kind_room kind + 24 ≤ 512

@@ -2,7 +2,8 @@
 
 ghost use Rattle.std.specs.Prelude.{◌≡◌, ◌+◌, ◌≤◌, [], ◌++◌};
 ghost use Rattle.arrayvec.specs.ArrayVec.{array_vec_len};
-ghost use Rattle.so_history.specs.Trace.{effect_words, answer_words, stop_words, abort_words, kind_words, trace_line, effect_room, answer_room, kind_room, IsShort};
+ghost use Rattle.so_history.specs.Trace.{effect_words, answer_words, stop_words, abort_words, kind_words, trace_line};
+ghost use Rattle.so_history.specs.Rooms.{effect_room, answer_room, kind_room, IsShort};
 
 use crate::entry::{AbortCause, Entry, EntryKind, StopCause};
 use crate::words::{
