@@ -1,8 +1,7 @@
 -- What the structure of a code says of its places.
-use Rattle.std.proofs.Common.{◌≡◌, ℕ, zero, suc, ◌+◌, ◌<◌, ◌≤◌, ⊎_elim, inl, inr, Bool, true, false, List, [], ◌∷◌, ◌++◌, length, drop, take, Some, None, arith, refl, sym, ap, ◌∙◌, subst, length-append, append_assoc}
+use Rattle.std.proofs.Common.{◌≡◌, ℕ, zero, suc, ◌+◌, ◌<◌, ◌≤◌, ⊎_elim, Bool, true, false, List, [], ◌∷◌, ◌++◌, length, drop, take, Some, arith, refl, sym, ap, ◌∙◌, subst, length-append, append_assoc}
 use Rattle.std.proofs.Math.Seq.{drop-append-add}
 use Rattle.std.proofs.lemmas.Bool.{cases_lt}
-use Rattle.std.proofs.lemmas.Option.{slice_get_within}
 use Rattle.std.specs.Prelude.{slice_get}
 use Rattle.std.specs.List.{AllByRecursion}
 use Rattle.so_code.specs.declared.instr.Body.{Body}
@@ -10,8 +9,8 @@ use Rattle.so_code.specs.declared.instr.Instr.{Instr}
 use Rattle.so_code.specs.declared.instr.Instr.TheVariants as instr
 use Rattle.so_code.specs.Receives.{is_receive, is_case, is_back, handlers, past}
 use Rattle.so_code.specs.Valid.{HasParts, jump, is_act, is_switch}
-use Rattle.so_code.specs.Shape.{Handler, Act, Part, plain, receiving, handlers_code, act_code, acts_code, flatten, cases_of, IsActBefore, AreActsBefore, IsHandler, PassesOver, IsPlainAct, IsReceiving, IsAct, AreActs, IsPart, IsCode}
-use Rattle.so_code.specs.Places.{reach, is_plain, IsAt, IsReceiveAt, IsIn, HasReceive, HasPlaces}
+use Rattle.so_code.specs.Shape.{Handler, Act, Part, plain, receiving, handlers_code, act_code, acts_code, flatten, cases_of, AreActsBefore, IsHandler, PassesOver, IsPlainAct, IsReceiving, IsAct, AreActs, IsPart, IsCode}
+use Rattle.so_code.specs.Places.{reach, is_plain, IsAt, HasReceive, HasPlaces}
 
 -- ---- two lists, one after the other
 

@@ -12,3 +12,4 @@ pub mod Origins
 pub mod Own
 pub mod Turns
 pub mod Differs
+pub mod Echo

@@ -42,10 +42,11 @@ impl Code {
         &self.instrs
     }
 
+    #[tactic(auto, using(crate::proofs::SameCodes::differences))]
     /// The number of the first instruction that differs, or the shorter length where one code begins
     /// the other; None exactly where they are equal.
     pub fn differs(&self, other: &Code) -> Option<u32>
-        ensures same { IsNone result → self.now ≡ other.now }
+        ensures same { IsNone result ↔ (self.now ≡ other.now) }
         ensures differs { IfSome result (IsFirstDifference self.now other.now) }
     {
         difference(&self.instrs, &other.instrs)

@@ -10,6 +10,8 @@ mod begin;
 mod behaviour;
 mod bodies;
 mod code;
+#[cfg(test)]
+mod echo;
 mod effect;
 mod frame;
 mod instr;
@@ -17,6 +19,8 @@ pub mod laws;
 mod receives;
 mod run;
 mod step;
+#[cfg(test)]
+mod tests;
 mod values;
 
 pub use behaviour::{Behaviour, Script};
