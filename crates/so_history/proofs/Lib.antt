@@ -13,3 +13,4 @@ pub mod OrderLaws
 pub mod CoopLaws
 pub mod FactLaws
 pub mod TextLaws
+pub mod LineLaws

@@ -10,4 +10,5 @@ pub mod Steps
 pub mod Chain
 pub mod Facts
 pub mod Trace
+pub mod Rooms
 pub mod Text

@@ -5,6 +5,8 @@ mod entry;
 mod history;
 pub mod laws;
 mod lines;
+mod trace;
+mod words;
 
 pub use entry::{AbortCause, Demand, DemandKind, Entry, EntryKind, Pick, StopCause};
 pub use history::History;

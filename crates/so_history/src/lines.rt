@@ -8,6 +8,7 @@ ghost use Rattle.so_history.specs.Text.{beginner, beginner_at, HasText, effect_l
 
 use crate::entry::{Entry, EntryKind};
 use crate::history::History;
+use crate::trace::put_trace;
 use so_code::Effect;
 use so_ids::{AgentId, Place};
 use so_lines::{LineBuf, put, put_payload};
@@ -63,10 +64,12 @@ impl History {
         requires legal { Legal scene.now self.now.entries }
         ensures { buf.new.items ≡ line_at scene.now mode self.now.entries place.0 }
     {
-        let _mode = mode;
         buf.clear();
         let entry = self.get(place);
-        self.plain(scene, place, entry, buf);
+        match mode {
+            Mode::Plain => self.plain(scene, place, entry, buf),
+            Mode::Trace => put_trace(buf, place, entry),
+        }
     }
 
     /// Makes the plain line of the entry at a place.
