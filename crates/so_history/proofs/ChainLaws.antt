@@ -33,12 +33,12 @@ use Rattle.so_history.specs.Turns.{Started, Course, running, running_at, running
 use Rattle.so_history.specs.Coops.{the_coop, tried, present, leaving, stopped, stop_asked, aborted, has_reason}
 use Rattle.so_history.specs.Units.{fits}
 use Rattle.so_history.specs.Order.{is_free, may_take, pick}
-use Rattle.so_history.specs.Steps.{may_leave, may_stop, is_idle, finished, is_over, answer_to_send, answer_of, entry_of, Legal}
+use Rattle.so_history.specs.Steps.{NamesEffect, may_leave, may_stop, is_idle, finished, is_over, answer_to_send, answer_of, entry_of, Legal}
 use Rattle.so_history.specs.Chain.{by_main, signed, next_of, turn_entry, turn_on, begin_entry, registration, leaving_entry, left_entry, stop_entry, tidying, lane_entry, first, fitting, next_entry, StopsAtLimit}
 use Rattle.so_history.proofs.DemandLaws.{pick-free, waiting_of}
 use Rattle.so_history.proofs.TurnLaws.{turn_of, at_looked_up, running_nowhere, running_at-nil}
 use Rattle.so_history.proofs.CourseLaws.{has_course}
-use Rattle.so_history.proofs.SoundLaws.{NamesEffect, names_parts, course_sound}
+use Rattle.so_history.proofs.SoundLaws.{names_parts, course_sound}
 
 registered_cond : (b : Bool) (e : Entry) → cond b None (Some (by_main (Register the_coop))) ≡ Some e → e ≡ by_main (Register the_coop)
 registered_cond true e h = cc

@@ -45,17 +45,11 @@ use Rattle.so_history.specs.declared.entry.EntryKind.{EntryKind}
 use Rattle.so_history.specs.declared.entry.EntryKind.TheVariants.{Register, Begin, Act, End, Leaving, Left, Stop, Abort}
 use Rattle.so_history.specs.Demands.{message_of}
 use Rattle.so_history.specs.Turns.{Course, move_of, answer_to, advanced, vars, course}
-use Rattle.so_history.specs.Steps.{answer_of, answer_to_send, entry_of, IsMove, IsRow, Legal}
+use Rattle.so_history.specs.Steps.{NamesEffect, answer_of, answer_to_send, entry_of, IsMove, IsRow, Legal}
 use Rattle.so_history.proofs.OpeningLaws.{opening_acts}
 use Rattle.so_history.proofs.TurnLaws.{started_of}
 
 -- ---- what an effect names
-
-abbrev pub NamesEffect : SceneParts → Effect → Type 0
-NamesEffect s (effect.Log text payload) = text.0 < length s.texts
-NamesEffect s (effect.Send target msg payload) = NamesTarget s target × (msg.0 < length s.messages)
-NamesEffect s effect.Stop = Unit {0}
-NamesEffect s other = ⊥
 
 effect_names : (s : SceneParts) (i : Instr) (f : Frame) (e : Effect) → NamesParts s i → effect_of i f ≡ Some e → NamesEffect s e
 effect_names s (instr.Log text args) f e names makes = subst (NamesEffect s) (same_Some _ e makes) names

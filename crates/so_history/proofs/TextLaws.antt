@@ -16,11 +16,11 @@ use Rattle.so_history.specs.declared.entry.EntryKind.TheVariants.{Register, Begi
 use Rattle.so_history.specs.declared.entry.AbortCause.TheVariants.{Exception}
 use Rattle.so_history.specs.Places.{entry_at, before}
 use Rattle.so_history.specs.Turns.{Started, started_by, move_of}
-use Rattle.so_history.specs.Steps.{IsMove, IsRow, Legal}
+use Rattle.so_history.specs.Steps.{NamesEffect, IsMove, IsRow, Legal}
 use Rattle.so_history.specs.Text.{beginner, beginner_at, HasText}
 use Rattle.so_history.proofs.PlaceLaws.{steps_at, before-entry, inside}
 use Rattle.so_history.proofs.TurnLaws.{turn_of, started_at_entry, turn_found, turn_agent, turn_looked_up}
-use Rattle.so_history.proofs.SoundLaws.{NamesEffect, names_parts, acts_so, course_sound}
+use Rattle.so_history.proofs.SoundLaws.{names_parts, acts_so, course_sound}
 
 -- the turn at a place is of the agent that begins there
 begins_with : (place : ℕ) (by : PartyId) (kind : EntryKind) (t : Started) → started_at_entry (started_by place by kind) ≡ Some t → beginner kind ≡ t.agent
