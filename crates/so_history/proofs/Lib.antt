@@ -13,4 +13,6 @@ pub mod OrderLaws
 pub mod CoopLaws
 pub mod FactLaws
 pub mod TextLaws
+pub mod CauseLaws
+pub mod OwnerLaws
 pub mod LineLaws

@@ -1,15 +1,17 @@
 //! The lines of entries, as they are printed.
 
-ghost use Rattle.std.specs.Prelude.{◌≡◌, ◌+◌, ◌<◌, ◌≤◌, [], length, Some};
+ghost use Rattle.std.specs.Prelude.{◌≡◌, ◌+◌, ◌<◌, ◌≤◌, [], ◌++◌, length, codes, Some};
 ghost use Rattle.so_scene.specs.Parts.{agent_of};
 ghost use Rattle.so_history.specs.Places.{entry_at, before};
 ghost use Rattle.so_history.specs.Steps.{Legal};
+ghost use Rattle.so_history.specs.Trace.{fail_words};
 ghost use Rattle.so_history.specs.Text.{beginner, beginner_at, HasText, effect_line, plain_line, line_at};
 
-use crate::entry::{Entry, EntryKind};
+use crate::entry::{AbortCause, Entry, EntryKind};
 use crate::history::History;
 use crate::trace::put_trace;
-use so_code::Effect;
+use crate::words::put_fail;
+use so_code::{Effect, FailKind};
 use so_ids::{AgentId, Place};
 use so_lines::{LineBuf, put, put_payload};
 use so_scene::Scene;
@@ -40,6 +42,19 @@ fn put_effect(buf: &mut LineBuf, scene: &Scene, agent: AgentId, effect: Effect)
         }
         _ => {}
     }
+}
+
+/// Writes the line of an agent's exception that aborts the run.
+fn put_exception(buf: &mut LineBuf, scene: &Scene, agent: AgentId, kind: FailKind)
+    requires empty { buf.old.items ≡ [] }
+    requires agent { agent.0 < length scene.now.agents }
+    ensures { buf.new.items ≡ codes "abort: exception " ++ (agent_of scene.now agent).name ++ codes " " ++ fail_words kind ++ codes "\n" }
+{
+    put(buf, b"abort: exception ");
+    put(buf, scene.agent(agent).name.bytes());
+    put(buf, b" ");
+    put_fail(buf, kind);
+    put(buf, b"\n");
 }
 
 /// The agent whose turn begins with an entry.
@@ -80,15 +95,24 @@ impl History {
         ensures { buf.new.items ≡ plain_line scene.now (before self.now.entries place.0) entry.kind }
     {
         let _parts = scene.parts();
-        if let EntryKind::Act {
-            turn,
-            effect,
-            answer: _,
-        } = entry.kind
-        {
-            let begin = self.get(turn);
-            let agent = beginner(begin.kind);
-            put_effect(buf, scene, agent, effect);
+        match entry.kind {
+            EntryKind::Act {
+                turn,
+                effect,
+                answer: _,
+            } => put_effect(buf, scene, self.owner(turn), effect),
+            EntryKind::Abort {
+                cause: AbortCause::Exception(turn, kind),
+            } => put_exception(buf, scene, self.owner(turn), kind),
+            _ => {}
         }
+    }
+
+    /// The agent whose turn began at a place.
+    fn owner(&self, turn: Place) -> AgentId
+        requires { turn.0 < length self.now.entries }
+        ensures { result ≡ beginner_at (entry_at self.now.entries turn.0) }
+    {
+        beginner(self.get(turn).kind)
     }
 }

@@ -1,18 +1,21 @@
-use Rattle.std.proofs.Common.{ap, sym, ◌∙◌, arith, refl}
-use Rattle.so_history.specs.Text.{beginner_at}
+use Rattle.std.proofs.Common.{refl, arith}
 use Rattle.so_history.proofs.PlaceLaws.{inside, before-entry}
+use Rattle.so_history.proofs.OwnerLaws.{act_owned, abort_owned}
+use Rattle.so_history.proofs.CauseLaws.{turn_of, by_exception}
 use Rattle.so_history.proofs.TextLaws.{act_named}
 use Rattle.so_history.proofs.history.History.plain.Goals as goal
 
-pub get-begin-requires : goal.get-begin-requires
-get-begin-requires c =
-    let it = act_named c.args.scene.now c.args.self.now.entries c.args.place.0 c.args.entry c.in-Act.turn c.in-Act.effect c.in-Act.answer c.parts-parts.ensures.keeps c.requires.legal c.requires.here c.in-Act.is in
+-- an act: its turn began earlier, and its agent and its text are there
+
+pub owner-requires : goal.owner-requires
+owner-requires c =
+    let it = act_owned c.args.scene.now c.args.self.now.entries c.args.place.0 c.args.entry c.in-Act.turn c.in-Act.effect c.in-Act.answer c.parts-parts.ensures.keeps c.requires.legal c.requires.here c.in-Act.is in
     omega (arith, it.early, inside c.args.self.now.entries c.args.place.0 c.args.entry c.requires.here)
 
 pub put_effect-requires-clause-agent : goal.put_effect-requires-clause-agent
 put_effect-requires-clause-agent c =
-    let it = act_named c.args.scene.now c.args.self.now.entries c.args.place.0 c.args.entry c.in-Act.turn c.in-Act.effect c.in-Act.answer c.parts-parts.ensures.keeps c.requires.legal c.requires.here c.in-Act.is in
-    rw (c.beginner-agent.ensures ∙ sym (ap beginner_at c.get-begin.ensures)) it.agent
+    let it = act_owned c.args.scene.now c.args.self.now.entries c.args.place.0 c.args.entry c.in-Act.turn c.in-Act.effect c.in-Act.answer c.parts-parts.ensures.keeps c.requires.legal c.requires.here c.in-Act.is in
+    rw c.owner.ensures it.agent
 
 pub put_effect-requires-clause-text : goal.put_effect-requires-clause-text
 put_effect-requires-clause-text c =
@@ -20,6 +23,24 @@ put_effect-requires-clause-text c =
 
 pub returns-in-Act : goal.returns-in-Act
 returns-in-Act c =
-    let it = act_named c.args.scene.now c.args.self.now.entries c.args.place.0 c.args.entry c.in-Act.turn c.in-Act.effect c.in-Act.answer c.parts-parts.ensures.keeps c.requires.legal c.requires.here c.in-Act.is in
+    let it = act_owned c.args.scene.now c.args.self.now.entries c.args.place.0 c.args.entry c.in-Act.turn c.in-Act.effect c.in-Act.answer c.parts-parts.ensures.keeps c.requires.legal c.requires.here c.in-Act.is in
     let there = before-entry c.args.self.now.entries c.args.place.0 c.in-Act.turn.0 it.early (inside c.args.self.now.entries c.args.place.0 c.args.entry c.requires.here) in
-    rw (c.put_effect.ensures, c.in-Act.is, c.beginner-agent.ensures, there, c.get-begin.ensures) refl
+    rw (c.put_effect.ensures, c.in-Act.is, c.owner.ensures, there) refl
+
+-- an abort by an exception: the same of its turn
+
+pub owner-requires-in-Abort-Exception : goal.owner-requires-in-Abort-Exception
+owner-requires-in-Abort-Exception c =
+    let it = abort_owned c.args.scene.now c.args.self.now.entries c.args.place.0 c.args.entry c.in-Abort-Exception.cause c.parts-parts.ensures.keeps c.requires.legal c.requires.here c.in-Abort-Exception.is in
+    rw (c.in-Abort-Exception.is, by_exception c.in-Abort-Exception.cause) (omega (arith, it.early, inside c.args.self.now.entries c.args.place.0 c.args.entry c.requires.here))
+
+pub put_exception-requires-clause-agent : goal.put_exception-requires-clause-agent
+put_exception-requires-clause-agent c =
+    let it = abort_owned c.args.scene.now c.args.self.now.entries c.args.place.0 c.args.entry c.in-Abort-Exception.cause c.parts-parts.ensures.keeps c.requires.legal c.requires.here c.in-Abort-Exception.is in
+    rw (c.owner-in-Abort-Exception.ensures, c.in-Abort-Exception.is, by_exception c.in-Abort-Exception.cause) it.agent
+
+pub returns-in-Abort-Exception : goal.returns-in-Abort-Exception
+returns-in-Abort-Exception c =
+    let it = abort_owned c.args.scene.now c.args.self.now.entries c.args.place.0 c.args.entry c.in-Abort-Exception.cause c.parts-parts.ensures.keeps c.requires.legal c.requires.here c.in-Abort-Exception.is in
+    let there = before-entry c.args.self.now.entries c.args.place.0 (turn_of c.in-Abort-Exception.cause).0 it.early (inside c.args.self.now.entries c.args.place.0 c.args.entry c.requires.here) in
+    rw (c.put_exception.ensures, c.owner-in-Abort-Exception.ensures, c.in-Abort-Exception.is, by_exception c.in-Abort-Exception.cause, there) refl
