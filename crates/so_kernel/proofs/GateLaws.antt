@@ -4,7 +4,9 @@ use Rattle.so_lists.specs.Lists.{or_else, first_below}
 use Rattle.so_lists.proofs.First.{first_below-from}
 use Rattle.so_history.specs.declared.entry.Entry.{Entry}
 use Rattle.so_history.specs.Units.{fits}
-use Rattle.so_history.specs.Steps.{finished}
+use Rattle.so_history.specs.declared.entry.EntryKind.{EntryKind}
+use Rattle.so_history.specs.declared.entry.EntryKind.TheVariants.{Register, Begin, Act, End, Leaving, Left, Stop, Abort}
+use Rattle.so_history.specs.Steps.{is_over}
 use Rattle.so_history.specs.Chain.{first, fitting, next_entry}
 use Rattle.so_kernel.specs.declared.answers.Refused.{Refused}
 use Rattle.so_kernel.specs.declared.answers.Refused.TheVariants.{Nothing, Full, Over}
@@ -13,7 +15,7 @@ use Rattle.so_kernel.specs.declared.answers.Acted.TheVariants as acted_answer
 use Rattle.so_kernel.specs.declared.answers.Ended.TheVariants as ended_answer
 use Rattle.so_kernel.specs.declared.answers.Turn.{Turn}
 use Rattle.so_kernel.specs.Shapes.{Core}
-use Rattle.so_kernel.specs.Gates.{gated, gated_entry, core_after, acted, ended, stepped}
+use Rattle.so_kernel.specs.Gates.{added, gated, gated_entry, core_after, acted, ended, stepped}
 
 -- where there is an entry to add, the answer is not Nothing
 some_fits : (e : Entry) (b : Bool) → acted (cond b (Ok e) (Err Full)) ≡ acted_answer.Full → stepped_answer.Full ≡ stepped (cond b (Ok e) (Err Full))
@@ -27,7 +29,7 @@ some_gated k e false false h = some_fits e (fits k.scene k.limit k.history e) h
 
 pub act_full : (k : Core) (e : Entry) → acted (gated k (Some e)) ≡ acted_answer.Full → stepped_answer.Full ≡ stepped (gated k (Some e))
 unfolding gated
-act_full k e h = some_gated k e (finished k.scene k.history) k.full h
+act_full k e h = some_gated k e (is_over k.scene k.history) k.full h
 
 ended_fits : (e : Entry) (t u : Turn) (b : Bool) → ended (cond b (Ok e) (Err Full)) t ≡ ended_answer.Full u → stepped_answer.Full ≡ stepped (cond b (Ok e) (Err Full))
 ended_fits e t u true h = cc
@@ -40,11 +42,21 @@ some_ended k e t u false false h = ended_fits e t u (fits k.scene k.limit k.hist
 
 pub end_full : (k : Core) (e : Entry) (t u : Turn) → ended (gated k (Some e)) t ≡ ended_answer.Full u → stepped_answer.Full ≡ stepped (gated k (Some e))
 unfolding gated
-end_full k e t u h = some_ended k e t u (finished k.scene k.history) k.full h
+end_full k e t u h = some_ended k e t u (is_over k.scene k.history) k.full h
+
+added_something : (kind : EntryKind) → added kind ≡ stepped_answer.Nothing → ⊥
+added_something (Abort cause) h = cc
+added_something (Register coop) h = cc
+added_something (Begin lane demand opening agent) h = cc
+added_something (Act turn effect answer) h = cc
+added_something (End turn) h = cc
+added_something (Leaving coop reason) h = cc
+added_something (Left coop) h = cc
+added_something (Stop cause) h = cc
 
 -- an answer Nothing says that there was nothing to add
 pub nothing_is : (g : Result Entry Refused) → stepped g ≡ stepped_answer.Nothing → g ≡ Err Nothing
-nothing_is (Ok e) h = cc
+nothing_is (Ok e) h = absurd (added_something e.kind h)
 nothing_is (Err Nothing) h = refl
 nothing_is (Err Full) h = cc
 nothing_is (Err Over) h = cc
@@ -61,7 +73,7 @@ none_cond k (Some e) false false h = none_fits e (fits k.scene k.limit k.history
 
 pub nothing_gated : (k : Core) (a : Option Entry) → gated k a ≡ Err Nothing → a ≡ None
 unfolding gated
-nothing_gated k a h = none_cond k a (finished k.scene k.history) k.full h
+nothing_gated k a h = none_cond k a (is_over k.scene k.history) k.full h
 
 -- of two entries, the first that has an answer
 other_cond : (k : Core) (b : Option Entry) (over full : Bool) → (cond over (Err Over) (cond full (Err Full) (gated_entry k None)) ≡ Err Nothing → ⊥) →
@@ -72,7 +84,7 @@ other_cond k b false false h = absurd (h refl)
 
 gated_or : (k : Core) (a b : Option Entry) → (gated k a ≡ Err Nothing → ⊥) → gated k (or_else a b) ≡ gated k a
 unfolding gated
-gated_or k None b h = other_cond k b (finished k.scene k.history) k.full h
+gated_or k None b h = other_cond k b (is_over k.scene k.history) k.full h
 gated_or k (Some e) b h = refl
 
 pub two-nothing : (k : Core) (a b : Option Entry) → stepped (gated k a) ≡ stepped_answer.Nothing → gated k (or_else a b) ≡ gated k b
@@ -114,14 +126,14 @@ stops_cond k a true why h = refl
 stops_cond k None false why h = refl
 stops_cond k (Some x) false why h = stops_fits x why (fits k.scene k.limit k.history x) h
 
-unmarked_gate : (k : Core) (a : Option Entry) → k.full ≡ false → gated k a ≡ cond (finished k.scene k.history) (Err Over) (gated_entry k a)
+unmarked_gate : (k : Core) (a : Option Entry) → k.full ≡ false → gated k a ≡ cond (is_over k.scene k.history) (Err Over) (gated_entry k a)
 unfolding gated
 unmarked_gate k a f = rw f refl
 
 pub goes_on : (k : Core) (e : Entry) → k.full ≡ false → gated k (first k.scene k.history) ≡ Ok e → next_entry k.scene k.limit k.history ≡ Some e
 unfolding next_entry
-goes_on k e f h = chain_cond k (first k.scene k.history) (finished k.scene k.history) e (sym (unmarked_gate k (first k.scene k.history) f) ∙ h)
+goes_on k e f h = chain_cond k (first k.scene k.history) (is_over k.scene k.history) e (sym (unmarked_gate k (first k.scene k.history) f) ∙ h)
 
 pub stops : (k : Core) (why : Refused) → k.full ≡ false → gated k (first k.scene k.history) ≡ Err why → next_entry k.scene k.limit k.history ≡ None
 unfolding next_entry
-stops k why f h = stops_cond k (first k.scene k.history) (finished k.scene k.history) why (sym (unmarked_gate k (first k.scene k.history) f) ∙ h)
+stops k why f h = stops_cond k (first k.scene k.history) (is_over k.scene k.history) why (sym (unmarked_gate k (first k.scene k.history) f) ∙ h)

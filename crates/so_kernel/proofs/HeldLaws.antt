@@ -1,5 +1,5 @@
 -- The turns in hand after one more entry.
-use Rattle.std.proofs.Common.{◌≡◌, ℕ, ◌<◌, List, [], ◌∷◌, length, true, false, Option, Some, None, arith, refl, sym, ◌∙◌, ap, inl, inr, get_or, subst, Result, Ok, Err, zero, suc}
+use Rattle.std.proofs.Common.{◌≡◌, ℕ, ◌<◌, List, [], ◌∷◌, length, Bool, true, false, ◌||◌, cond, Option, Some, None, arith, refl, sym, ◌∙◌, ap, inl, inr, get_or, subst, Result, Ok, Err, zero, suc}
 use Rattle.std.specs.Prelude.{◌==◌, slice_set, is_some}
 use Rattle.std.specs.Option.{option_map}
 use Rattle.std.proofs.lemmas.List.{length-set, get_or-set_same, get_or-set_other, set-get_or}
@@ -9,25 +9,31 @@ use Rattle.so_ids.specs.declared.PartyId.{PartyId}
 use Rattle.so_ids.specs.declared.LaneId.{LaneId}
 use Rattle.so_ids.specs.declared.AgentId.{AgentId}
 use Rattle.so_ids.specs.declared.Place.{Place}
+use Rattle.so_ids.specs.Ids.{party_of}
 use Rattle.so_code.specs.declared.effect.Effect.{Effect}
 use Rattle.so_code.specs.declared.effect.Move.{Move}
-use Rattle.so_code.specs.declared.effect.Move.TheVariants.{Do}
+use Rattle.so_code.specs.declared.effect.Move.TheVariants.{Do, Fail}
 use Rattle.so_code.specs.declared.frame.Frame.{Frame}
-use Rattle.so_code.specs.Machine.{begun, after, answered}
+use Rattle.so_code.specs.Machine.{after}
+use Rattle.so_code.specs.Openings.{begun}
+use Rattle.so_code.specs.Answers.{answered}
+use Rattle.so_code.specs.declared.effect.FailKind.{FailKind}
 use Rattle.so_scene.specs.declared.parts.SceneParts.{SceneParts}
 use Rattle.so_scene.specs.Parts.{IsScene}
 use Rattle.so_scene.specs.Lanes.{lanes}
 use Rattle.so_history.specs.declared.entry.Entry.{Entry}
 use Rattle.so_history.specs.declared.entry.EntryKind.{EntryKind}
-use Rattle.so_history.specs.declared.entry.EntryKind.TheVariants.{Register, Begin, Act, End, Leaving, Left, Stop}
+use Rattle.so_history.specs.declared.entry.EntryKind.TheVariants.{Register, Begin, Act, End, Leaving, Left, Stop, Abort}
 use Rattle.so_history.specs.declared.entry.Demand.{Demand}
-use Rattle.so_history.specs.Turns.{Started, Course, ends, running_at, running_on, lane_number, turn_at, move_of, answer_to, course}
+use Rattle.so_history.specs.Turns.{Started, Course, vars, ends, running_at, running_on, lane_number, turn_at, move_of, answer_to, course}
+use Rattle.so_history.specs.Coops.{aborted}
+use Rattle.so_history.specs.Demands.{message_of}
 use Rattle.so_history.specs.Order.{pick, opening_of, taking}
-use Rattle.so_history.specs.Steps.{answer_of, Legal}
+use Rattle.so_history.specs.Steps.{finished, is_over, Legal}
 use Rattle.so_history.specs.Chain.{registration, tidying, turn_on, turn_entry, lane_entry, first}
 use Rattle.so_history.proofs.TurnLaws.{running_at-begun, running_at-same, running_at-ended, alone, turn_found, turn-begun, turn-spared, turn_of, turn_looked_up, turn_agent, lanes_free}
 use Rattle.so_history.proofs.CourseLaws.{acts_for, course-spared, course-acted, course-begun, has_course}
-use Rattle.so_history.proofs.ChainLaws.{registered, tidied, IsTidying, first-turn, lane_entry-turn}
+use Rattle.so_history.proofs.ChainLaws.{registered, tidied, IsTidying, first-turn, lane_entry-turn, lane_entry-free, has_move}
 use Rattle.so_kernel.specs.declared.answers.Turn.{Turn}
 use Rattle.so_kernel.specs.declared.answers.Refused.{Refused}
 use Rattle.so_kernel.specs.declared.answers.Refused.TheVariants.{Nothing, Full, Over}
@@ -35,16 +41,16 @@ use Rattle.so_kernel.specs.declared.answers.Acted.TheVariants as acted_answer
 use Rattle.so_kernel.specs.declared.answers.Ended.TheVariants as ended_answer
 use Rattle.so_kernel.specs.declared.answers.Begun.TheVariants as begun_answer
 use Rattle.so_kernel.specs.Shapes.{Core}
-use Rattle.so_kernel.specs.Gates.{IsHeld, HasMoved, IsBegun, gated, core_after, begin_by, act_entry, end_entry, acted, ended, turn_after}
+use Rattle.so_kernel.specs.Gates.{IsHeld, HasMoved, IsBegun, gated, gated_entry, core_after, begin_by, answer_for, act_entry, end_entry, fail_entry, acted, ended, failed, turn_after}
 use Rattle.so_kernel.specs.Held.{IsLaneHeld, AreHeld, turn_move, Moves}
 use Rattle.so_kernel.proofs.KeptLaws.{gated_next}
 
 -- the turn that a Begin hands out is held
-pub held_begun : (s : SceneParts) (h : List Entry) (e : Entry) (lane : LaneId) (d : Demand) → Legal s h → e.kind ≡ taking lane d →
-    IsHeld s (e ∷ h) (record { begun = record { 0 = length h }; by = e.by; lane = lane; agent = d.agent; frame = begun (opening_of d.kind) })
+pub held_begun : (s : SceneParts) (h : List Entry) (e : Entry) (lane : LaneId) (d : Demand) → Legal s h → e.kind ≡ taking s h lane d →
+    IsHeld s (e ∷ h) (record { begun = record { 0 = length h }; by = e.by; lane = lane; agent = d.agent; frame = begun (opening_of s h d) (vars s h d.agent) (message_of s h (Some d.id)) })
 held_begun s h e lane d legal is =
     record {
-      turn = record { place = length h; by = e.by; lane = lane; agent = d.agent; opening = opening_of d.kind };
+      turn = record { place = length h; by = e.by; lane = lane; agent = d.agent; opening = opening_of s h d };
       runs = turn-begun s h e _ legal (λ x. rw is refl) (rw is refl) refl;
       by = refl;
       lane = refl;
@@ -53,18 +59,18 @@ held_begun s h e lane d legal is =
 
 -- and so is the turn after its act
 pub held_acted : (k : Core) (t : Turn) (effect : Effect) → Legal k.scene k.history → HasMoved k.scene k.history t (Do effect) →
-    IsHeld k.scene (act_entry k t effect ∷ k.history) (record t { frame = answered (answer_of k.scene k.history effect) t.frame })
+    IsHeld k.scene (act_entry k t effect ∷ k.history) (record t { frame = answered (answer_for k effect) t.frame })
 held_acted k t effect legal moved =
     let c : Course = record { agent = t.agent; frame = moved.before } in
     let frame : (move_of k.scene c).1 ≡ t.frame = ap (λ (p : Move × Frame). p.1) moved.moves in
-    let after_it : answer_to k.scene (answer_of k.scene k.history effect) c ≡ record { agent = t.agent; frame = answered (answer_of k.scene k.history effect) t.frame } =
-    ap (λ (f : Frame). record { agent = t.agent; frame = answered (answer_of k.scene k.history effect) f }) frame in
+    let after_it : answer_to k.scene (answer_for k effect) c ≡ record { agent = t.agent; frame = answered (answer_for k effect) t.frame } =
+    ap (λ (f : Frame). record { agent = t.agent; frame = answered (answer_for k effect) f }) frame in
     record {
       turn = moved.held.turn;
       runs = turn-spared k.scene k.history (act_entry k t effect) t.begun.0 moved.held.turn legal refl moved.held.runs;
       by = moved.held.by;
       lane = moved.held.lane;
-      course = course-acted k.scene k.history t.by t.begun.0 effect (answer_of k.scene k.history effect) c moved.held.course ∙ ap Some after_it;
+      course = course-acted k.scene k.history t.by t.begun.0 effect (answer_for k effect) c moved.held.course ∙ ap Some after_it;
     }
 
 -- an entry has nothing to do with a lane's turn
@@ -95,36 +101,39 @@ spared s h e t legal held ends_not acts_not =
       course = course-spared s h e t.begun.0 acts_not (turn_found h t.begun.0 held.turn held.runs).1 ∙ held.course;
     }
 
-lane_spared : (s : SceneParts) (h : List Entry) (by : PartyId) (kind : EntryKind) (j : ℕ) (x : Option Turn) → Legal s h → Spares h kind j → IsLaneHeld s h j x → IsLaneHeld s (record { by = by; kind = kind } ∷ h) j x
-lane_spared s h by (Begin lane demand opening agent) j None legal spares free =
-    let other : (lane.0 == j) ≡ false = ne_eqb lane.0 j spares in
-    rw (running_at-begun lane_number s h (record { by = by; kind = Begin lane demand opening agent }) j legal (λ t. refl), free, other) refl
-lane_spared s h by (End turn) j None legal spares free = rw (running_at-ended lane_number h (record { by = by; kind = End turn }) j refl, free) refl
-lane_spared s h by (Register coop) j None legal spares free = rw (running_at-same lane_number s h (record { by = by; kind = Register coop }) j legal refl (λ t. refl)) free
-lane_spared s h by (Act turn effect answer) j None legal spares free = rw (running_at-same lane_number s h (record { by = by; kind = Act turn effect answer }) j legal refl (λ t. refl)) free
-lane_spared s h by (Leaving coop reason) j None legal spares free = rw (running_at-same lane_number s h (record { by = by; kind = Leaving coop reason }) j legal refl (λ t. refl)) free
-lane_spared s h by (Left coop) j None legal spares free = rw (running_at-same lane_number s h (record { by = by; kind = Left coop }) j legal refl (λ t. refl)) free
-lane_spared s h by (Stop cause) j None legal spares free = rw (running_at-same lane_number s h (record { by = by; kind = Stop cause }) j legal refl (λ t. refl)) free
-lane_spared s h by (Begin lane demand opening agent) j (Some t) legal spares held = (spared s h (record { by = by; kind = Begin lane demand opening agent }) t legal held.0 refl refl, held.1)
-lane_spared s h by (End turn) j (Some t) legal spares held = (spared s h (record { by = by; kind = End turn }) t legal held.0 (other_turn s h turn.0 t j held.0 held.1 spares) refl, held.1)
-lane_spared s h by (Act turn effect answer) j (Some t) legal spares held = (spared s h (record { by = by; kind = Act turn effect answer }) t legal held.0 refl (other_turn s h turn.0 t j held.0 held.1 spares), held.1)
-lane_spared s h by (Register coop) j (Some t) legal spares held = (spared s h (record { by = by; kind = Register coop }) t legal held.0 refl refl, held.1)
-lane_spared s h by (Leaving coop reason) j (Some t) legal spares held = (spared s h (record { by = by; kind = Leaving coop reason }) t legal held.0 refl refl, held.1)
-lane_spared s h by (Left coop) j (Some t) legal spares held = (spared s h (record { by = by; kind = Left coop }) t legal held.0 refl refl, held.1)
-lane_spared s h by (Stop cause) j (Some t) legal spares held = (spared s h (record { by = by; kind = Stop cause }) t legal held.0 refl refl, held.1)
+lane_spared : (s : SceneParts) (h : List Entry) (by : PartyId) (kind : EntryKind) (j : ℕ) (x : Option Turn) → Legal s h → aborted h ≡ false → Spares h kind j → IsLaneHeld s h j x → IsLaneHeld s (record { by = by; kind = kind } ∷ h) j x
+unfolding aborted
+lane_spared s h by (Begin lane demand opening agent) j None legal going spares free =
+    λ _. let other : (lane.0 == j) ≡ false = ne_eqb lane.0 j spares in
+    rw (running_at-begun lane_number s h (record { by = by; kind = Begin lane demand opening agent }) j legal (λ t. refl), free going, other) refl
+lane_spared s h by (End turn) j None legal going spares free = λ _. rw (running_at-ended lane_number h (record { by = by; kind = End turn }) j refl, free going) refl
+lane_spared s h by (Register coop) j None legal going spares free = λ _. rw (running_at-same lane_number s h (record { by = by; kind = Register coop }) j legal refl (λ t. refl)) (free going)
+lane_spared s h by (Act turn effect answer) j None legal going spares free = λ _. rw (running_at-same lane_number s h (record { by = by; kind = Act turn effect answer }) j legal refl (λ t. refl)) (free going)
+lane_spared s h by (Leaving coop reason) j None legal going spares free = λ _. rw (running_at-same lane_number s h (record { by = by; kind = Leaving coop reason }) j legal refl (λ t. refl)) (free going)
+lane_spared s h by (Left coop) j None legal going spares free = λ _. rw (running_at-same lane_number s h (record { by = by; kind = Left coop }) j legal refl (λ t. refl)) (free going)
+lane_spared s h by (Stop cause) j None legal going spares free = λ _. rw (running_at-same lane_number s h (record { by = by; kind = Stop cause }) j legal refl (λ t. refl)) (free going)
+lane_spared s h by (Abort cause) j None legal going spares free = λ e. absurd cc
+lane_spared s h by (Begin lane demand opening agent) j (Some t) legal going spares held = (spared s h (record { by = by; kind = Begin lane demand opening agent }) t legal held.0 refl refl, held.1)
+lane_spared s h by (End turn) j (Some t) legal going spares held = (spared s h (record { by = by; kind = End turn }) t legal held.0 (other_turn s h turn.0 t j held.0 held.1 spares) refl, held.1)
+lane_spared s h by (Act turn effect answer) j (Some t) legal going spares held = (spared s h (record { by = by; kind = Act turn effect answer }) t legal held.0 refl (other_turn s h turn.0 t j held.0 held.1 spares), held.1)
+lane_spared s h by (Register coop) j (Some t) legal going spares held = (spared s h (record { by = by; kind = Register coop }) t legal held.0 refl refl, held.1)
+lane_spared s h by (Leaving coop reason) j (Some t) legal going spares held = (spared s h (record { by = by; kind = Leaving coop reason }) t legal held.0 refl refl, held.1)
+lane_spared s h by (Left coop) j (Some t) legal going spares held = (spared s h (record { by = by; kind = Left coop }) t legal held.0 refl refl, held.1)
+lane_spared s h by (Stop cause) j (Some t) legal going spares held = (spared s h (record { by = by; kind = Stop cause }) t legal held.0 refl refl, held.1)
+lane_spared s h by (Abort cause) j (Some t) legal going spares held = (spared s h (record { by = by; kind = Abort cause }) t legal held.0 refl refl, held.1)
 
 -- all turns after an entry that has nothing to do with any
-held_spared : (k : Core) (e : Entry) (ts : List (Option Turn)) → Legal k.scene k.history → ((j : ℕ) → Spares k.history e.kind j) → AreHeld k ts → AreHeld (record k { history = e ∷ k.history }) ts
-held_spared k e ts legal spares held =
+held_spared : (k : Core) (e : Entry) (ts : List (Option Turn)) → Legal k.scene k.history → aborted k.history ≡ false → ((j : ℕ) → Spares k.history e.kind j) → AreHeld k ts → AreHeld (record k { history = e ∷ k.history }) ts
+held_spared k e ts legal going spares held =
     record {
       size = held.size;
-      each = λ j in_range. lane_spared k.scene k.history e.by e.kind j (get_or ts j None) legal (spares j) (held.each j in_range);
+      each = λ j in_range. lane_spared k.scene k.history e.by e.kind j (get_or ts j None) legal going (spares j) (held.each j in_range);
     }
 
 -- all turns after an entry of one lane
-held_set : (k : Core) (e : Entry) (ts : List (Option Turn)) (lane : ℕ) (x : Option Turn) → Legal k.scene k.history → lane < lanes k.scene → ((j : ℕ) → (j ≡ lane → ⊥) → Spares k.history e.kind j) →
+held_set : (k : Core) (e : Entry) (ts : List (Option Turn)) (lane : ℕ) (x : Option Turn) → Legal k.scene k.history → aborted k.history ≡ false → lane < lanes k.scene → ((j : ℕ) → (j ≡ lane → ⊥) → Spares k.history e.kind j) →
     IsLaneHeld k.scene (e ∷ k.history) lane x → AreHeld k ts → AreHeld (record k { history = e ∷ k.history }) (slice_set ts lane x)
-held_set k e ts lane x legal in_range spares here held =
+held_set k e ts lane x legal going in_range spares here held =
     record {
       size = length-set ts lane x ∙ held.size;
       each = λ j below.
@@ -136,7 +145,7 @@ held_set k e ts lane x legal in_range spares here held =
                 subst Q (sym same) (subst P (sym (get_or-set_same ts lane x None within)) here))
             | inr other ↦
                 (let P : Option Turn → Type 0 = λ y. IsLaneHeld k.scene (e ∷ k.history) j y in
-                subst P (sym (get_or-set_other ts lane j x None other)) (lane_spared k.scene k.history e.by e.kind j (get_or ts j None) legal (spares j other) (held.each j below)))
+                subst P (sym (get_or-set_other ts lane j x None other)) (lane_spared k.scene k.history e.by e.kind j (get_or ts j None) legal going (spares j other) (held.each j below)))
           ];
     }
 
@@ -150,17 +159,28 @@ lane_held k ts lane t in_range held =
 pub lane_moved : (k : Core) (ts : List (Option Turn)) (lane : ℕ) (t : Turn) (before : Frame) (move : Move) → lane < lanes k.scene → AreHeld k (slice_set ts lane (Some (record t { frame = before }))) → Moves k t before move → HasMoved k.scene k.history t move
 lane_moved k ts lane t before move in_range held moves = record { before = before; held = (lane_held k ts lane (record t { frame = before }) in_range held).0; moves = moves }
 
+-- what the gate lets through follows no abort
+going_cond : (k : Core) (a : Option Entry) (e : Entry) (done over full : Bool) → cond (done || over) (Err Over) (cond full (Err Full) (gated_entry k a)) ≡ Ok e → over ≡ false
+going_cond k a e true over full h = cc
+going_cond k a e false true full h = cc
+going_cond k a e false false full h = refl
+
+pub ok_going : (k : Core) (a : Option Entry) (e : Entry) → gated k a ≡ Ok e → aborted k.history ≡ false
+unfolding gated
+ok_going k a e h = going_cond k a e (finished k.scene k.history) (aborted k.history) k.full h
+
 -- an entry of main has nothing to do with a lane
-main_spared : (k : Core) (g : Result Entry Refused) (ts : List (Option Turn)) → Legal k.scene k.history → ((e : Entry) → g ≡ Ok e → (j : ℕ) → Spares k.history e.kind j) → AreHeld k ts → AreHeld (core_after k g) ts
-main_spared k (Ok e) ts legal spares held = held_spared k e ts legal (spares e refl) held
-main_spared k (Err Nothing) ts legal spares held = held
-main_spared k (Err Full) ts legal spares held = record { size = held.size; each = held.each }
-main_spared k (Err Over) ts legal spares held = held
+main_spared : (k : Core) (g : Result Entry Refused) (ts : List (Option Turn)) → Legal k.scene k.history → ((e : Entry) → g ≡ Ok e → aborted k.history ≡ false) → ((e : Entry) → g ≡ Ok e → (j : ℕ) → Spares k.history e.kind j) → AreHeld k ts → AreHeld (core_after k g) ts
+main_spared k (Ok e) ts legal going spares held = held_spared k e ts legal (going e refl) (spares e refl) held
+main_spared k (Err Nothing) ts legal going spares held = held
+main_spared k (Err Full) ts legal going spares held = record { size = held.size; each = held.each }
+main_spared k (Err Over) ts legal going spares held = held
 
 tidied_spares : (h : List Entry) (kind : EntryKind) (j : ℕ) → IsTidying kind → Spares h kind j
 tidied_spares h (Leaving coop reason) j t = tt
 tidied_spares h (Left coop) j t = tt
 tidied_spares h (Stop cause) j t = tt
+tidied_spares h (Abort cause) j t = absurd t
 tidied_spares h (Register coop) j t = absurd t
 tidied_spares h (Begin lane demand opening agent) j t = absurd t
 tidied_spares h (Act turn effect answer) j t = absurd t
@@ -168,14 +188,14 @@ tidied_spares h (End turn) j t = absurd t
 
 pub held_registered : (k : Core) (ts : List (Option Turn)) → Legal k.scene k.history → AreHeld k ts → AreHeld (core_after k (gated k (registration k.history))) ts
 held_registered k ts legal held =
-    main_spared k (gated k (registration k.history)) ts legal
+    main_spared k (gated k (registration k.history)) ts legal (λ e g. ok_going k (registration k.history) e g)
     (λ e g j. let P : Entry → Type 0 = λ x. Spares k.history x.kind j in
     subst P (sym (registered k.history e (gated_next k (registration k.history) e g))) tt)
     held
 
 pub held_tidied : (k : Core) (ts : List (Option Turn)) → Legal k.scene k.history → AreHeld k ts → AreHeld (core_after k (gated k (tidying k.scene k.history))) ts
 held_tidied k ts legal held =
-    main_spared k (gated k (tidying k.scene k.history)) ts legal
+    main_spared k (gated k (tidying k.scene k.history)) ts legal (λ e g. ok_going k (tidying k.scene k.history) e g)
     (λ e g j. tidied_spares k.history e.kind j (tidied k.scene k.history e (gated_next k (tidying k.scene k.history) e g)))
     held
 
@@ -191,19 +211,19 @@ set-set [] lane x y = refl
 set-set (t ∷ ts) zero x y = refl
 set-set (t ∷ ts) (suc lane) x y = ap (λ l. t ∷ l) (set-set ts lane x y)
 
-held_acted_on : (k : Core) (ts : List (Option Turn)) (lane : ℕ) (t u v : Turn) (effect : Effect) → Legal k.scene k.history → lane < lanes k.scene → v.begun ≡ t.begun →
+held_acted_on : (k : Core) (ts : List (Option Turn)) (lane : ℕ) (t u v : Turn) (effect : Effect) → Legal k.scene k.history → aborted k.history ≡ false → lane < lanes k.scene → v.begun ≡ t.begun →
     AreHeld k (slice_set ts lane (Some v)) → IsHeld k.scene (act_entry k t effect ∷ k.history) u → u.lane.0 ≡ lane → AreHeld (record k { history = act_entry k t effect ∷ k.history }) (slice_set ts lane (Some u))
-held_acted_on k ts lane t u v effect legal in_range same held uheld on =
+held_acted_on k ts lane t u v effect legal going in_range same held uheld on =
     let mine = lane_held k ts lane v in_range held in
     let P : List (Option Turn) → Type 0 = λ l. AreHeld (record k { history = act_entry k t effect ∷ k.history }) l in
     let spares : (j : ℕ) → (j ≡ lane → ⊥) → (x : Started) → turn_at k.history t.begun.0 ≡ Some x → x.lane.0 ≡ j → ⊥ =
     λ j other x runs here. own_spares k.scene k.history v lane j mine.0 mine.1 other x (ap (λ (p : Place). turn_at k.history p.0) same ∙ runs) here in
     subst P (set-set ts lane (Some v) (Some u))
-    (held_set k (act_entry k t effect) (slice_set ts lane (Some v)) lane (Some u) legal in_range spares (uheld, on) held)
+    (held_set k (act_entry k t effect) (slice_set ts lane (Some v)) lane (Some u) legal going in_range spares (uheld, on) held)
 
-held_ended_on : (k : Core) (ts : List (Option Turn)) (lane : ℕ) (t v : Turn) → Legal k.scene k.history → lane < lanes k.scene → v.begun ≡ t.begun → get_or ts lane None ≡ None →
+held_ended_on : (k : Core) (ts : List (Option Turn)) (lane : ℕ) (t v : Turn) → Legal k.scene k.history → aborted k.history ≡ false → lane < lanes k.scene → v.begun ≡ t.begun → get_or ts lane None ≡ None →
     AreHeld k (slice_set ts lane (Some v)) → AreHeld (record k { history = end_entry t ∷ k.history }) ts
-held_ended_on k ts lane t v legal in_range same none held =
+held_ended_on k ts lane t v legal going in_range same none held =
     let mine = lane_held k ts lane v in_range held in
     let P : List (Option Turn) → Type 0 = λ l. AreHeld (record k { history = end_entry t ∷ k.history }) l in
     let on : mine.0.turn.lane.0 ≡ lane = ap (λ (l : LaneId). l.0) mine.0.lane ∙ mine.1 in
@@ -213,8 +233,16 @@ held_ended_on k ts lane t v legal in_range same none held =
     let spares : (j : ℕ) → (j ≡ lane → ⊥) → (x : Started) → turn_at k.history t.begun.0 ≡ Some x → x.lane.0 ≡ j → ⊥ =
     λ j other x runs here. own_spares k.scene k.history v lane j mine.0 mine.1 other x (ap (λ (p : Place). turn_at k.history p.0) same ∙ runs) here in
     subst P (set-set ts lane (Some v) None ∙ (ap (slice_set ts lane) (sym none) ∙ set-get_or ts lane None))
-    (held_set k (end_entry t) (slice_set ts lane (Some v)) lane None legal in_range spares
-    (rw (running_at-ended lane_number k.history (end_entry t) lane refl, alone_there, itself) refl) held)
+    (held_set k (end_entry t) (slice_set ts lane (Some v)) lane None legal going in_range spares
+    (λ _. rw (running_at-ended lane_number k.history (end_entry t) lane refl, alone_there, itself) refl) held)
+
+held_failed_on : (k : Core) (ts : List (Option Turn)) (lane : ℕ) (t v : Turn) (kind : FailKind) → Legal k.scene k.history → aborted k.history ≡ false → lane < lanes k.scene → get_or ts lane None ≡ None →
+    AreHeld k (slice_set ts lane (Some v)) → AreHeld (record k { history = fail_entry t kind ∷ k.history }) ts
+unfolding aborted
+held_failed_on k ts lane t v kind legal going in_range none held =
+    let P : List (Option Turn) → Type 0 = λ l. AreHeld (record k { history = fail_entry t kind ∷ k.history }) l in
+    subst P (set-set ts lane (Some v) None ∙ (ap (slice_set ts lane) (sym none) ∙ set-get_or ts lane None))
+    (held_set k (fail_entry t kind) (slice_set ts lane (Some v)) lane None legal going in_range (λ j other. tt) (λ e. absurd cc) held)
 
 -- an act that went was let through
 ok_if_went : (g : Result Entry Refused) → acted_answer.Went ≡ acted g → (e : Entry) × (g ≡ Ok e)
@@ -245,14 +273,30 @@ held_went k l ts lane t u before effect legal in_range held h after next uheld =
     let on : u.lane.0 ≡ lane = ap (λ (x : Turn). x.lane.0) u_is ∙ (lane_held k ts lane (record t { frame = before }) in_range held).1 in
     let P : Core → Type 0 = λ x. IsHeld x.scene x.history u in
     let Q : Core → Type 0 = λ x. AreHeld x (slice_set ts lane (Some u)) in
-    subst Q (sym l_is) (held_acted_on k ts lane t u (record t { frame = before }) effect legal in_range refl held (subst P l_is uheld) on)
+    subst Q (sym l_is) (held_acted_on k ts lane t u (record t { frame = before }) effect legal (ok_going k (Some (act_entry k t effect)) (act_entry k t effect) ok) in_range refl held (subst P l_is uheld) on)
 
 pub held_done : (k l : Core) (ts : List (Option Turn)) (lane : ℕ) (t : Turn) (before : Frame) → Legal k.scene k.history → lane < lanes k.scene → get_or ts lane None ≡ None → AreHeld k (slice_set ts lane (Some (record t { frame = before }))) →
     ended_answer.Done ≡ ended (gated k (Some (end_entry t))) t → l ≡ core_after k (gated k (Some (end_entry t))) → AreHeld l ts
 held_done k l ts lane t before legal in_range none held h after =
-    let l_is : l ≡ record k { history = end_entry t ∷ k.history } = after ∙ ap (core_after k) (done k (end_entry t) t h) in
+    let ok = done k (end_entry t) t h in
+    let l_is : l ≡ record k { history = end_entry t ∷ k.history } = after ∙ ap (core_after k) ok in
     let Q : Core → Type 0 = λ x. AreHeld x ts in
-    subst Q (sym l_is) (held_ended_on k ts lane t (record t { frame = before }) legal in_range refl none held)
+    subst Q (sym l_is) (held_ended_on k ts lane t (record t { frame = before }) legal (ok_going k (Some (end_entry t)) (end_entry t) ok) in_range refl none held)
+
+ok_if_failed : (g : Result Entry Refused) (t : Turn) → ended_answer.Aborted ≡ failed g t → (e : Entry) × (g ≡ Ok e)
+ok_if_failed (Ok e) t h = (e, refl)
+ok_if_failed (Err Nothing) t h = cc
+ok_if_failed (Err Full) t h = cc
+ok_if_failed (Err Over) t h = cc
+
+pub held_failed : (k l : Core) (ts : List (Option Turn)) (lane : ℕ) (t : Turn) (kind : FailKind) (before : Frame) → Legal k.scene k.history → lane < lanes k.scene → get_or ts lane None ≡ None → AreHeld k (slice_set ts lane (Some (record t { frame = before }))) →
+    ended_answer.Aborted ≡ failed (gated k (Some (fail_entry t kind))) t → l ≡ core_after k (gated k (Some (fail_entry t kind))) → AreHeld l ts
+held_failed k l ts lane t kind before legal in_range none held h after =
+    let g = ok_if_failed (gated k (Some (fail_entry t kind))) t h in
+    let ok : gated k (Some (fail_entry t kind)) ≡ Ok (fail_entry t kind) = g.1 ∙ ap Ok (sym (same_Some (fail_entry t kind) g.0 (gated_next k (Some (fail_entry t kind)) g.0 g.1))) in
+    let l_is : l ≡ record k { history = fail_entry t kind ∷ k.history } = after ∙ ap (core_after k) ok in
+    let Q : Core → Type 0 = λ x. AreHeld x ts in
+    subst Q (sym l_is) (held_failed_on k ts lane t (record t { frame = before }) kind legal (ok_going k (Some (fail_entry t kind)) (fail_entry t kind) ok) in_range none held)
 
 -- a turn that did not go on is the one before it
 pub same_turn : (k : Core) (g : Result Entry Refused) (t u : Turn) (before : Frame) (effect : Effect) → (acted_answer.Went ≡ acted g → ⊥) → u ≡ turn_after k g t effect → record u { frame = before } ≡ record t { frame = before }
@@ -286,6 +330,22 @@ back_over (Err Nothing) t u is = cc
 back_over (Err Full) t u is = cc
 back_over (Err Over) t u is = cc
 
+pub not_failed : (g : Result Entry Refused) (t : Turn) → (ended_answer.Aborted ≡ failed g t → ⊥) → (e : Entry) → g ≡ Ok e → ⊥
+not_failed (Ok e) t other x is = other refl
+not_failed (Err why) t other x is = cc
+
+pub failed_full : (g : Result Entry Refused) (t u : Turn) → failed g t ≡ ended_answer.Full u → u ≡ t
+failed_full (Ok e) t u is = cc
+failed_full (Err Nothing) t u is = cc
+failed_full (Err Full) t u is = cc
+failed_full (Err Over) t u is = cc
+
+pub failed_over : (g : Result Entry Refused) (t u : Turn) → failed g t ≡ ended_answer.Over u → u ≡ t
+failed_over (Ok e) t u is = cc
+failed_over (Err Nothing) t u is = cc
+failed_over (Err Full) t u is = cc
+failed_over (Err Over) t u is = cc
+
 -- a turn that begins
 begun_parts : (l : Core) (by : PartyId) (lane : LaneId) (g : Result Entry Refused) (t : Turn) → IsBegun l by lane g (begun_answer.Turn t) → (e : Entry) × (g ≡ Ok e) × IsHeld l.scene l.history t × (t.lane ≡ lane)
 begun_parts l by lane (Ok e) t b = (e, refl, b.0, b.2)
@@ -293,14 +353,14 @@ begun_parts l by lane (Err Nothing) t b = cc
 begun_parts l by lane (Err Full) t b = cc
 begun_parts l by lane (Err Over) t b = cc
 
-picked_entry : (by : PartyId) (lane : LaneId) (d : Option Demand) (e : Entry) → option_map (λ x. record { by = by; kind = taking lane x }) d ≡ Some e → (x : Demand) × (e.kind ≡ taking lane x)
-picked_entry by lane None e h = cc
-picked_entry by lane (Some d) e h = (d, ap (λ (o : Option Entry). elim o [ None ↦ taking lane d | Some x ↦ x.kind ]) (sym h))
+picked_entry : (s : SceneParts) (g : List Entry) (by : PartyId) (lane : LaneId) (d : Option Demand) (e : Entry) → option_map (λ x. record { by = by; kind = taking s g lane x }) d ≡ Some e → (x : Demand) × (e.kind ≡ taking s g lane x)
+picked_entry s g by lane None e h = cc
+picked_entry s g by lane (Some d) e h = (d, ap (λ (o : Option Entry). elim o [ None ↦ taking s g lane d | Some x ↦ x.kind ]) (sym h))
 
-held_begun_on : (k : Core) (ts : List (Option Turn)) (lane : LaneId) (e : Entry) (d : Demand) (t : Turn) → Legal k.scene k.history → lane.0 < lanes k.scene → e.kind ≡ taking lane d →
+held_begun_on : (k : Core) (ts : List (Option Turn)) (lane : LaneId) (e : Entry) (d : Demand) (t : Turn) → Legal k.scene k.history → aborted k.history ≡ false → lane.0 < lanes k.scene → e.kind ≡ taking k.scene k.history lane d →
     AreHeld k ts → IsHeld k.scene (e ∷ k.history) t → t.lane.0 ≡ lane.0 → AreHeld (record k { history = e ∷ k.history }) (slice_set ts lane.0 (Some t))
-held_begun_on k ts lane e d t legal in_range is held theld on =
-    held_set k e ts lane.0 (Some t) legal in_range
+held_begun_on k ts lane e d t legal going in_range is held theld on =
+    held_set k e ts lane.0 (Some t) legal going in_range
     (λ j other. let P : EntryKind → Type 0 = λ x. Spares k.history x j in subst P (sym is) (λ same. other (sym same)))
     (theld, on) held
 
@@ -308,45 +368,79 @@ pub held_began : (k l : Core) (ts : List (Option Turn)) (by : PartyId) (lane : L
     IsBegun l by lane (gated k (begin_by k by lane)) (begun_answer.Turn t) → l ≡ core_after k (gated k (begin_by k by lane)) → AreHeld l (slice_set ts lane.0 (Some t))
 held_began k l ts by lane t legal in_range held b after =
     let p = begun_parts l by lane (gated k (begin_by k by lane)) t b in
-    let d = picked_entry by lane (pick k.scene k.history lane) p.0 (gated_next k (begin_by k by lane) p.0 p.1) in
+    let d = picked_entry k.scene k.history by lane (pick k.scene k.history lane) p.0 (gated_next k (begin_by k by lane) p.0 p.1) in
     let l_is : l ≡ record k { history = p.0 ∷ k.history } = after ∙ ap (core_after k) p.1 in
     let P : Core → Type 0 = λ x. IsHeld x.scene x.history t in
     let Q : Core → Type 0 = λ x. AreHeld x (slice_set ts lane.0 (Some t)) in
-    subst Q (sym l_is) (held_begun_on k ts lane p.0 d.0 t legal in_range d.1 held (subst P l_is p.2) (ap (λ (x : LaneId). x.0) p.3))
+    subst Q (sym l_is) (held_begun_on k ts lane p.0 d.0 t legal (ok_going k (begin_by k by lane) p.0 p.1) in_range d.1 held (subst P l_is p.2) (ap (λ (x : LaneId). x.0) p.3))
+
+-- the turn at a place, looked up by that place
+looked_up : (h : List Entry) (place : ℕ) (t : Started) → turn_at h place ≡ Some t → turn_of h t.place ≡ Some t
+looked_up h place t runs = ap (turn_of h) (turn_found h place t runs).0 ∙ turn_looked_up h place t runs
 
 -- the entry of a lane whose turn is in hand
 pub turn_move_is : (k : Core) (t : Turn) (lane : LaneId) → Legal k.scene k.history → IsHeld k.scene k.history t → t.lane.0 ≡ lane.0 →
-    turn_entry k.scene k.history (turn_on k.history lane) ≡ Some (turn_move k.scene k.history t)
+    turn_entry k.scene k.history (turn_on k.history lane) ≡ turn_move k.scene k.history t
 turn_move_is k t lane legal held on =
     let lane_is : held.turn.lane.0 ≡ lane.0 = ap (λ (l : LaneId). l.0) held.lane ∙ on in
     let one : running_on k.history lane ≡ held.turn ∷ [] = ap (running_at lane_number k.history) (sym lane_is) ∙ alone lane_number k.scene k.history t.begun.0 held.turn (lanes_free k.scene) legal held.runs in
     let place : held.turn.place ≡ t.begun.0 = (turn_found k.history t.begun.0 held.turn held.runs).0 in
     rw (one, place, held.course, held.by) refl
 
-pub lane_move : (k : Core) (t : Turn) (lane : LaneId) → Legal k.scene k.history → IsHeld k.scene k.history t → t.lane.0 ≡ lane.0 →
-    lane_entry k.scene k.history lane ≡ Some (turn_move k.scene k.history t)
-lane_move k t lane legal held on = lane_entry-turn k.scene k.history lane (turn_move k.scene k.history t) (turn_move_is k t lane legal held on)
+pub lane_turn_entry : (k : Core) (t : Turn) (lane : LaneId) → IsScene k.scene → Legal k.scene k.history → IsHeld k.scene k.history t → t.lane.0 ≡ lane.0 →
+    (x : Entry) × (turn_entry k.scene k.history (turn_on k.history lane) ≡ Some x)
+lane_turn_entry k t lane scene legal held on =
+    let lane_is : held.turn.lane.0 ≡ lane.0 = ap (λ (l : LaneId). l.0) held.lane ∙ on in
+    let one : running_on k.history lane ≡ held.turn ∷ [] = ap (running_at lane_number k.history) (sym lane_is) ∙ alone lane_number k.scene k.history t.begun.0 held.turn (lanes_free k.scene) legal held.runs in
+    let it = has_move k.scene k.history held.turn scene legal (looked_up k.history t.begun.0 held.turn held.runs) in
+    (it.0, rw one it.1)
 
-first_case : (k : Core) (lane : LaneId) (x : Option Turn) → Legal k.scene k.history → lane.0 < lanes k.scene → IsLaneHeld k.scene k.history lane.0 x → is_some x ≡ true → ((l : ℕ) → l < lane.0 → running_at lane_number k.history l ≡ []) →
+pub lane_move : (k : Core) (t : Turn) (lane : LaneId) → IsScene k.scene → Legal k.scene k.history → IsHeld k.scene k.history t → t.lane.0 ≡ lane.0 →
+    lane_entry k.scene k.history lane ≡ turn_move k.scene k.history t
+lane_move k t lane scene legal held on =
+    let it = lane_turn_entry k t lane scene legal held on in
+    lane_entry-turn k.scene k.history lane it.0 it.1 ∙ (sym it.1 ∙ turn_move_is k t lane legal held on)
+
+-- and of a lane that has none in hand
+over_cond : (k : Core) (a b : Option Entry) (done full : Bool) → cond (done || true) (Err Over) (cond full (Err Full) (gated_entry k a)) ≡ cond (done || true) (Err Over) (cond full (Err Full) (gated_entry k b))
+over_cond k a b true full = refl
+over_cond k a b false full = refl
+
+-- after an abort all answers are Over
+pub same_over : (k : Core) (a b : Option Entry) → aborted k.history ≡ true → gated k a ≡ gated k b
+unfolding gated
+same_over k a b over = rw over (over_cond k a b (finished k.scene k.history) k.full)
+
+pub lane_free : (k : Core) (lane : LaneId) → IsLaneHeld k.scene k.history lane.0 None → gated k (lane_entry k.scene k.history lane) ≡ gated k (begin_by k (party_of lane) lane)
+lane_free k lane held =
+    elim (cases_Bool (aborted k.history)) [
+      | inl y ↦ same_over k _ _ y
+      | inr f ↦ ap (gated k) (lane_entry-free k.scene k.history lane (held f))
+    ]
+
+first_case : (k : Core) (lane : LaneId) (x : Option Turn) → IsScene k.scene → Legal k.scene k.history → lane.0 < lanes k.scene → IsLaneHeld k.scene k.history lane.0 x → is_some x ≡ true → ((l : ℕ) → l < lane.0 → running_at lane_number k.history l ≡ []) →
     first k.scene k.history ≡ lane_entry k.scene k.history lane
-first_case k lane None legal in_range held some free = cc
-first_case k lane (Some t) legal in_range held some free =
-    first-turn k.scene k.history lane.0 (turn_move k.scene k.history t) in_range (turn_move_is k t lane legal held.0 held.1) free
-    ∙ sym (lane_move k t lane legal held.0 held.1)
+first_case k lane None scene legal in_range held some free = cc
+first_case k lane (Some t) scene legal in_range held some free =
+    let it = lane_turn_entry k t lane scene legal held.0 held.1 in
+    first-turn k.scene k.history lane.0 it.0 in_range it.1 free
+    ∙ sym (lane_entry-turn k.scene k.history lane it.0 it.1)
 
 -- the first step is the move of the first turn in hand
-pub first_of_turns : (k : Core) (ts : List (Option Turn)) (lane : LaneId) → Legal k.scene k.history → AreHeld k ts → lane.0 < lanes k.scene → is_some (get_or ts lane.0 None) ≡ true → ((l : ℕ) → l < lane.0 → get_or ts l None ≡ None) →
-    first k.scene k.history ≡ lane_entry k.scene k.history lane
-first_of_turns k ts lane legal held in_range some before =
-    first_case k lane (get_or ts lane.0 None) legal in_range (held.each lane.0 in_range) some
-    (λ l below. let P : Option Turn → Type 0 = λ x. IsLaneHeld k.scene k.history l x in subst P (before l below) (held.each l (omega arith)))
+pub first_of_turns : (k : Core) (ts : List (Option Turn)) (lane : LaneId) → IsScene k.scene → Legal k.scene k.history → AreHeld k ts → lane.0 < lanes k.scene → is_some (get_or ts lane.0 None) ≡ true → ((l : ℕ) → l < lane.0 → get_or ts l None ≡ None) →
+    gated k (first k.scene k.history) ≡ gated k (lane_entry k.scene k.history lane)
+first_of_turns k ts lane scene legal held in_range some before =
+    elim (cases_Bool (aborted k.history)) [
+      | inl y ↦ same_over k _ _ y
+      | inr f ↦
+          ap (gated k)
+          (first_case k lane (get_or ts lane.0 None) scene legal in_range (held.each lane.0 in_range) some
+          (λ l below. let P : Option Turn → Type 0 = λ x. IsLaneHeld k.scene k.history l x in subst P (before l below) (held.each l (omega arith)) f))
+    ]
 
-pub none_running : (k : Core) (ts : List (Option Turn)) → AreHeld k ts → ((l : ℕ) → l < lanes k.scene → get_or ts l None ≡ None) → (l : ℕ) → l < lanes k.scene → running_at lane_number k.history l ≡ []
-none_running k ts held none l in_range = let P : Option Turn → Type 0 = λ x. IsLaneHeld k.scene k.history l x in subst P (none l in_range) (held.each l in_range)
-
--- the turn at a place, looked up by that place
-looked_up : (h : List Entry) (place : ℕ) (t : Started) → turn_at h place ≡ Some t → turn_of h t.place ≡ Some t
-looked_up h place t runs = ap (turn_of h) (turn_found h place t runs).0 ∙ turn_looked_up h place t runs
+-- no turn runs where none is in hand and none was aborted
+pub none_running : (k : Core) (ts : List (Option Turn)) → AreHeld k ts → ((l : ℕ) → l < lanes k.scene → get_or ts l None ≡ None) → aborted k.history ≡ false → (l : ℕ) → l < lanes k.scene → running_at lane_number k.history l ≡ []
+none_running k ts held none going l in_range = let P : Option Turn → Type 0 = λ x. IsLaneHeld k.scene k.history l x in subst P (none l in_range) (held.each l in_range) going
 
 -- the agent of a held turn is the one that began, and one of the scene's
 pub held_whose : (s : SceneParts) (h : List Entry) (t : Turn) (held : IsHeld s h t) → held.turn.agent ≡ t.agent

@@ -1,6 +1,6 @@
 -- What the kernel keeps goes on after one more entry.
 use Rattle.std.proofs.Common.{◌≡◌, ℕ, ◌+◌, ◌<◌, ◌≤◌, List, ◌∷◌, length, Bool, true, false, Option, Some, None, Ok, Err, arith, refl, sym, ◌∙◌, ap, subst, cond}
-use Rattle.std.proofs.lemmas.Bool.{leb-true, false≢true}
+use Rattle.std.proofs.lemmas.Bool.{leb-true, false≢true, or_parts}
 use Rattle.so_ids.specs.declared.LaneId.{LaneId}
 use Rattle.so_ids.specs.declared.CoopId.{CoopId}
 use Rattle.so_ids.specs.declared.Reason.{Reason}
@@ -13,7 +13,8 @@ use Rattle.so_scene.specs.declared.parts.SceneParts.{SceneParts}
 use Rattle.so_scene.specs.Parts.{IsScene}
 use Rattle.so_history.specs.declared.entry.Entry.{Entry}
 use Rattle.so_history.specs.Units.{units, cost, fits}
-use Rattle.so_history.specs.Steps.{the_coop, finished, IsRow}
+use Rattle.so_history.specs.Coops.{the_coop, aborted}
+use Rattle.so_history.specs.Steps.{finished, is_over, IsRow}
 use Rattle.so_history.proofs.DemandLaws.{waiting-units}
 use Rattle.so_kernel.specs.declared.answers.Refused.TheVariants.{Full, Over}
 use Rattle.so_kernel.specs.declared.tables.Tables.{Tables}
@@ -64,7 +65,7 @@ gated_cond k (Some x) e false false h = gated_fits x e (fits k.scene k.limit k.h
 
 pub gated_next : (k : Core) (next : Option Entry) (e : Entry) → gated k next ≡ Ok e → next ≡ Some e
 unfolding gated
-gated_next k next e h = gated_cond k next e (finished k.scene k.history) k.full h
+gated_next k next e h = gated_cond k next e (is_over k.scene k.history) k.full h
 
 -- what is let through fits
 fits_itself : (k : Core) (x e : Entry) (b : Bool) → fits k.scene k.limit k.history x ≡ b → cond b (Ok x) (Err Full) ≡ Ok e → fits k.scene k.limit k.history e ≡ true
@@ -80,7 +81,7 @@ fits_cond k (Some x) false false e h = fits_itself k x e (fits k.scene k.limit k
 pub fits_gated : (k : Core) (a : Option Entry) (e : Entry) → gated k a ≡ Ok e → length k.history < k.limit
 unfolding gated
 fits_gated k a e h =
-    let fit : units k.scene k.history + cost k.scene k.history e ≤ k.limit = leb-true _ _ (fits_cond k a (finished k.scene k.history) k.full e h) in
+    let fit : units k.scene k.history + cost k.scene k.history e ≤ k.limit = leb-true _ _ (fits_cond k a (is_over k.scene k.history) k.full e h) in
     omega (arith, waiting-units k.scene k.history)
 
 -- the cooperation that is registered or leaves is there, and the lane of a Begin too
@@ -107,6 +108,15 @@ leaving_coop {s} {limit} {h} e coop reason kept ready is =
     the_coop_there s coop kept.scene (ap coop_in row.is)
 
 pub begun_lane : {s : SceneParts} {limit : ℕ} {h : List Entry} {t : Tables} {full : Bool} (e : Entry) (lane : LaneId) (d : Demand) → IsKept s limit h t full →
-    IsReady (record { scene = s; limit = limit; history = h; full = full }) e → e.kind ≡ taking lane d → lane.0 < lanes s
+    IsReady (record { scene = s; limit = limit; history = h; full = full }) e → e.kind ≡ taking s h lane d → lane.0 < lanes s
 begun_lane {s} {limit} {h} e lane d kept ready is =
-    let row : IsRow s h e.by (taking lane d) = subst (IsRow s h e.by) is ready.step.row in row.in_range
+    let row : IsRow s h e.by (taking s h lane d) = subst (IsRow s h e.by) is ready.step.row in row.in_range
+
+pub registered_one : {s : SceneParts} {limit : ℕ} {h : List Entry} {full : Bool} (e : Entry) (coop : CoopId) →
+    IsReady (record { scene = s; limit = limit; history = h; full = full }) e → e.kind ≡ Register coop → coop ≡ the_coop
+registered_one {s} {limit} {h} e coop ready is =
+    let row : IsRow s h e.by (Register coop) = subst (IsRow s h e.by) is ready.step.row in row.the_one
+
+-- no entry follows an abort
+pub going : {s : SceneParts} {limit : ℕ} {h : List Entry} {full : Bool} (e : Entry) → IsReady (record { scene = s; limit = limit; history = h; full = full }) e → aborted h ≡ false
+going {s} {limit} {h} e ready = (or_parts (finished s h) (aborted h) ready.step.goes_on).1

@@ -3,3 +3,5 @@ pub mod TableLaws
 pub mod GateLaws
 pub mod HeldLaws
 pub mod Asking
+pub mod RowLaws
+pub mod ReachLaws

@@ -1,5 +1,5 @@
 -- The tables after one more entry: one law for each kind.
-use Rattle.std.proofs.Common.{◌≡◌, ℕ, ◌<◌, List, [], ◌∷◌, length, Bool, true, false, Some, None, arith, refl, sym, ◌∙◌, ap, inl, inr, get_or}
+use Rattle.std.proofs.Common.{◌≡◌, ℕ, ◌<◌, List, [], ◌∷◌, length, Bool, true, false, Option, Some, None, arith, refl, sym, ◌∙◌, ap, inl, inr, get_or}
 use Rattle.std.specs.Prelude.{◌==◌, ◌↔◌, ◌&&◌, IsTrue, slice_set}
 use Rattle.std.specs.List.{find, All}
 use Rattle.std.specs.Option.{is_none}
@@ -8,31 +8,38 @@ use Rattle.std.proofs.lemmas.Bool.{cases_Bool, and_parts, false≢true, ne_eqb, 
 use Rattle.so_ids.specs.declared.CoopId.{CoopId}
 use Rattle.so_ids.specs.declared.LaneId.{LaneId}
 use Rattle.so_ids.specs.declared.Place.{Place}
+use Rattle.so_ids.specs.declared.AgentId.{AgentId}
+use Rattle.so_ids.specs.declared.MsgId.{MsgId}
+use Rattle.so_ids.specs.declared.Payload.{Payload}
+use Rattle.so_ids.specs.declared.Target.{Target}
+use Rattle.so_ids.specs.declared.TextId.{TextId}
+use Rattle.so_ids.specs.declared.Vars.{Vars}
 use Rattle.so_ids.specs.declared.Reason.{Reason}
-use Rattle.so_code.specs.declared.effect.Effect.{Effect}
+use Rattle.so_code.specs.declared.effect.Effect.TheVariants as effect
 use Rattle.so_code.specs.declared.effect.Answer.{Answer}
 use Rattle.so_lists.specs.Lists.{is_empty}
 use Rattle.so_lists.proofs.First.{empty-list}
 use Rattle.so_lists.proofs.EachBelow.{length-each_below, get_or-each_below, each_below-same, each_below-set, each_below-replicate}
 use Rattle.so_scene.specs.declared.parts.SceneParts.{SceneParts}
-use Rattle.so_scene.specs.Parts.{agents_of}
+use Rattle.so_scene.specs.Parts.{no_agent, agent_of, agents_of, IsScene}
 use Rattle.so_scene.specs.Lanes.{lanes, keys, key_of, serves}
 use Rattle.so_scene.proofs.LaneLaws.{key_in_range}
 use Rattle.so_history.specs.declared.entry.Entry.{Entry}
-use Rattle.so_history.specs.declared.entry.EntryKind.TheVariants.{Register, Act, End, Leaving, Left, Stop}
+use Rattle.so_history.specs.declared.entry.EntryKind.TheVariants.{Register, Act, End, Leaving, Left, Stop, Abort}
+use Rattle.so_history.specs.declared.entry.AbortCause.{AbortCause}
 use Rattle.so_history.specs.declared.entry.Demand.{Demand}
 use Rattle.so_history.specs.declared.entry.DemandKind.TheVariants.{Start, Finish}
 use Rattle.so_history.specs.declared.entry.StopCause.{StopCause}
-use Rattle.so_history.specs.Demands.{ask_each, demands, taken, waiting}
+use Rattle.so_history.specs.Demands.{ask_each, asked_by_target, asked_by_effect, demands, taken, waiting}
 use Rattle.so_history.specs.Units.{units}
-use Rattle.so_history.specs.Turns.{Started, started_by, ends, turns, running, running_at, running_on, running_with, lane_number, key_number, turn_at}
-use Rattle.so_history.specs.Coops.{tried, present, leaving, stopped}
+use Rattle.so_history.specs.Turns.{Started, Course, move_of, vars_after, vars, course, started_by, ends, turns, running, running_at, running_on, running_with, lane_number, key_number, turn_at}
+use Rattle.so_history.specs.Coops.{the_coop, tried, present, leaving, stop_asked, stopped, aborted}
 use Rattle.so_history.specs.Order.{may_take, pick, opening_of, taking}
 use Rattle.so_history.specs.Steps.{Legal}
 use Rattle.so_history.proofs.DemandLaws.{waiting-queued, waiting-same, waiting-taken, picked}
 use Rattle.so_history.proofs.NameLaws.{length-demands_from}
 use Rattle.so_history.proofs.TurnLaws.{Frees, running_at-begun, running_at-same, running_at-ended, running_at-other, alone, turn_found, running_nowhere, running_at-nil, lanes_free, keys_free, may_be_taken}
-use Rattle.so_kernel.specs.Tables.{tables_of, places, first_place, fresh, may_take_by, after_register, after_begin, after_act, after_end, after_leaving, after_left, after_stop}
+use Rattle.so_kernel.specs.Tables.{tables_of, variables_of, initial, places, first_place, fresh, queued, after_asking, after_abort, may_take_by, after_register, after_begin, after_act, after_end, after_leaving, after_left, after_stop}
 
 -- where turns run after an entry that begins and ends nothing
 places-same : (f : Started → ℕ) (s : SceneParts) (h : List Entry) (e : Entry) (n : ℕ) → Legal s h → started_by (length h) e.by e.kind ≡ [] → ((t : ℕ) → ends e.kind t ≡ false) →
@@ -40,39 +47,79 @@ places-same : (f : Started → ℕ) (s : SceneParts) (h : List Entry) (e : Entry
 places-same f s h e n legal none quiet =
     each_below-same _ _ n (λ l _. ap first_place (running_at-same f s h e l legal none quiet))
 
-pub tables-fresh : (s : SceneParts) (room : ℕ) → tables_of s room [] ≡ fresh (lanes s) (keys s) room
-unfolding waiting demands taken units tried present leaving stopped running turns
+-- the variables after an entry that neither registers nor ends
+vars-same : (s : SceneParts) (h : List Entry) (e : Entry) → ((c : ℕ → Option Course) (a : AgentId) (v : Vars) → vars_after s c e.kind a v ≡ v) → variables_of s (e ∷ h) ≡ variables_of s h
+unfolding vars
+vars-same s h e quiet = each_below-same _ _ (length s.agents) (λ a _. quiet (course s h) (record { 0 = a }) (vars s h (record { 0 = a })))
+
+-- after a registration
+vars-registered : (s : SceneParts) (h : List Entry) (e : Entry) (coop : CoopId) → IsScene s → e.kind ≡ Register coop → coop ≡ the_coop → variables_of s (e ∷ h) ≡ initial s
+unfolding vars
+vars-registered s h e coop scene is one =
+    each_below-same _ _ (length s.agents) (λ a within.
+    let its : (agent_of s (record { 0 = a })).coop.0 ≡ coop.0 = (scene.agents a no_agent within).coop ∙ sym (ap (λ (c : CoopId). c.0) one) in
+    rw (is, eq-eqb _ _ its) refl)
+
+-- and after the End of a turn
+vars-ended : (s : SceneParts) (h : List Entry) (e : Entry) (place : Place) (c : Course) → e.kind ≡ End place → course s h place.0 ≡ Some c → c.agent.0 < length s.agents →
+    variables_of s (e ∷ h) ≡ slice_set (variables_of s h) c.agent.0 (move_of s c).1.vars
+unfolding vars
+vars-ended s h e place c is has known =
+    each_below-set _ _ (length s.agents) c.agent.0 _ known
+    (rw (is, has, eq-eqb c.agent.0 c.agent.0 refl) refl)
+    (λ j _ other. let apart : (c.agent.0 == j) ≡ false = ne_eqb c.agent.0 j (λ same. other (sym same)) in rw (is, has, apart) refl)
+
+pub tables-fresh : (s : SceneParts) (room : ℕ) → tables_of s room [] ≡ fresh s room
+unfolding waiting demands taken units tried present leaving stop_asked stopped aborted running turns vars
 tables-fresh s room = rw (each_below-replicate (λ i. first_place (running_at lane_number [] i)) (lanes s) None (λ i. refl), each_below-replicate (λ i. first_place (running_at (key_number s) [] i)) (keys s) None (λ i. refl)) refl
 
-pub tables-register : (s : SceneParts) (room : ℕ) (h : List Entry) (e : Entry) (coop : CoopId) → e.kind ≡ Register coop → Legal s h →
-    tables_of s room (e ∷ h) ≡ after_register (length h) (agents_of s coop) (tables_of s room h)
-unfolding tried present leaving stopped units
-tables-register s room h e coop is legal =
-    rw (waiting-queued s h e legal (λ d. rw is refl), places-same lane_number s h e (lanes s) legal (rw is refl) (λ t. rw is refl), places-same (key_number s) s h e (keys s) legal (rw is refl) (λ t. rw is refl), is, length-demands_from (length h) 0 (ask_each Start (agents_of s coop))) refl
+pub tables-register : (s : SceneParts) (room : ℕ) (h : List Entry) (e : Entry) (coop : CoopId) → e.kind ≡ Register coop → Legal s h → IsScene s → coop ≡ the_coop → aborted h ≡ false →
+    tables_of s room (e ∷ h) ≡ after_register s (length h) (agents_of s coop) (tables_of s room h)
+unfolding tried present leaving stop_asked stopped aborted units
+tables-register s room h e coop is legal scene one going =
+    rw (vars-registered s h e coop scene is one, going, waiting-queued s h e legal (λ d. rw is refl), places-same lane_number s h e (lanes s) legal (rw is refl) (λ t. rw is refl), places-same (key_number s) s h e (keys s) legal (rw is refl) (λ t. rw is refl), is, length-demands_from (length h) 0 (ask_each Start (agents_of s coop))) refl
 
-pub tables-leaving : (s : SceneParts) (room : ℕ) (h : List Entry) (e : Entry) (coop : CoopId) (reason : Reason) → e.kind ≡ Leaving coop reason → Legal s h →
+pub tables-leaving : (s : SceneParts) (room : ℕ) (h : List Entry) (e : Entry) (coop : CoopId) (reason : Reason) → e.kind ≡ Leaving coop reason → Legal s h → aborted h ≡ false →
     tables_of s room (e ∷ h) ≡ after_leaving (length h) (agents_of s coop) (tables_of s room h)
-unfolding tried present leaving stopped units
-tables-leaving s room h e coop reason is legal =
-    rw (waiting-queued s h e legal (λ d. rw is refl), places-same lane_number s h e (lanes s) legal (rw is refl) (λ t. rw is refl), places-same (key_number s) s h e (keys s) legal (rw is refl) (λ t. rw is refl), is, length-demands_from (length h) 0 (ask_each Finish (agents_of s coop))) refl
+unfolding tried present leaving stop_asked stopped aborted units
+tables-leaving s room h e coop reason is legal going =
+    rw (vars-same s h e (λ c a v. rw is refl), going, waiting-queued s h e legal (λ d. rw is refl), places-same lane_number s h e (lanes s) legal (rw is refl) (λ t. rw is refl), places-same (key_number s) s h e (keys s) legal (rw is refl) (λ t. rw is refl), is, length-demands_from (length h) 0 (ask_each Finish (agents_of s coop))) refl
 
-pub tables-act : (s : SceneParts) (room : ℕ) (h : List Entry) (e : Entry) → (turn : Place) × (effect : Effect) × (answer : Answer) × (e.kind ≡ Act turn effect answer) → Legal s h →
+pub tables-log : (s : SceneParts) (room : ℕ) (h : List Entry) (e : Entry) → (turn : Place) × (text : TextId) × (payload : Payload) × (answer : Answer) × (e.kind ≡ Act turn (effect.Log text payload) answer) → Legal s h → aborted h ≡ false →
     tables_of s room (e ∷ h) ≡ after_act (tables_of s room h)
-unfolding tried present leaving stopped units
-tables-act s room h e is legal =
-    rw (waiting-same s h e legal (rw is.3 refl) (λ d. rw is.3 refl), places-same lane_number s h e (lanes s) legal (rw is.3 refl) (λ t. rw is.3 refl), places-same (key_number s) s h e (keys s) legal (rw is.3 refl) (λ t. rw is.3 refl), is.3) refl
+unfolding tried present leaving stop_asked stopped aborted units
+tables-log s room h e is legal going =
+    rw (vars-same s h e (λ c a v. rw is.4 refl), going, waiting-same s h e legal (rw is.4 refl) (λ d. rw is.4 refl), places-same lane_number s h e (lanes s) legal (rw is.4 refl) (λ t. rw is.4 refl), places-same (key_number s) s h e (keys s) legal (rw is.4 refl) (λ t. rw is.4 refl), is.4) refl
 
-pub tables-left : (s : SceneParts) (room : ℕ) (h : List Entry) (e : Entry) → (coop : CoopId) × (e.kind ≡ Left coop) → Legal s h →
+pub tables-send : (s : SceneParts) (room : ℕ) (h : List Entry) (e : Entry) (target : Target) (msg : MsgId) (payload : Payload) → (turn : Place) × (answer : Answer) × (e.kind ≡ Act turn (effect.Send target msg payload) answer) → Legal s h → aborted h ≡ false →
+    tables_of s room (e ∷ h) ≡ queued (length h) (asked_by_effect s h (effect.Send target msg payload)) (tables_of s room h)
+unfolding tried present leaving stop_asked stopped aborted units
+tables-send s room h e target msg payload is legal going =
+    rw (vars-same s h e (λ c a v. rw is.2 refl), going, waiting-queued s h e legal (λ d. rw is.2 refl), places-same lane_number s h e (lanes s) legal (rw is.2 refl) (λ t. rw is.2 refl), places-same (key_number s) s h e (keys s) legal (rw is.2 refl) (λ t. rw is.2 refl), is.2, length-demands_from (length h) 0 (asked_by_target s h target msg payload)) refl
+
+pub tables-asking : (s : SceneParts) (room : ℕ) (h : List Entry) (e : Entry) → (turn : Place) × (answer : Answer) × (e.kind ≡ Act turn effect.Stop answer) → Legal s h → aborted h ≡ false →
+    tables_of s room (e ∷ h) ≡ after_asking (tables_of s room h)
+unfolding tried present leaving stop_asked stopped aborted units
+tables-asking s room h e is legal going =
+    rw (vars-same s h e (λ c a v. rw is.2 refl), going, waiting-same s h e legal (rw is.2 refl) (λ d. rw is.2 refl), places-same lane_number s h e (lanes s) legal (rw is.2 refl) (λ t. rw is.2 refl), places-same (key_number s) s h e (keys s) legal (rw is.2 refl) (λ t. rw is.2 refl), is.2) refl
+
+pub tables-abort : (s : SceneParts) (room : ℕ) (h : List Entry) (e : Entry) → (cause : AbortCause) × (e.kind ≡ Abort cause) → Legal s h →
+    tables_of s room (e ∷ h) ≡ after_abort (tables_of s room h)
+unfolding tried present leaving stop_asked stopped aborted units
+tables-abort s room h e is legal =
+    rw (vars-same s h e (λ c a v. rw is.1 refl), waiting-same s h e legal (rw is.1 refl) (λ d. rw is.1 refl), places-same lane_number s h e (lanes s) legal (rw is.1 refl) (λ t. rw is.1 refl), places-same (key_number s) s h e (keys s) legal (rw is.1 refl) (λ t. rw is.1 refl), is.1) refl
+
+pub tables-left : (s : SceneParts) (room : ℕ) (h : List Entry) (e : Entry) → (coop : CoopId) × (e.kind ≡ Left coop) → Legal s h → aborted h ≡ false →
     tables_of s room (e ∷ h) ≡ after_left (tables_of s room h)
-unfolding tried present leaving stopped units
-tables-left s room h e is legal =
-    rw (waiting-same s h e legal (rw is.1 refl) (λ d. rw is.1 refl), places-same lane_number s h e (lanes s) legal (rw is.1 refl) (λ t. rw is.1 refl), places-same (key_number s) s h e (keys s) legal (rw is.1 refl) (λ t. rw is.1 refl), is.1) refl
+unfolding tried present leaving stop_asked stopped aborted units
+tables-left s room h e is legal going =
+    rw (vars-same s h e (λ c a v. rw is.1 refl), going, waiting-same s h e legal (rw is.1 refl) (λ d. rw is.1 refl), places-same lane_number s h e (lanes s) legal (rw is.1 refl) (λ t. rw is.1 refl), places-same (key_number s) s h e (keys s) legal (rw is.1 refl) (λ t. rw is.1 refl), is.1) refl
 
-pub tables-stop : (s : SceneParts) (room : ℕ) (h : List Entry) (e : Entry) → (cause : StopCause) × (e.kind ≡ Stop cause) → Legal s h →
+pub tables-stop : (s : SceneParts) (room : ℕ) (h : List Entry) (e : Entry) → (cause : StopCause) × (e.kind ≡ Stop cause) → Legal s h → aborted h ≡ false →
     tables_of s room (e ∷ h) ≡ after_stop (tables_of s room h)
-unfolding tried present leaving stopped units
-tables-stop s room h e is legal =
-    rw (waiting-same s h e legal (rw is.1 refl) (λ d. rw is.1 refl), places-same lane_number s h e (lanes s) legal (rw is.1 refl) (λ t. rw is.1 refl), places-same (key_number s) s h e (keys s) legal (rw is.1 refl) (λ t. rw is.1 refl), is.1) refl
+unfolding tried present leaving stop_asked stopped aborted units
+tables-stop s room h e is legal going =
+    rw (vars-same s h e (λ c a v. rw is.1 refl), going, waiting-same s h e legal (rw is.1 refl) (λ d. rw is.1 refl), places-same lane_number s h e (lanes s) legal (rw is.1 refl) (λ t. rw is.1 refl), places-same (key_number s) s h e (keys s) legal (rw is.1 refl) (λ t. rw is.1 refl), is.1) refl
 
 -- a Begin where no turn runs
 places-begin : (f : Started → ℕ) (s : SceneParts) (h : List Entry) (e : Entry) (n i : ℕ) (t : Started) → Legal s h → ((x : ℕ) → ends e.kind x ≡ false) → started_by (length h) e.by e.kind ≡ t ∷ [] → t.place ≡ length h → f t ≡ i → i < n → running_at f h i ≡ [] →
@@ -91,13 +138,15 @@ free_key s h lane d picks =
     let may = may_be_taken s h lane (waiting s h) d (picked s h lane d picks).1 in
     empty-list (running_with s h (key_of s d.agent)) (and_parts (serves s lane (key_of s d.agent)) _ may).1
 
-pub tables-begin : (s : SceneParts) (room : ℕ) (h : List Entry) (e : Entry) (lane : LaneId) (d : Demand) → e.kind ≡ taking lane d → Legal s h → lane.0 < lanes s → pick s h lane ≡ Some d →
+pub tables-begin : (s : SceneParts) (room : ℕ) (h : List Entry) (e : Entry) (lane : LaneId) (d : Demand) → e.kind ≡ taking s h lane d → Legal s h → lane.0 < lanes s → pick s h lane ≡ Some d → aborted h ≡ false →
     tables_of s room (e ∷ h) ≡ after_begin (record { 0 = length h }) lane (key_of s d.agent) d (tables_of s room h)
-unfolding tried present leaving stopped units
-tables-begin s room h e lane d is legal in_range picks =
-    let t : Started = record { place = length h; by = e.by; lane = lane; agent = d.agent; opening = opening_of d.kind } in
+unfolding tried present leaving stop_asked stopped aborted units
+tables-begin s room h e lane d is legal in_range picks going =
+    let t : Started = record { place = length h; by = e.by; lane = lane; agent = d.agent; opening = opening_of s h d } in
     let starts : started_by (length h) e.by e.kind ≡ t ∷ [] = rw is refl in
     rw (
+      vars-same s h e (λ c a v. rw is refl),
+      going,
       waiting-taken s h e d.id (rw is refl) (λ x. rw is refl),
       places-begin lane_number s h e (lanes s) lane.0 t legal (λ x. rw is refl) starts refl refl in_range (free_lane s h lane d picks),
       places-begin (key_number s) s h e (keys s) (key_of s d.agent).0 t legal (λ x. rw is refl) starts refl refl (key_in_range s d.agent) (free_key s h lane d picks),
@@ -113,11 +162,14 @@ places-end f s h e n place t frees is legal in_range runs =
     (rw (running_at-ended f h e (f t) (rw is refl), alone f s h place.0 t frees legal runs, is, itself) refl)
     (λ j _ other. ap first_place (running_at-other f h e place.0 j t (rw is refl) (λ x. rw is refl) runs (λ same. other (sym same))))
 
-pub tables-end : (s : SceneParts) (room : ℕ) (h : List Entry) (e : Entry) (place : Place) (t : Started) → e.kind ≡ End place → Legal s h → t.lane.0 < lanes s → turn_at h place.0 ≡ Some t →
-    tables_of s room (e ∷ h) ≡ after_end t.lane (key_of s t.agent) (tables_of s room h)
-unfolding tried present leaving stopped units
-tables-end s room h e place t is legal in_range runs =
+pub tables-end : (s : SceneParts) (room : ℕ) (h : List Entry) (e : Entry) (place : Place) (t : Started) (c : Course) → e.kind ≡ End place → Legal s h → t.lane.0 < lanes s → turn_at h place.0 ≡ Some t →
+    course s h place.0 ≡ Some c → t.agent ≡ c.agent → c.agent.0 < length s.agents → aborted h ≡ false →
+    tables_of s room (e ∷ h) ≡ after_end t.lane (key_of s t.agent) c.agent (move_of s c).1.vars (tables_of s room h)
+unfolding tried present leaving stop_asked stopped aborted units
+tables-end s room h e place t c is legal in_range runs has whose known going =
     rw (
+      vars-ended s h e place c is has known,
+      going,
       waiting-same s h e legal (rw is refl) (λ d. rw is refl),
       places-end lane_number s h e (lanes s) place t (lanes_free s) is legal in_range runs,
       places-end (key_number s) s h e (keys s) place t (keys_free s) is legal (key_in_range s t.agent) runs,

@@ -1,20 +1,26 @@
 -- The answer of a step, and the kernel after it.
-use Rattle.std.specs.Prelude.{◌≡◌, List, ◌∷◌, true, Option, Some, None, Result, Ok, Err, if◌then◌else◌}
+use Rattle.std.specs.Prelude.{◌≡◌, List, ◌∷◌, true, Option, Some, None, Result, Ok, Err, if◌then◌else◌, unwrap_or}
 use Rattle.std.specs.Option.{option_map}
 use Rattle.so_ids.specs.declared.PartyId.{PartyId}
 use Rattle.so_ids.specs.declared.LaneId.{LaneId}
 use Rattle.so_code.specs.declared.effect.Effect.{Effect}
 use Rattle.so_code.specs.declared.effect.Move.{Move}
 use Rattle.so_code.specs.declared.frame.Frame.{Frame}
-use Rattle.so_code.specs.Machine.{after, answered}
+use Rattle.so_code.specs.Machine.{after}
+use Rattle.so_code.specs.Answers.{answered}
+use Rattle.so_code.specs.declared.effect.Answer.{Answer}
+use Rattle.so_code.specs.declared.effect.Answer.TheVariants.{Okay}
+use Rattle.so_code.specs.declared.effect.FailKind.{FailKind}
 use Rattle.so_scene.specs.declared.parts.SceneParts.{SceneParts}
 use Rattle.so_scene.specs.Parts.{code_of}
 use Rattle.so_history.specs.declared.entry.Entry.{Entry}
-use Rattle.so_history.specs.declared.entry.EntryKind.TheVariants.{Act, End}
+use Rattle.so_history.specs.declared.entry.EntryKind.{EntryKind}
+use Rattle.so_history.specs.declared.entry.EntryKind.TheVariants.{Act, End, Abort}
+use Rattle.so_history.specs.declared.entry.AbortCause.TheVariants.{Exception}
 use Rattle.so_history.specs.Turns.{Started, turn_at, course}
 use Rattle.so_history.specs.Units.{fits}
 use Rattle.so_history.specs.Order.{pick, taking}
-use Rattle.so_history.specs.Steps.{answer_of, finished}
+use Rattle.so_history.specs.Steps.{answer_of, is_over}
 use Rattle.so_kernel.specs.Shapes.{Core}
 use Rattle.so_kernel.specs.declared.answers.Refused.{Refused}
 use Rattle.so_kernel.specs.declared.answers.Refused.TheVariants.{Nothing, Full, Over}
@@ -35,7 +41,7 @@ gated_entry k (Some e) = if fits k.scene k.limit k.history e then Ok e else Err 
 
 -- in the order of the answers: the run is over, an earlier step didn't fit, there is no step, this one doesn't fit
 unfoldable pub gated : Core → Option Entry → Result Entry Refused
-gated k next = if finished k.scene k.history then Err Over else (if k.full then Err Full else gated_entry k next)
+gated k next = if is_over k.scene k.history then Err Over else (if k.full then Err Full else gated_entry k next)
 
 -- the kernel after that
 abbrev pub core_after : Core → Result Entry Refused → Core
@@ -44,16 +50,20 @@ core_after k (Err Full) = record k { full = true }
 core_after k (Err Nothing) = k
 core_after k (Err Over) = k
 
--- what a step of main answers
+abbrev pub added : EntryKind → Stepped
+added (Abort cause) = stepped_answer.Aborted
+added other = stepped_answer.Added
+
+-- what a step answers
 abbrev pub stepped : Result Entry Refused → Stepped
-stepped (Ok e) = stepped_answer.Added
+stepped (Ok e) = added e.kind
 stepped (Err Nothing) = stepped_answer.Nothing
 stepped (Err Full) = stepped_answer.Full
 stepped (Err Over) = stepped_answer.Over
 
 -- the Begin that may be made on a lane
 abbrev pub begin_by : Core → PartyId → LaneId → Option Entry
-begin_by k by lane = option_map (λ d. record { by = by; kind = taking lane d }) (pick k.scene k.history lane)
+begin_by k by lane = option_map (λ d. record { by = by; kind = taking k.scene k.history lane d }) (pick k.scene k.history lane)
 
 -- a turn that is held is running, and its frame is the one that the history gives
 pub record IsHeld (s : SceneParts) (h : List Entry) (t : Turn) : Type 0 where
@@ -81,8 +91,12 @@ IsBegun k by lane (Ok e) (begun_answer.Turn t) = IsHeld k.scene k.history t × (
 IsBegun k by lane (Ok e) _ = ⊥
 IsBegun k by lane (Err why) r = r ≡ begun (Err why)
 
+-- the answer to an effect, which has one where its turn moved
+abbrev pub answer_for : Core → Effect → Answer
+answer_for k effect = unwrap_or (answer_of k.scene k.history effect) Okay
+
 abbrev pub act_entry : Core → Turn → Effect → Entry
-act_entry k t effect = record { by = t.by; kind = Act t.begun effect (answer_of k.scene k.history effect) }
+act_entry k t effect = record { by = t.by; kind = Act t.begun effect (answer_for k effect) }
 
 -- what an act answers
 abbrev pub acted : Result Entry Refused → Acted
@@ -93,7 +107,7 @@ acted (Err Over) = acted_answer.Over
 
 -- an act that went gives the frame its answer
 abbrev pub turn_after : Core → Result Entry Refused → Turn → Effect → Turn
-turn_after k (Ok e) t effect = record t { frame = answered (answer_of k.scene k.history effect) t.frame }
+turn_after k (Ok e) t effect = record t { frame = answered (answer_for k effect) t.frame }
 turn_after k (Err why) t effect = t
 
 abbrev pub end_entry : Turn → Entry
@@ -105,3 +119,13 @@ ended (Ok e) t = ended_answer.Done
 ended (Err Nothing) t = ended_answer.Full t
 ended (Err Full) t = ended_answer.Full t
 ended (Err Over) t = ended_answer.Over t
+
+abbrev pub fail_entry : Turn → FailKind → Entry
+fail_entry t kind = record { by = t.by; kind = Abort (Exception t.begun kind) }
+
+-- what a failure answers
+abbrev pub failed : Result Entry Refused → Turn → Ended
+failed (Ok e) t = ended_answer.Aborted
+failed (Err Nothing) t = ended_answer.Full t
+failed (Err Full) t = ended_answer.Full t
+failed (Err Over) t = ended_answer.Over t

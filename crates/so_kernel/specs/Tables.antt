@@ -5,16 +5,18 @@ use Rattle.so_ids.specs.declared.AgentId.{AgentId}
 use Rattle.so_ids.specs.declared.KeyId.{KeyId}
 use Rattle.so_ids.specs.declared.LaneId.{LaneId}
 use Rattle.so_ids.specs.declared.Place.{Place}
+use Rattle.so_ids.specs.declared.Vars.{Vars}
 use Rattle.so_lists.specs.Lists.{each_below}
 use Rattle.so_scene.specs.declared.parts.SceneParts.{SceneParts}
+use Rattle.so_scene.specs.Parts.{vars_of}
 use Rattle.so_scene.specs.Lanes.{lanes, keys, key_of, serves}
 use Rattle.so_history.specs.declared.entry.Entry.{Entry}
 use Rattle.so_history.specs.declared.entry.Demand.{Demand}
 use Rattle.so_history.specs.declared.entry.DemandKind.TheVariants.{Start, Finish}
 use Rattle.so_history.specs.Demands.{Asked, ask_each, demands_from, without, waiting}
-use Rattle.so_history.specs.Turns.{Started, running_at, lane_number, key_number}
+use Rattle.so_history.specs.Turns.{Started, running_at, lane_number, key_number, vars}
 use Rattle.so_history.specs.Units.{units}
-use Rattle.so_history.specs.Coops.{tried, present, leaving, stopped}
+use Rattle.so_history.specs.Coops.{tried, present, leaving, stop_asked, stopped, aborted}
 use Rattle.so_kernel.specs.declared.tables.Marks.{Marks}
 use Rattle.so_kernel.specs.declared.tables.Tables.{Tables}
 
@@ -32,7 +34,14 @@ abbrev pub may_take_by : SceneParts → List (Option Place) → LaneId → Deman
 may_take_by s places lane d = serves s lane (key_of s d.agent) && is_none (slice_index_or places (key_of s d.agent).0 None)
 
 abbrev pub marks_of : List Entry → Marks
-marks_of h = record { tried = tried h; present = present h; leaving = leaving h; stopped = stopped h }
+marks_of h = record { tried = tried h; present = present h; leaving = leaving h; asked = stop_asked h; stopped = stopped h; aborted = aborted h }
+
+-- the variables of each agent, after a history and at the start
+abbrev pub variables_of : SceneParts → List Entry → List Vars
+variables_of s h = each_below (λ a. vars s h (record { 0 = a })) (length s.agents)
+
+abbrev pub initial : SceneParts → List Vars
+initial s = each_below (λ a. vars_of s (record { 0 = a })) (length s.agents)
 
 -- the tables of a history
 abbrev pub tables_of : SceneParts → ℕ → List Entry → Tables
@@ -41,18 +50,20 @@ tables_of s room h =
       waiting = record { items = waiting s h; room = room };
       lanes = places lane_number h (lanes s);
       keys = places (key_number s) h (keys s);
+      variables = variables_of s h;
       marks = marks_of h;
       units = units s h;
     }
 
 -- those of the empty history
-abbrev pub fresh : ℕ → ℕ → ℕ → Tables
-fresh lanes keys room =
+abbrev pub fresh : SceneParts → ℕ → Tables
+fresh s room =
     record {
       waiting = record { items = []; room = room };
-      lanes = replicate lanes None;
-      keys = replicate keys None;
-      marks = record { tried = false; present = false; leaving = false; stopped = false };
+      lanes = replicate (lanes s) None;
+      keys = replicate (keys s) None;
+      variables = initial s;
+      marks = record { tried = false; present = false; leaving = false; asked = false; stopped = false; aborted = false };
       units = 0;
     }
 
@@ -69,8 +80,8 @@ queued place asked t =
       units = t.units + (1 + length asked);
     }
 
-abbrev pub after_register : ℕ → List AgentId → Tables → Tables
-after_register place agents t = record (queued place (ask_each Start agents) t) { marks = record t.marks { tried = true; present = true } }
+abbrev pub after_register : SceneParts → ℕ → List AgentId → Tables → Tables
+after_register s place agents t = record (queued place (ask_each Start agents) t) { variables = initial s; marks = record t.marks { tried = true; present = true } }
 
 abbrev pub after_begin : Place → LaneId → KeyId → Demand → Tables → Tables
 after_begin place lane key d t =
@@ -84,8 +95,20 @@ after_begin place lane key d t =
 abbrev pub after_act : Tables → Tables
 after_act t = record t { units = t.units + 1 }
 
-abbrev pub after_end : LaneId → KeyId → Tables → Tables
-after_end lane key t = record t { lanes = slice_set t.lanes lane.0 None; keys = slice_set t.keys key.0 None; units = t.units + 1 }
+abbrev pub after_asking : Tables → Tables
+after_asking t = record t { marks = record t.marks { asked = true }; units = t.units + 1 }
+
+abbrev pub after_abort : Tables → Tables
+after_abort t = record t { marks = record t.marks { aborted = true }; units = t.units + 1 }
+
+abbrev pub after_end : LaneId → KeyId → AgentId → Vars → Tables → Tables
+after_end lane key agent vars t =
+    record t {
+      lanes = slice_set t.lanes lane.0 None;
+      keys = slice_set t.keys key.0 None;
+      variables = slice_set t.variables agent.0 vars;
+      units = t.units + 1;
+    }
 
 abbrev pub after_leaving : ℕ → List AgentId → Tables → Tables
 after_leaving place agents t = record (queued place (ask_each Finish agents) t) { marks = record t.marks { leaving = true } }

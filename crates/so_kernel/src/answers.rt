@@ -20,6 +20,8 @@ pub enum Refused {
 #[derive(Clone, Copy, Debug, PartialEq, Eq)]
 pub enum Stepped {
     Added,
+    /// The entry that was added aborts the run.
+    Aborted,
     Nothing,
     Full,
     Over,
@@ -46,6 +48,8 @@ pub enum Acted {
 #[derive(Debug, Drop)]
 pub enum Ended {
     Done,
+    /// The turn's exception aborts the run.
+    Aborted,
     Full(Turn),
     Over(Turn),
 }
@@ -56,6 +60,7 @@ pub enum RunState {
     Going,
     Finished,
     Full,
+    Aborted,
 }
 
 /// A running turn, in the hands of its party. It is named by the place of its Begin.

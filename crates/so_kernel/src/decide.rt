@@ -1,22 +1,21 @@
 //! What a step decides on, read off the tables.
 
-ghost use Rattle.std.specs.Prelude.{◌≡◌, ◌<◌, ◌≤◌, ◌&&◌, IfSome, length, List};
+ghost use Rattle.std.specs.Prelude.{◌≡◌, ◌<◌, ◌≤◌, ◌&&◌, IfSome, length};
 ghost use Rattle.so_lists.specs.Lists.{is_empty};
 ghost use Rattle.so_scene.specs.Lanes.{lanes};
-ghost use Rattle.so_scene.specs.declared.parts.SceneParts.{SceneParts as AnyScene};
-ghost use Rattle.so_history.specs.declared.entry.Entry.{Entry as AnyEntry};
-ghost use Rattle.so_history.specs.Demands.{waiting};
+ghost use Rattle.so_history.specs.Delivery.{chosen_for};
+ghost use Rattle.so_history.specs.Demands.{waiting, payload_of};
 ghost use Rattle.so_history.specs.Turns.{running};
 ghost use Rattle.so_history.specs.Units.{cost};
 ghost use Rattle.so_history.specs.Order.{pick, opening_of, taking};
-ghost use Rattle.so_history.specs.Steps.{answer_of, finished, IsRow, IsSigner};
+ghost use Rattle.so_history.specs.Steps.{finished, is_over, IsRow, IsSigner};
 ghost use Rattle.so_history.specs.Chain.{by_main, registration, tidying};
 ghost use Rattle.so_kernel.specs.Gates.{begin_by};
 
 use crate::kernel::Kernel;
-use so_code::{Answer, Effect};
+use crate::subscriptions::choose_in_default;
 use so_history::{Demand, DemandKind, Entry, EntryKind, StopCause};
-use so_ids::{CoopId, LaneId, Opening, PartyId, Reason};
+use so_ids::{AgentId, Chosen, CoopId, LaneId, MboxId, MsgId, Opening, PartyId, Payload, Reason};
 
 impl<'a> Kernel<'a> {
     /// The registration that main has not tried yet.
@@ -32,7 +31,14 @@ impl<'a> Kernel<'a> {
         }
     }
 
-    /// Tells whether the run is over.
+    /// Tells whether nothing follows.
+    pub(crate) fn is_over(&self) -> bool
+        ensures { result ≡ is_over self.now.scene self.now.history }
+    {
+        self.is_finished() || self.tables.marks.aborted
+    }
+
+    /// Tells whether the run is finished.
     #[tactic(auto, unfolding(so_history::specs::Steps::finished))]
     pub(crate) fn is_finished(&self) -> bool
         ensures { result ≡ finished self.now.scene self.now.history }
@@ -50,6 +56,11 @@ impl<'a> Kernel<'a> {
         match entry.kind {
             EntryKind::Register { coop } => 1 + self.scene.coop(coop).count,
             EntryKind::Leaving { coop, reason: _ } => 1 + self.scene.coop(coop).count,
+            EntryKind::Act {
+                turn: _,
+                effect,
+                answer: _,
+            } => 1 + self.asked_by(effect).agents.count,
             _ => 1,
         }
     }
@@ -62,7 +73,11 @@ impl<'a> Kernel<'a> {
     {
         let marks = self.tables.marks;
         let quiet = self.is_quiet();
-        if marks.stopped && marks.present && !marks.leaving {
+        if !marks.stopped && marks.asked {
+            Some(by_main(EntryKind::Stop {
+                cause: StopCause::Asked,
+            }))
+        } else if marks.stopped && marks.present && !marks.leaving {
             Some(by_main(EntryKind::Leaving {
                 coop: CoopId(0),
                 reason: Reason::Shutdown,
@@ -111,10 +126,65 @@ impl<'a> Kernel<'a> {
         match picked {
             Some(demand) => Some(Entry {
                 by,
-                kind: taking(lane, demand),
+                kind: self.begin_with(lane, demand),
             }),
             None => None,
         }
+    }
+
+    /// The Begin of a demand on a lane.
+    fn begin_with(&self, lane: LaneId, demand: Demand) -> EntryKind
+        requires { demand.agent.0 < length self.now.scene.agents }
+        ensures { result ≡ taking self.now.scene self.now.history lane demand }
+    {
+        EntryKind::Begin {
+            lane,
+            demand: Some(demand.id),
+            opening: self.opening_of(demand),
+            agent: demand.agent,
+        }
+    }
+
+    /// How a turn begins with a demand.
+    pub(crate) fn opening_of(&self, demand: Demand) -> Opening
+        requires { demand.agent.0 < length self.now.scene.agents }
+        ensures { result ≡ opening_of self.now.scene self.now.history demand }
+    {
+        match demand.kind {
+            DemandKind::Start => Opening::Start,
+            DemandKind::Finish => Opening::Finish,
+            DemandKind::Event {
+                mbox,
+                msg,
+                payload: _,
+            } => Opening::Event(self.chosen_for(demand.agent, mbox, msg)),
+        }
+    }
+
+    /// What an agent's subscriptions choose for an event.
+    fn chosen_for(&self, agent: AgentId, mbox: MboxId, msg: MsgId) -> Chosen
+        requires { agent.0 < length self.now.scene.agents }
+        ensures { result ≡ chosen_for self.now.scene self.now.history agent mbox msg }
+    {
+        let rows = self.scene.agent(agent).rows.as_slice();
+        choose_in_default(self.alloc, rows, self.tables.marks.present, mbox, msg)
+    }
+}
+
+/// The message of a demand.
+pub(crate) fn payload_of(kind: DemandKind) -> Payload
+    ensures { result ≡ payload_of kind }
+{
+    match kind {
+        DemandKind::Start | DemandKind::Finish => Payload {
+            fields: [0; 4],
+            used: 0,
+        },
+        DemandKind::Event {
+            mbox: _,
+            msg: _,
+            payload,
+        } => payload,
     }
 }
 
@@ -125,39 +195,5 @@ fn by_main(kind: EntryKind) -> Entry
     Entry {
         by: PartyId::MAIN,
         kind,
-    }
-}
-
-/// The Begin of a demand on a lane.
-fn taking(lane: LaneId, demand: Demand) -> EntryKind
-    ensures { result ≡ taking lane demand }
-{
-    EntryKind::Begin {
-        lane,
-        demand: Some(demand.id),
-        opening: opening_of(demand.kind),
-        agent: demand.agent,
-    }
-}
-
-/// How a turn begins with a demand.
-pub(crate) fn opening_of(kind: DemandKind) -> Opening
-    ensures { result ≡ opening_of kind }
-{
-    match kind {
-        DemandKind::Start => Opening::Start,
-        DemandKind::Finish => Opening::Finish,
-    }
-}
-
-/// The answer to an effect.
-pub(crate) fn answer_to(effect: Effect) -> Answer
-    ensures { (s : AnyScene) (h : List AnyEntry) → result ≡ answer_of s h effect }
-{
-    match effect {
-        Effect::Log {
-            text: _,
-            payload: _,
-        } => Answer::Okay,
     }
 }

@@ -4,16 +4,16 @@ ghost use Rattle.std.specs.Prelude.{◌≡◌, ◌<◌, ◌≤◌, ◌↔◌, []
 ghost use Rattle.so_scene.specs.Parts.{IsScene};
 ghost use Rattle.so_scene.specs.Lanes.{lanes};
 ghost use Rattle.so_code.specs.declared.effect.Move.{Move};
-ghost use Rattle.so_code.specs.declared.effect.Move.TheVariants.{Do, Done};
+ghost use Rattle.so_code.specs.declared.effect.Move.TheVariants.{Do, Done, Fail};
 ghost use Rattle.so_history.specs.Units.{units};
-ghost use Rattle.so_history.specs.Steps.{finished, IsRow, IsSigner, Legal};
+ghost use Rattle.so_history.specs.Steps.{finished, is_over, IsRow, IsSigner, Legal};
+ghost use Rattle.so_history.specs.Coops.{aborted};
 ghost use Rattle.so_history.specs.Chain.{registration, tidying};
 
 use crate::answers::{Acted, Begun, Ended, Refused, RunState, Stepped, Turn};
-use crate::decide::answer_to;
 use crate::tables::Tables;
-use so_code::Effect;
-use so_history::{Entry, EntryKind, History};
+use so_code::{Effect, FailKind};
+use so_history::{AbortCause, Entry, EntryKind, History};
 use so_ids::{CoopId, LaneId, NoMemory, PartyId};
 use so_scene::Scene;
 use std::alloc::Global;
@@ -22,6 +22,7 @@ use std::marker::Model;
 /// The core of a run of a scene.
 #[derive(Drop)]
 pub struct Kernel<'a> {
+    pub(crate) alloc: Global,
     pub(crate) scene: &'a Scene,
     pub(crate) history: History,
     pub(crate) tables: Tables,
@@ -41,7 +42,7 @@ impl<'a> Model for Kernel<'a> {
 
 impl<'a> Kernel<'a> {
     ghost use Rattle.so_kernel.specs.Kept.{IsReady};
-    ghost use Rattle.so_kernel.specs.Gates.{gated, core_after, stepped, begin_by, IsHeld, HasMoved, act_entry, end_entry, IsBegun, acted, turn_after, ended};
+    ghost use Rattle.so_kernel.specs.Gates.{gated, core_after, stepped, begin_by, IsHeld, HasMoved, act_entry, end_entry, fail_entry, IsBegun, acted, turn_after, ended, failed};
 
     /// A kernel with an empty history, which may spend so many units. Nothing after it takes memory.
     pub fn make(alloc: Global, scene: &'a Scene, units: u32) -> Result<Kernel<'a>, NoMemory>
@@ -50,9 +51,10 @@ impl<'a> Kernel<'a> {
     {
         let _parts = scene.parts();
         Ok(Kernel {
+            alloc,
             scene,
             history: History::with_units(alloc, units)?,
-            tables: Tables::with(alloc, scene.lanes(), scene.keys(), units)?,
+            tables: Tables::with(alloc, scene, units)?,
             full: false,
         })
     }
@@ -83,6 +85,7 @@ impl<'a> Kernel<'a> {
         ensures legal { Legal self.entry.scene self.entry.history }
     {
         let Kernel {
+            alloc: _,
             scene: _,
             history,
             tables: _,
@@ -93,11 +96,14 @@ impl<'a> Kernel<'a> {
 
     /// How the run stands. Full says that a step didn't fit.
     pub fn state(&self) -> RunState
-        ensures full { (result ≡ RunState.Full) ↔ ((self.now.full ≡ true) × (finished self.now.scene self.now.history ≡ false)) }
         ensures finished { (result ≡ RunState.Finished) ↔ (finished self.now.scene self.now.history ≡ true) }
+        ensures aborted { (result ≡ RunState.Aborted) ↔ ((aborted self.now.history ≡ true) × (finished self.now.scene self.now.history ≡ false)) }
+        ensures full { (result ≡ RunState.Full) ↔ ((self.now.full ≡ true) × (is_over self.now.scene self.now.history ≡ false)) }
     {
         if self.is_finished() {
             RunState::Finished
+        } else if self.tables.marks.aborted {
+            RunState::Aborted
         } else if self.full {
             RunState::Full
         } else {
@@ -120,7 +126,7 @@ impl<'a> Kernel<'a> {
         }
     }
 
-    /// The first of: the cooperation leaves, it has left, the run stops since nothing is left to do.
+    /// The first of: the run stops since a turn asked for it, the cooperation leaves, it has left, the run stops since nothing is left to do.
     pub fn tidy(&mut self) -> Stepped
         ensures answer { result ≡ stepped (gated self.old (tidying self.old.scene self.old.history)) }
         ensures after { self.new ≡ core_after self.old (gated self.old (tidying self.old.scene self.old.history)) }
@@ -161,7 +167,8 @@ impl<'a> Kernel<'a> {
         ensures turn { turn.new ≡ turn_after self.old (gated self.old (Some (act_entry self.old turn.old effect))) turn.old effect }
         ensures held { result ≡ Acted.Went → IsHeld self.new.scene self.new.history turn.new }
     {
-        let answer = answer_to(effect);
+        let _scene = self.scene();
+        let answer = self.answer_to(effect);
         let entry = Entry {
             by: turn.by,
             kind: EntryKind::Act {
@@ -199,6 +206,28 @@ impl<'a> Kernel<'a> {
         }
     }
 
+    /// Fails a turn by its exception. Every agent's reaction is to abort, so far.
+    pub fn fail(&mut self, turn: Turn, kind: FailKind) -> Ended
+        requires moved { HasMoved self.old.scene self.old.history turn (Fail kind) }
+        ensures answer { result ≡ failed (gated self.old (Some (fail_entry turn kind))) turn }
+        ensures after { self.new ≡ core_after self.old (gated self.old (Some (fail_entry turn kind))) }
+    {
+        let entry = Entry {
+            by: turn.by,
+            kind: EntryKind::Abort {
+                cause: AbortCause::Exception(turn.begun, kind),
+            },
+        };
+        match self.gate(Some(entry)) {
+            Ok(entry) => {
+                self.add_abort(entry);
+                Ended::Aborted
+            }
+            Err(Refused::Over) => Ended::Over(turn),
+            Err(_) => Ended::Full(turn),
+        }
+    }
+
     /// The entry, if it may be added. A step that doesn't fit sets the mark of Full.
     #[tactic(auto, unfolding(crate::specs::Gates::gated))]
     fn gate(&mut self, next: Option<Entry>) -> Result<Entry, Refused>
@@ -209,7 +238,7 @@ impl<'a> Kernel<'a> {
         ensures err { IfErr result (λ why. self.new ≡ core_after self.old (Err why)) }
         ensures step { IfOk result (IsReady self.old) }
     {
-        if self.is_finished() {
+        if self.is_over() {
             return Err(Refused::Over);
         }
         if self.full {

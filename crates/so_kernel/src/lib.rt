@@ -6,12 +6,15 @@
 
 mod answers;
 mod decide;
+mod delivery;
 mod kernel;
 mod slots;
 mod steps;
+mod subscriptions;
 mod tables;
 mod take_in;
 mod turns;
+mod variables;
 mod waiting;
 
 pub use answers::{Acted, Begun, Ended, Refused, RunState, Stepped, Turn};
@@ -20,4 +23,5 @@ pub use slots::Slots;
 pub use steps::{play, step};
 pub use tables::{Marks, Tables};
 pub use turns::Turns;
+pub use variables::Variables;
 pub use waiting::Waiting;

@@ -3,7 +3,7 @@
 ghost use Rattle.std.specs.Prelude.{◌≡◌, ◌<◌, ◌+◌, ◌^◌, length, Some, None, slice_index_or, slice_set};
 ghost use Rattle.std.specs.List.{All};
 ghost use Rattle.so_ids.specs.Ids.{party_of};
-ghost use Rattle.so_code.specs.declared.effect.Move.TheVariants.{Do, Done};
+ghost use Rattle.so_code.specs.declared.effect.Move.TheVariants.{Do, Done, Fail};
 ghost use Rattle.so_scene.specs.Lanes.{lanes};
 ghost use Rattle.so_history.specs.Chain.{of};
 ghost use Rattle.so_kernel.specs.Gates.{gated, core_after, stepped, begin_by};
@@ -12,7 +12,7 @@ ghost use Rattle.so_kernel.specs.Held.{AreHeld, IsPickInRange, turn_move, played
 use crate::answers::{Acted, Begun, Ended, Stepped, Turn};
 use crate::kernel::Kernel;
 use crate::turns::Turns;
-use so_code::{Effect, Frame, Move, next};
+use so_code::{Effect, FailKind, Frame, Move, next};
 use so_history::Pick;
 use so_ids::LaneId;
 
@@ -52,8 +52,8 @@ fn step_turn(kernel: &mut Kernel, turns: &mut Turns, lane: LaneId, mut turn: Tur
     requires lane { lane.0 < lanes kernel.old.scene }
     requires none { slice_index_or turns.old lane.0 None ≡ None }
     requires held { AreHeld kernel.old (slice_set turns.old lane.0 (Some turn)) }
-    ensures answer { result ≡ stepped (gated kernel.old (Some (turn_move kernel.old.scene kernel.old.history turn))) }
-    ensures after { kernel.new ≡ core_after kernel.old (gated kernel.old (Some (turn_move kernel.old.scene kernel.old.history turn))) }
+    ensures answer { result ≡ stepped (gated kernel.old (turn_move kernel.old.scene kernel.old.history turn)) }
+    ensures after { kernel.new ≡ core_after kernel.old (gated kernel.old (turn_move kernel.old.scene kernel.old.history turn)) }
     ensures held { AreHeld kernel.new turns.new }
 {
     let before = turn.frame;
@@ -62,6 +62,7 @@ fn step_turn(kernel: &mut Kernel, turns: &mut Turns, lane: LaneId, mut turn: Tur
     match next(code, &mut turn.frame) {
         Move::Do(effect) => step_act(kernel, turns, lane, turn, before, effect),
         Move::Done => step_end(kernel, turns, lane, turn, before),
+        Move::Fail(kind) => step_fail(kernel, turns, lane, turn, before, kind),
     }
 }
 
@@ -78,8 +79,8 @@ fn step_act(
     requires none { slice_index_or turns.old lane.0 None ≡ None }
     requires held { AreHeld kernel.old (slice_set turns.old lane.0 (Some (record turn { frame = before }))) }
     requires moves { Moves kernel.old turn before (Do effect) }
-    ensures answer { result ≡ stepped (gated kernel.old (Some (turn_move kernel.old.scene kernel.old.history (record turn { frame = before })))) }
-    ensures after { kernel.new ≡ core_after kernel.old (gated kernel.old (Some (turn_move kernel.old.scene kernel.old.history (record turn { frame = before })))) }
+    ensures answer { result ≡ stepped (gated kernel.old (turn_move kernel.old.scene kernel.old.history (record turn { frame = before }))) }
+    ensures after { kernel.new ≡ core_after kernel.old (gated kernel.old (turn_move kernel.old.scene kernel.old.history (record turn { frame = before }))) }
     ensures held { AreHeld kernel.new turns.new }
 {
     let _scene = kernel.scene();
@@ -113,13 +114,48 @@ fn step_end(
     requires none { slice_index_or turns.old lane.0 None ≡ None }
     requires held { AreHeld kernel.old (slice_set turns.old lane.0 (Some (record turn { frame = before }))) }
     requires moves { Moves kernel.old turn before Done }
-    ensures answer { result ≡ stepped (gated kernel.old (Some (turn_move kernel.old.scene kernel.old.history (record turn { frame = before })))) }
-    ensures after { kernel.new ≡ core_after kernel.old (gated kernel.old (Some (turn_move kernel.old.scene kernel.old.history (record turn { frame = before })))) }
+    ensures answer { result ≡ stepped (gated kernel.old (turn_move kernel.old.scene kernel.old.history (record turn { frame = before }))) }
+    ensures after { kernel.new ≡ core_after kernel.old (gated kernel.old (turn_move kernel.old.scene kernel.old.history (record turn { frame = before }))) }
     ensures held { AreHeld kernel.new turns.new }
 {
     let _scene = kernel.scene();
     match kernel.end(turn) {
         Ended::Done => Stepped::Added,
+        Ended::Aborted => Stepped::Aborted,
+        Ended::Full(mut turn) => {
+            turn.frame = before;
+            turns.put(lane, turn);
+            Stepped::Full
+        }
+        Ended::Over(mut turn) => {
+            turn.frame = before;
+            turns.put(lane, turn);
+            Stepped::Over
+        }
+    }
+}
+
+/// The exception of a turn, which is put back as it was before its move where it goes on.
+fn step_fail(
+    kernel: &mut Kernel,
+    turns: &mut Turns,
+    lane: LaneId,
+    turn: Turn,
+    before: Frame,
+    kind: FailKind,
+) -> Stepped
+    requires lane { lane.0 < lanes kernel.old.scene }
+    requires none { slice_index_or turns.old lane.0 None ≡ None }
+    requires held { AreHeld kernel.old (slice_set turns.old lane.0 (Some (record turn { frame = before }))) }
+    requires moves { Moves kernel.old turn before (Fail kind) }
+    ensures answer { result ≡ stepped (gated kernel.old (turn_move kernel.old.scene kernel.old.history (record turn { frame = before }))) }
+    ensures after { kernel.new ≡ core_after kernel.old (gated kernel.old (turn_move kernel.old.scene kernel.old.history (record turn { frame = before }))) }
+    ensures held { AreHeld kernel.new turns.new }
+{
+    let _scene = kernel.scene();
+    match kernel.fail(turn, kind) {
+        Ended::Done => Stepped::Added,
+        Ended::Aborted => Stepped::Aborted,
         Ended::Full(mut turn) => {
             turn.frame = before;
             turns.put(lane, turn);
@@ -167,7 +203,7 @@ pub fn play(kernel: &mut Kernel, turns: &mut Turns, picks: &[Pick]) -> u32
     let mut added = 0;
     for pick in picks {
         match step(kernel, turns, *pick) {
-            Stepped::Added => added += 1,
+            Stepped::Added | Stepped::Aborted => added += 1,
             _ => {}
         }
     }

@@ -4,9 +4,11 @@ ghost use Rattle.std.specs.Prelude.{◌≡◌, ◌<◌, ◌+◌, ◌^◌, length
 ghost use Rattle.so_scene.specs.Parts.{agents_from};
 
 use crate::slots::Slots;
+use crate::variables::Variables;
 use crate::waiting::Waiting;
 use so_history::{Demand, DemandKind};
-use so_ids::{AgentId, KeyId, LaneId, NoMemory, Place};
+use so_ids::{AgentId, KeyId, LaneId, NoMemory, Place, Vars};
+use so_scene::Scene;
 use std::alloc::Global;
 
 /// How the cooperation and the run stand.
@@ -18,8 +20,12 @@ pub struct Marks {
     pub present: bool,
     /// It is leaving.
     pub leaving: bool,
+    /// A turn asked for a stop.
+    pub asked: bool,
     /// A stop was made.
     pub stopped: bool,
+    /// The run was aborted.
+    pub aborted: bool,
 }
 
 /// The tables.
@@ -28,40 +34,46 @@ pub struct Tables {
     pub waiting: Waiting,
     pub lanes: Slots,
     pub keys: Slots,
+    pub variables: Variables,
     pub marks: Marks,
     pub units: u32,
 }
 
 impl Tables {
-    ghost use Rattle.so_kernel.specs.Tables.{fresh, queued, after_register, after_begin, after_act, after_end, after_leaving, after_left, after_stop, HasRoom};
+    ghost use Rattle.so_kernel.specs.Tables.{fresh, queued, after_register, after_begin, after_act, after_asking, after_abort, after_end, after_leaving, after_left, after_stop, HasRoom};
     ghost use Rattle.so_history.specs.Demands.{ask_each};
     ghost use Rattle.so_ids.specs.declared.AgentId.{AgentId as AgentNumber};
 
     /// The tables of the empty history.
-    pub fn with(alloc: Global, lanes: u32, keys: u32, room: u32) -> Result<Tables, NoMemory>
-        ensures { IfOk result (λ t. t ≡ fresh lanes keys room) }
+    pub fn with(alloc: Global, scene: &Scene, room: u32) -> Result<Tables, NoMemory>
+        ensures { IfOk result (λ t. t ≡ fresh scene.now room) }
     {
         Ok(Tables {
             waiting: Waiting::with(alloc, room)?,
-            lanes: Slots::with(alloc, lanes)?,
-            keys: Slots::with(alloc, keys)?,
+            lanes: Slots::with(alloc, scene.lanes())?,
+            keys: Slots::with(alloc, scene.keys())?,
+            variables: Variables::with(alloc, scene)?,
             marks: Marks {
                 tried: false,
                 present: false,
                 leaving: false,
+                asked: false,
                 stopped: false,
+                aborted: false,
             },
             units: 0,
         })
     }
 
-    /// After the registration of the agents from `first` on.
-    pub fn registered(&mut self, place: Place, first: AgentId, count: u32)
+    /// After the registration of the scene's cooperation, the agents from `first` on.
+    pub fn registered(&mut self, scene: &Scene, place: Place, first: AgentId, count: u32)
         requires agents { first.0 + count < 2 ^ 32 }
+        requires variables { length self.old.variables ≡ length scene.now.agents }
         requires room { HasRoom self.old count }
-        ensures { self.new ≡ after_register place.0 (agents_from first count) self.old }
+        ensures { self.new ≡ after_register scene.now place.0 (agents_from first count) self.old }
     {
         self.ask_each(place, DemandKind::Start, first, count);
+        self.variables.reset(scene);
         self.marks.tried = true;
         self.marks.present = true;
     }
@@ -87,13 +99,42 @@ impl Tables {
         self.units += 1;
     }
 
-    /// After the End of the turn that runs on a lane and with a queue.
-    pub fn ended(&mut self, lane: LaneId, key: KeyId)
+    /// After the send of a message that reaches the agents from `first` on.
+    pub fn sent(&mut self, place: Place, kind: DemandKind, first: AgentId, count: u32)
+        requires agents { first.0 + count < 2 ^ 32 }
+        requires room { HasRoom self.old count }
+        ensures { self.new ≡ queued place.0 (ask_each kind (agents_from first count)) self.old }
+    {
+        self.ask_each(place, kind, first, count);
+    }
+
+    /// After a turn asked for a stop.
+    pub fn asked_to_stop(&mut self)
+        requires { HasRoom self.old 0 }
+        ensures { self.new ≡ after_asking self.old }
+    {
+        self.marks.asked = true;
+        self.units += 1;
+    }
+
+    /// After an Abort.
+    pub fn aborted(&mut self)
+        requires { HasRoom self.old 0 }
+        ensures { self.new ≡ after_abort self.old }
+    {
+        self.marks.aborted = true;
+        self.units += 1;
+    }
+
+    /// After the End of an agent's turn that runs on a lane and with a queue, with the variables that it leaves.
+    pub fn ended(&mut self, lane: LaneId, key: KeyId, agent: AgentId, vars: Vars)
         requires lane { lane.0 < length self.old.lanes }
         requires key { key.0 < length self.old.keys }
+        requires agent { agent.0 < length self.old.variables }
         requires room { HasRoom self.old 0 }
-        ensures { self.new ≡ after_end lane key self.old }
+        ensures { self.new ≡ after_end lane key agent vars self.old }
     {
+        self.variables.set(agent, vars);
         self.lanes.end(lane.0);
         self.keys.end(key.0);
         self.units += 1;

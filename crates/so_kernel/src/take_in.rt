@@ -1,20 +1,28 @@
 //! What an entry makes of the tables: one function for each kind, one call on the tables, one push.
 
-ghost use Rattle.std.specs.Prelude.{◌≡◌, Some, Ok};
-ghost use Rattle.so_code.specs.declared.effect.Effect.{Effect as AnyEffect};
+ghost use Rattle.std.specs.Prelude.{◌≡◌, ◌<◌, length, Some, Ok};
+ghost use Rattle.so_code.specs.declared.effect.Effect.TheVariants.{Log, Send};
+ghost use Rattle.so_code.specs.Openings.{begun};
+ghost use Rattle.so_ids.specs.declared.TextId.{TextId as AnyText};
+ghost use Rattle.so_ids.specs.declared.Payload.{Payload as AnyPayload};
+ghost use Rattle.so_ids.specs.declared.Target.{Target as AnyTarget};
+ghost use Rattle.so_ids.specs.declared.MsgId.{MsgId as AnyMsg};
+ghost use Rattle.so_history.specs.declared.entry.AbortCause.{AbortCause as AnyAbort};
+ghost use Rattle.so_history.specs.Demands.{payload_of};
+ghost use Rattle.so_history.specs.Turns.{vars};
 ghost use Rattle.so_code.specs.declared.effect.Answer.{Answer as AnyAnswer};
 ghost use Rattle.so_code.specs.declared.effect.Move.TheVariants.{Do, Done};
 ghost use Rattle.so_ids.specs.declared.CoopId.{CoopId as AnyCoop};
 ghost use Rattle.so_ids.specs.declared.Place.{Place as AnyPlace};
 ghost use Rattle.so_history.specs.declared.entry.StopCause.{StopCause as AnyStop};
-ghost use Rattle.so_history.specs.Order.{pick, taking};
-ghost use Rattle.so_history.specs.Steps.{answer_of};
+ghost use Rattle.so_history.specs.Order.{pick, opening_of, taking};
+ghost use Rattle.so_history.specs.Steps.{NamesEffect, answer_of};
 ghost use Rattle.so_history.specs.Chain.{tidying};
 ghost use Rattle.so_kernel.specs.Kept.{IsReady};
 ghost use Rattle.so_kernel.specs.Gates.{core_after, IsHeld, HasMoved, act_entry, turn_after};
 
 use crate::answers::Turn;
-use crate::decide::opening_of;
+use crate::decide::payload_of;
 use crate::kernel::Kernel;
 use so_code::{Answer, Effect, Frame};
 use so_history::{Demand, Entry, EntryKind};
@@ -29,14 +37,14 @@ impl<'a> Kernel<'a> {
     {
         let place = Place(self.history.len());
         let coop = self.scene.coop(coop);
-        self.tables.registered(place, coop.first, coop.count);
+        self.tables.registered(self.scene, place, coop.first, coop.count);
         self.history.push(entry);
     }
 
     /// Takes in a Begin, and hands out its turn.
     pub(crate) fn add_begin(&mut self, entry: Entry, lane: LaneId, demand: Demand) -> Turn
         requires picked { pick self.old.scene self.old.history lane ≡ Some demand }
-        requires is { entry.kind ≡ taking lane demand }
+        requires is { entry.kind ≡ taking self.old.scene self.old.history lane demand }
         requires ready { IsReady self.old entry }
         ensures turn { IsHeld self.new.scene self.new.history result }
         ensures by { result.by ≡ entry.by }
@@ -45,6 +53,7 @@ impl<'a> Kernel<'a> {
     {
         let begun = Place(self.history.len());
         let key = self.scene.key(demand.agent);
+        let frame = self.begin_frame(demand);
         self.tables.begun(begun, lane, key, demand);
         self.history.push(entry);
         Turn {
@@ -52,14 +61,24 @@ impl<'a> Kernel<'a> {
             by: entry.by,
             lane,
             agent: demand.agent,
-            frame: Frame::begin(opening_of(demand.kind)),
+            frame,
         }
+    }
+
+    /// The frame of a turn that begins with a demand.
+    fn begin_frame(&self, demand: Demand) -> Frame
+        requires { demand.agent.0 < length self.now.scene.agents }
+        ensures { result ≡ begun (opening_of self.now.scene self.now.history demand) (vars self.now.scene self.now.history demand.agent) (payload_of demand.kind) }
+    {
+        let _scene = self.scene();
+        let vars = self.tables.variables.of(demand.agent);
+        Frame::begin(self.opening_of(demand), vars, payload_of(demand.kind))
     }
 
     /// Takes in an act, and gives the turn its answer.
     pub(crate) fn add_act(&mut self, entry: Entry, turn: &mut Turn, effect: Effect, answer: Answer)
         requires moved { HasMoved self.old.scene self.old.history turn.old (Do effect) }
-        requires answer { answer ≡ answer_of self.old.scene self.old.history effect }
+        requires answer { answer_of self.old.scene self.old.history effect ≡ Some answer }
         requires is { entry ≡ act_entry self.old turn.old effect }
         requires ready { IsReady self.old entry }
         ensures turn { turn.new ≡ turn_after self.old (Ok entry) turn.old effect }
@@ -73,25 +92,60 @@ impl<'a> Kernel<'a> {
 
     /// Takes in an act by its effect.
     fn add_effect(&mut self, entry: Entry, effect: Effect)
+        requires named { NamesEffect self.old.scene effect }
         requires is { (turn : AnyPlace) × (answer : AnyAnswer) × (entry.kind ≡ EntryKind.Act turn effect answer) }
         requires ready { IsReady self.old entry }
         ensures { self.new ≡ core_after self.old (Ok entry) }
     {
         match effect {
-            Effect::Log {
-                text: _,
-                payload: _,
-            } => self.add_log(entry),
+            Effect::Log { .. } => self.add_log(entry),
+            Effect::Send { .. } => self.add_send(entry, effect),
+            Effect::Stop => self.add_asking(entry),
+            _ => unreachable!(),
         }
     }
 
-    /// Takes in an act that changes nothing but the units.
+    /// Takes in a line of the log, which changes nothing but the units.
     fn add_log(&mut self, entry: Entry)
-        requires is { (turn : AnyPlace) × (effect : AnyEffect) × (answer : AnyAnswer) × (entry.kind ≡ EntryKind.Act turn effect answer) }
+        requires is { (turn : AnyPlace) × (text : AnyText) × (payload : AnyPayload) × (answer : AnyAnswer) × (entry.kind ≡ EntryKind.Act turn (Log text payload) answer) }
         requires ready { IsReady self.old entry }
         ensures { self.new ≡ core_after self.old (Ok entry) }
     {
         self.tables.acted();
+        self.history.push(entry);
+    }
+
+    /// Takes in a send.
+    fn add_send(&mut self, entry: Entry, effect: Effect)
+        requires sends { (target : AnyTarget) × (msg : AnyMsg) × (payload : AnyPayload) × (effect ≡ Send target msg payload) }
+        requires is { (turn : AnyPlace) × (answer : AnyAnswer) × (entry.kind ≡ EntryKind.Act turn effect answer) }
+        requires ready { IsReady self.old entry }
+        ensures { self.new ≡ core_after self.old (Ok entry) }
+    {
+        let place = Place(self.history.len());
+        let asks = self.asked_by(effect);
+        self.tables
+            .sent(place, asks.kind, asks.agents.first, asks.agents.count);
+        self.history.push(entry);
+    }
+
+    /// Takes in a stop that a turn asks for.
+    fn add_asking(&mut self, entry: Entry)
+        requires is { (turn : AnyPlace) × (answer : AnyAnswer) × (entry.kind ≡ EntryKind.Act turn (Effect.Stop) answer) }
+        requires ready { IsReady self.old entry }
+        ensures { self.new ≡ core_after self.old (Ok entry) }
+    {
+        self.tables.asked_to_stop();
+        self.history.push(entry);
+    }
+
+    /// Takes in an Abort.
+    pub(crate) fn add_abort(&mut self, entry: Entry)
+        requires is { (cause : AnyAbort) × (entry.kind ≡ EntryKind.Abort cause) }
+        requires ready { IsReady self.old entry }
+        ensures { self.new ≡ core_after self.old (Ok entry) }
+    {
+        self.tables.aborted();
         self.history.push(entry);
     }
 
@@ -103,7 +157,8 @@ impl<'a> Kernel<'a> {
         ensures { self.new ≡ core_after self.old (Ok entry) }
     {
         let key = self.scene.key(turn.agent);
-        self.tables.ended(turn.lane, key);
+        self.tables
+            .ended(turn.lane, key, turn.agent, turn.frame.vars);
         self.history.push(entry);
     }
 

@@ -65,7 +65,8 @@ impl Scene {
     /// An agent by its number.
     pub fn agent(&self, agent: AgentId) -> &AgentDef
         requires { agent.0 < length self.now.agents }
-        ensures { result.now ≡ agent_of self.now agent }
+        ensures value { result.now ≡ agent_of self.now agent }
+        ensures few { length result.now.rows ≤ 128 }
     {
         &self.parts.agents.as_slice()[agent.0 as usize]
     }
