@@ -1,6 +1,7 @@
 -- Demands of one queue are taken in order, and each turn begins as its demand says.
 use Rattle.std.proofs.Common.{◌≡◌, ℕ, ◌<◌, ◌≤◌, List, [], ◌∷◌, length, Bool, true, false, not, ◌&&◌, ◌||◌, Option, Some, None, arith, refl, sym, ◌∙◌, ap, subst, inl, inr}
 use Rattle.std.specs.Prelude.{◌==◌}
+use Rattle.std.specs.List.{filter, find}
 use Rattle.std.proofs.lemmas.Bool.{cases_Bool, or_cases, and_left, ne_eqb, false≢true}
 use Rattle.std.proofs.lemmas.Option.{same_Some}
 use Rattle.so_ids.specs.declared.AgentId.{AgentId}
@@ -20,13 +21,13 @@ use Rattle.so_history.specs.declared.entry.EntryKind.{EntryKind}
 use Rattle.so_history.specs.declared.entry.EntryKind.TheVariants.{Register, Begin, Act, End, Leaving, Left, Stop, Abort}
 use Rattle.so_history.specs.declared.entry.Demand.{Demand}
 use Rattle.so_history.specs.Places.{before}
-use Rattle.so_history.specs.Demands.{queued_by, demands, takes, taken, waiting, named}
+use Rattle.so_history.specs.Demands.{queued_by, demands, takes, taken, waiting, named, message_of, payload_in, payload_of}
 use Rattle.so_history.specs.Turns.{running_with}
 use Rattle.so_history.specs.Order.{may_take, pick}
 use Rattle.so_history.specs.Steps.{IsBegin, IsRow, IsStep, Legal}
 use Rattle.so_history.specs.Facts.{TakesAt, TakenBefore, InOrder, BeginsWith, ByChoice}
 use Rattle.so_history.proofs.NameLaws.{same_place, found_by_name, found_least}
-use Rattle.so_history.proofs.DemandLaws.{queued_here, waiting_sorted, picked, takes_waiting, taken_early}
+use Rattle.so_history.proofs.DemandLaws.{queued_here, waiting_sorted, picked, takes_waiting, taken_early, demands_sorted}
 use Rattle.so_history.proofs.TurnLaws.{may_be_taken}
 use Rattle.so_history.proofs.PlaceLaws.{Where, is_last, is_early, place_of_entry, entry_at-last, entry_at-early, steps_at}
 
@@ -176,3 +177,21 @@ by_choice s h legal = λ place lane id opening agent stands.
     let at = steps_at s h place stands.entry legal stands.here in
     let row : IsRow s (before h place) stands.entry.by (Begin lane (Some id) opening agent) = subst (IsRow s (before h place) stands.entry.by) stands.is at.step.row in
     chosen s (before h place) stands.entry.by lane id opening agent row
+
+-- a demand that is picked is the one of its name, so that its turn begins with its message
+find_within : (p q : Demand → Bool) (ds : List Demand) (d : Demand) → find p (filter q ds) ≡ Some d → find (λ x. q x && p x) ds ≡ Some d
+find_within p q [] d e = absurd cc
+find_within p q (x ∷ ds) d e =
+    elim (cases_Bool (q x)) [
+      | inl y ↦
+          elim (cases_Bool (p x)) [
+            | inl z ↦ (let same : Some x ≡ Some d = rw (y, z) at e in rw (y, z) same)
+            | inr f ↦ (let rest : find p (filter q ds) ≡ Some d = rw (y, f) at e in rw (y, f) (find_within p q ds d rest))
+          ]
+      | inr f ↦ (let rest : find p (filter q ds) ≡ Some d = rw f at e in rw f (find_within p q ds d rest))
+    ]
+
+pub message_picked : (s : SceneParts) (h : List Entry) (lane : LaneId) (d : Demand) → pick s h lane ≡ Some d → message_of s h (Some d.id) ≡ payload_of d.kind
+unfolding waiting
+message_picked s h lane d e =
+    ap payload_in (found_by_name (λ x. not (taken h x.id) && may_take s h lane x) (demands s h) d (demands_sorted s h) (find_within (may_take s h lane) (λ x. not (taken h x.id)) (demands s h) d (picked s h lane d e).1))

@@ -112,11 +112,11 @@ pub begun_lane : {s : SceneParts} {limit : ℕ} {h : List Entry} {t : Tables} {f
 begun_lane {s} {limit} {h} e lane d kept ready is =
     let row : IsRow s h e.by (taking s h lane d) = subst (IsRow s h e.by) is ready.step.row in row.in_range
 
-pub registered_one : {s : SceneParts} {limit : ℕ} {h : List Entry} {full : Bool} (e : Entry) (coop : CoopId) →
+pub registered_one : {s : SceneParts} {limit : ℕ} {h : List Entry} {t : Tables} {full : Bool} (e : Entry) (coop : CoopId) → IsKept s limit h t full →
     IsReady (record { scene = s; limit = limit; history = h; full = full }) e → e.kind ≡ Register coop → coop ≡ the_coop
-registered_one {s} {limit} {h} e coop ready is =
+registered_one {s} {limit} {h} e coop kept ready is =
     let row : IsRow s h e.by (Register coop) = subst (IsRow s h e.by) is ready.step.row in row.the_one
 
 -- no entry follows an abort
-pub going : {s : SceneParts} {limit : ℕ} {h : List Entry} {full : Bool} (e : Entry) → IsReady (record { scene = s; limit = limit; history = h; full = full }) e → aborted h ≡ false
-going {s} {limit} {h} e ready = (or_parts (finished s h) (aborted h) ready.step.goes_on).1
+pub going : {s : SceneParts} {limit : ℕ} {h : List Entry} {t : Tables} {full : Bool} (e : Entry) → IsKept s limit h t full → IsReady (record { scene = s; limit = limit; history = h; full = full }) e → aborted h ≡ false
+going {s} {limit} {h} e kept ready = (or_parts (finished s h) (aborted h) ready.step.goes_on).1

@@ -5,3 +5,4 @@ pub mod HeldLaws
 pub mod Asking
 pub mod RowLaws
 pub mod ReachLaws
+pub mod ActLaws

@@ -21,6 +21,9 @@ use Rattle.so_history.specs.Coops.{the_coop, present, leaving}
 use Rattle.so_history.specs.Delivery.{takes_from, is_subscribed, registered, receivers, is_leaving, reached, missed}
 use Rattle.so_kernel.proofs.RowLaws.{any_active}
 
+zero_add : (n : ℕ) → 0 + n ≡ n
+zero_add n = omega arith
+
 less : (a n : ℕ) → a < suc n → (a ≡ n → ⊥) → a < n
 less a n l apart =
     elim (cases_lt a n) [
@@ -41,7 +44,7 @@ module _ (test : AgentId → Bool) (owner : ℕ) (others : (a : AgentId) → (a.
 
   last_agent : (n : ℕ) → agents_from (record { 0 = 0 }) (suc n) ≡ agents_from (record { 0 = 0 }) n ++ record { 0 = n } ∷ []
   unfolding each_below
-  last_agent n = refl
+  last_agent n = ap (λ m. agents_from (record { 0 = 0 }) n ++ record { 0 = m } ∷ []) (zero_add n)
 
   pub owner_alone : (n : ℕ) → owner < n → test (record { 0 = owner }) ≡ true → filter test (agents_from (record { 0 = 0 }) n) ≡ record { 0 = owner } ∷ []
   unfolding each_below
@@ -151,10 +154,10 @@ pub reached_staying : (s : SceneParts) (h : List Entry) (mbox : MboxId) (msg : M
 reached_staying s h mbox msg l = rw l (filter_always (receivers s h mbox msg))
 
 pub missed_staying : (s : SceneParts) (h : List Entry) (mbox : MboxId) (msg : MsgId) → leaving h ≡ false → missed s h mbox msg ≡ []
-missed_staying s h mbox msg l = rw l (filter_never (receivers s h mbox msg))
+missed_staying s h mbox msg l = ap (λ b. filter (λ (a : AgentId). b) (receivers s h mbox msg)) l ∙ filter_never (receivers s h mbox msg)
 
 pub missed_leaving : (s : SceneParts) (h : List Entry) (mbox : MboxId) (msg : MsgId) → leaving h ≡ true → missed s h mbox msg ≡ receivers s h mbox msg
-missed_leaving s h mbox msg l = rw l (filter_always (receivers s h mbox msg))
+missed_leaving s h mbox msg l = ap (λ b. filter (λ (a : AgentId). b) (receivers s h mbox msg)) l ∙ filter_always (receivers s h mbox msg)
 
 pub length_from : (first : AgentId) (n : ℕ) → length (agents_from first n) ≡ n
 length_from first n = length-each_below (λ k. record { 0 = first.0 + k }) n

@@ -1,5 +1,5 @@
 -- The tables after one more entry: one law for each kind.
-use Rattle.std.proofs.Common.{◌≡◌, ℕ, ◌<◌, List, [], ◌∷◌, length, Bool, true, false, Option, Some, None, arith, refl, sym, ◌∙◌, ap, inl, inr, get_or}
+use Rattle.std.proofs.Common.{◌≡◌, ℕ, ◌+◌, ◌<◌, List, [], ◌∷◌, length, Bool, true, false, Option, Some, None, arith, refl, sym, ◌∙◌, ap, inl, inr, get_or}
 use Rattle.std.specs.Prelude.{◌==◌, ◌↔◌, ◌&&◌, IsTrue, slice_set}
 use Rattle.std.specs.List.{find, All}
 use Rattle.std.specs.Option.{is_none}
@@ -15,23 +15,25 @@ use Rattle.so_ids.specs.declared.Target.{Target}
 use Rattle.so_ids.specs.declared.TextId.{TextId}
 use Rattle.so_ids.specs.declared.Vars.{Vars}
 use Rattle.so_ids.specs.declared.Reason.{Reason}
+use Rattle.so_code.specs.declared.effect.Effect.{Effect}
 use Rattle.so_code.specs.declared.effect.Effect.TheVariants as effect
 use Rattle.so_code.specs.declared.effect.Answer.{Answer}
 use Rattle.so_lists.specs.Lists.{is_empty}
 use Rattle.so_lists.proofs.First.{empty-list}
 use Rattle.so_lists.proofs.EachBelow.{length-each_below, get_or-each_below, each_below-same, each_below-set, each_below-replicate}
 use Rattle.so_scene.specs.declared.parts.SceneParts.{SceneParts}
-use Rattle.so_scene.specs.Parts.{no_agent, agent_of, agents_of, IsScene}
+use Rattle.so_scene.specs.Parts.{no_agent, agent_of, agents_from, agents_of, IsScene}
 use Rattle.so_scene.specs.Lanes.{lanes, keys, key_of, serves}
 use Rattle.so_scene.proofs.LaneLaws.{key_in_range}
 use Rattle.so_history.specs.declared.entry.Entry.{Entry}
 use Rattle.so_history.specs.declared.entry.EntryKind.TheVariants.{Register, Act, End, Leaving, Left, Stop, Abort}
 use Rattle.so_history.specs.declared.entry.AbortCause.{AbortCause}
 use Rattle.so_history.specs.declared.entry.Demand.{Demand}
+use Rattle.so_history.specs.declared.entry.DemandKind.{DemandKind}
 use Rattle.so_history.specs.declared.entry.DemandKind.TheVariants.{Start, Finish}
 use Rattle.so_history.specs.declared.entry.StopCause.{StopCause}
 use Rattle.so_history.specs.Demands.{ask_each, asked_by_target, asked_by_effect, demands, taken, waiting}
-use Rattle.so_history.specs.Units.{units}
+use Rattle.so_history.specs.Units.{cost, units}
 use Rattle.so_history.specs.Turns.{Started, Course, move_of, vars_after, vars, course, started_by, ends, turns, running, running_at, running_on, running_with, lane_number, key_number, turn_at}
 use Rattle.so_history.specs.Coops.{the_coop, tried, present, leaving, stop_asked, stopped, aborted}
 use Rattle.so_history.specs.Order.{may_take, pick, opening_of, taking}
@@ -39,6 +41,7 @@ use Rattle.so_history.specs.Steps.{Legal}
 use Rattle.so_history.proofs.DemandLaws.{waiting-queued, waiting-same, waiting-taken, picked}
 use Rattle.so_history.proofs.NameLaws.{length-demands_from}
 use Rattle.so_history.proofs.TurnLaws.{Frees, running_at-begun, running_at-same, running_at-ended, running_at-other, alone, turn_found, running_nowhere, running_at-nil, lanes_free, keys_free, may_be_taken}
+use Rattle.so_kernel.proofs.Asking.{length-asked_from}
 use Rattle.so_kernel.specs.Tables.{tables_of, variables_of, initial, places, first_place, fresh, queued, after_asking, after_abort, may_take_by, after_register, after_begin, after_act, after_end, after_leaving, after_left, after_stop}
 
 -- where turns run after an entry that begins and ends nothing
@@ -96,6 +99,12 @@ pub tables-send : (s : SceneParts) (room : ℕ) (h : List Entry) (e : Entry) (ta
 unfolding tried present leaving stop_asked stopped aborted units
 tables-send s room h e target msg payload is legal going =
     rw (vars-same s h e (λ c a v. rw is.2 refl), going, waiting-queued s h e legal (λ d. rw is.2 refl), places-same lane_number s h e (lanes s) legal (rw is.2 refl) (λ t. rw is.2 refl), places-same (key_number s) s h e (keys s) legal (rw is.2 refl) (λ t. rw is.2 refl), is.2, length-demands_from (length h) 0 (asked_by_target s h target msg payload)) refl
+
+-- what a send costs
+pub cost-sent : (s : SceneParts) (h : List Entry) (e : Entry) (x : Effect) → (turn : Place) × (answer : Answer) × (e.kind ≡ Act turn x answer) → (kind : DemandKind) (first : AgentId) (n : ℕ) → ask_each kind (agents_from first n) ≡ asked_by_effect s h x →
+    cost s h e ≡ 1 + n
+cost-sent s h e x is kind first n asked =
+    rw is.2 (ap (λ m. 1 + m) (length-demands_from (length h) 0 (asked_by_effect s h x) ∙ (ap length (sym asked) ∙ length-asked_from kind first n)))
 
 pub tables-asking : (s : SceneParts) (room : ℕ) (h : List Entry) (e : Entry) → (turn : Place) × (answer : Answer) × (e.kind ≡ Act turn effect.Stop answer) → Legal s h → aborted h ≡ false →
     tables_of s room (e ∷ h) ≡ after_asking (tables_of s room h)

@@ -1,16 +1,20 @@
-use Rattle.std.proofs.Common.{arith}
-use Rattle.so_code.proofs.Moves.{comes}
-use Rattle.so_scene.specs.Parts.{code_of, no_agent}
-use Rattle.so_kernel.proofs.HeldLaws.{held_acted, held_agent}
+use Rattle.std.proofs.Common.{◌≡◌, Some, refl, sym, ◌∙◌, subst}
+use Rattle.so_history.specs.Turns.{Course}
+use Rattle.so_history.specs.Steps.{NamesEffect}
+use Rattle.so_history.proofs.SoundLaws.{moved_waits, moved_frame, names_parts, answer_fits, course_sound}
+use Rattle.so_kernel.proofs.ActLaws.{moved_named, moved_fits, moved_running, answer_is}
+use Rattle.so_kernel.proofs.HeldLaws.{held_acted}
 use Rattle.so_kernel.proofs.kernel.Kernel.add_act.Goals as goal
 
-pub answer-requires : goal.answer-requires
-answer-requires c =
-    let from = comes (code_of c.args.self.now.scene c.args.turn.now.agent) c.requires.moved.before c.args.turn.now.frame c.args.effect c.requires.moved.moves in
-    let agent = held_agent c.args.self.now.scene c.args.self.now.history _ c.scene-scene.ensures.scene c.scene-scene.ensures.legal c.requires.moved.held in
-    let code = c.scene-scene.ensures.scene.agents c.args.turn.now.agent.0 no_agent agent in
-    omega (arith, from.inside, code.code.few)
+pub add_effect-requires-clause-named : goal.add_effect-requires-clause-named
+add_effect-requires-clause-named c = moved_named c.args.self.now c.args.turn.now c.args.effect c.scene-scene.ensures.scene c.scene-scene.ensures.legal c.requires.moved
+
+pub answer-requires-clause-fits : goal.answer-requires-clause-fits
+answer-requires-clause-fits c = moved_fits c.args.self.now c.args.turn.now c.args.effect c.args.answer c.scene-scene.ensures.scene c.scene-scene.ensures.legal c.requires.moved c.requires.answer
+
+pub answer-requires-clause-running : goal.answer-requires-clause-running
+answer-requires-clause-running c = moved_running c.args.self.now c.args.turn.now c.args.effect c.scene-scene.ensures.scene c.scene-scene.ensures.legal c.requires.moved
 
 pub returns-clause-held : goal.returns-clause-held
 returns-clause-held c =
-    rw (c.add_effect.ensures, c.answer.ensures, c.requires.is) (held_acted c.args.self.now c.args.turn.now c.args.effect c.scene-scene.ensures.legal c.requires.moved)
+    rw (c.add_effect.ensures, c.answer.ensures.answered, c.requires.is, ← answer_is c.args.self.now c.args.effect c.args.answer c.requires.answer) (held_acted c.args.self.now c.args.turn.now c.args.effect c.scene-scene.ensures.legal c.requires.moved)

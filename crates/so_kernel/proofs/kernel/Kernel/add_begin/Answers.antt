@@ -1,9 +1,13 @@
 use Rattle.std.proofs.Common.{◌≡◌, Some, refl, sym, ◌∙◌, subst}
 use Rattle.so_lists.proofs.EachBelow.{length-each_below}
-use Rattle.so_history.specs.Order.{pick}
+use Rattle.so_code.specs.Openings.{begun}
+use Rattle.so_history.specs.Order.{pick, opening_of, taking}
+use Rattle.so_history.specs.Turns.{vars}
+use Rattle.so_history.specs.Demands.{payload_of}
+use Rattle.so_history.proofs.OrderLaws.{message_picked}
 use Rattle.so_history.proofs.DemandLaws.{picked_of}
 use Rattle.so_kernel.specs.Shapes.{Core}
-use Rattle.so_kernel.proofs.KeptLaws.{kept_after, has_room, has_place, begun_lane}
+use Rattle.so_kernel.proofs.KeptLaws.{kept_after, has_room, has_place, begun_lane, going}
 use Rattle.so_kernel.proofs.TableLaws.{tables-begin}
 use Rattle.so_kernel.proofs.HeldLaws.{held_begun}
 use Rattle.so_kernel.proofs.kernel.Kernel.add_begin.Goals as goal
@@ -19,9 +23,15 @@ begun-requires-clause-room c = has_room c.args.entry 0 c.self.invariant (rw c.se
 pub push-requires : goal.push-requires
 push-requires c = has_place c.args.entry c.self.invariant (rw c.self.view_is c.requires.ready)
 
+pub begin_frame-frame-requires : goal.begin_frame-frame-requires
+begin_frame-frame-requires c =
+    let P : Core → Type 0 = λ k. pick k.scene k.history c.args.lane ≡ Some c.args.demand in
+    rw (← c.self.view_is) (picked_of c.self.inside.scene.now c.self.inside.history.entries c.args.lane c.args.demand c.self.invariant.scene (subst P (sym c.self.view_is) c.requires.picked))
+
 pub begun-requires-clause-lane : goal.begun-requires-clause-lane
 begun-requires-clause-lane c =
-    rw (c.self.invariant.tables, length-each_below) (begun_lane c.args.entry c.args.lane c.args.demand c.self.invariant (rw c.self.view_is c.requires.ready) c.requires.is)
+    let Q : Core → Type 0 = λ k. c.args.entry.kind ≡ taking k.scene k.history c.args.lane c.args.demand in
+    rw (c.self.invariant.tables, length-each_below) (begun_lane c.args.entry c.args.lane c.args.demand c.self.invariant (rw c.self.view_is c.requires.ready) (subst Q (sym c.self.view_is) c.requires.is))
 
 pub begun-requires-clause-key : goal.begun-requires-clause-key
 begun-requires-clause-key c = rw (c.self.invariant.tables, length-each_below) c.key-key.ensures.range
@@ -29,10 +39,17 @@ begun-requires-clause-key c = rw (c.self.invariant.tables, length-each_below) c.
 pub invariant_of-self : goal.invariant_of-self
 invariant_of-self c =
     let P : Core → Type 0 = λ k. pick k.scene k.history c.args.lane ≡ Some c.args.demand in
+    let Q : Core → Type 0 = λ k. c.args.entry.kind ≡ taking k.scene k.history c.args.lane c.args.demand in
+    let is = subst Q (sym c.self.view_is) c.requires.is in
     rw (c.push.ensures.entries, c.push.ensures.limit)
     (kept_after c.args.entry c.begun.new.self c.self.invariant (rw c.self.view_is c.requires.ready)
-    (c.begun.ensures ∙ rw (c.len.ensures.value, c.key-key.ensures.value, c.self.invariant.tables) (sym (tables-begin c.self.inside.scene.now c.self.inside.history.limit c.self.inside.history.entries c.args.entry c.args.lane c.args.demand c.requires.is c.self.invariant.legal (begun_lane c.args.entry c.args.lane c.args.demand c.self.invariant (rw c.self.view_is c.requires.ready) c.requires.is) (subst P (sym c.self.view_is) c.requires.picked)))))
+    (c.begun.ensures ∙ rw (c.len.ensures.value, c.key-key.ensures.value, c.self.invariant.tables) (sym (tables-begin c.self.inside.scene.now c.self.inside.history.limit c.self.inside.history.entries c.args.entry c.args.lane c.args.demand is c.self.invariant.legal (begun_lane c.args.entry c.args.lane c.args.demand c.self.invariant (rw c.self.view_is c.requires.ready) is) (subst P (sym c.self.view_is) c.requires.picked) (going c.args.entry c.self.invariant (rw c.self.view_is c.requires.ready))))))
 
 pub returns-clause-turn : goal.returns-clause-turn
 returns-clause-turn c =
-    rw (c.push.ensures.entries, c.len.ensures.value, c.begin.ensures, c.opening_of.ensures) (held_begun c.self.inside.scene.now c.self.inside.history.entries c.args.entry c.args.lane c.args.demand c.self.invariant.legal c.requires.is)
+    let P : Core → Type 0 = λ k. pick k.scene k.history c.args.lane ≡ Some c.args.demand in
+    let Q : Core → Type 0 = λ k. c.args.entry.kind ≡ taking k.scene k.history c.args.lane c.args.demand in
+    let F : Core → Type 0 = λ k. c.begin_frame-frame.result ≡ begun (opening_of k.scene k.history c.args.demand) (vars k.scene k.history c.args.demand.agent) (payload_of c.args.demand.kind) in
+    let frame = subst F (sym c.self.view_is) c.begin_frame-frame.ensures in
+    rw (c.push.ensures.entries, c.len.ensures.value, frame, ← message_picked c.self.inside.scene.now c.self.inside.history.entries c.args.lane c.args.demand (subst P (sym c.self.view_is) c.requires.picked))
+    (held_begun c.self.inside.scene.now c.self.inside.history.entries c.args.entry c.args.lane c.args.demand c.self.invariant.legal (subst Q (sym c.self.view_is) c.requires.is))

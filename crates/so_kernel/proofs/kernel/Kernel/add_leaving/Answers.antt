@@ -1,7 +1,7 @@
 use Rattle.std.proofs.Common.{sym, ◌∙◌, arith}
 use Rattle.so_history.specs.declared.entry.DemandKind.TheVariants.{Finish}
 use Rattle.so_history.proofs.DemandLaws.{cost-asked}
-use Rattle.so_kernel.proofs.KeptLaws.{kept_after, has_room, has_place, leaving_coop}
+use Rattle.so_kernel.proofs.KeptLaws.{kept_after, has_room, has_place, leaving_coop, going}
 use Rattle.so_kernel.proofs.TableLaws.{tables-leaving}
 use Rattle.so_kernel.proofs.kernel.Kernel.add_leaving.Goals as goal
 
@@ -24,4 +24,4 @@ pub invariant_of-self : goal.invariant_of-self
 invariant_of-self c =
     rw (c.push.ensures.entries, c.push.ensures.limit)
     (kept_after c.args.entry c.leaving.new.self c.self.invariant (rw c.self.view_is c.requires.ready)
-    (c.leaving.ensures ∙ rw (c.len.ensures.value, c.coop-coop.ensures.value, c.self.invariant.tables) (sym (tables-leaving c.self.inside.scene.now c.self.inside.history.limit c.self.inside.history.entries c.args.entry c.args.coop c.args.reason c.requires.is c.self.invariant.legal))))
+    (c.leaving.ensures ∙ rw (c.len.ensures.value, c.coop-coop.ensures.value, c.self.invariant.tables) (sym (tables-leaving c.self.inside.scene.now c.self.inside.history.limit c.self.inside.history.entries c.args.entry c.args.coop c.args.reason c.requires.is c.self.invariant.legal (going c.args.entry c.self.invariant (rw c.self.view_is c.requires.ready))))))

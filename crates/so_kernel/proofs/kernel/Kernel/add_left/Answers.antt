@@ -1,5 +1,5 @@
 use Rattle.std.proofs.Common.{refl, sym, ◌∙◌}
-use Rattle.so_kernel.proofs.KeptLaws.{kept_after, has_room, has_place}
+use Rattle.so_kernel.proofs.KeptLaws.{kept_after, has_room, has_place, going}
 use Rattle.so_kernel.proofs.TableLaws.{tables-left}
 use Rattle.so_kernel.proofs.kernel.Kernel.add_left.Goals as goal
 
@@ -13,4 +13,4 @@ pub invariant_of-self : goal.invariant_of-self
 invariant_of-self c =
     rw (c.push.ensures.entries, c.push.ensures.limit)
     (kept_after c.args.entry c.left.new.self c.self.invariant (rw c.self.view_is c.requires.ready)
-    (c.left.ensures ∙ rw c.self.invariant.tables (sym (tables-left c.self.inside.scene.now c.self.inside.history.limit c.self.inside.history.entries c.args.entry c.requires.is c.self.invariant.legal))))
+    (c.left.ensures ∙ rw c.self.invariant.tables (sym (tables-left c.self.inside.scene.now c.self.inside.history.limit c.self.inside.history.entries c.args.entry c.requires.is c.self.invariant.legal (going c.args.entry c.self.invariant (rw c.self.view_is c.requires.ready))))))

@@ -1,10 +1,10 @@
 use Rattle.std.proofs.Common.{refl, sym, ◌∙◌}
-use Rattle.so_kernel.proofs.KeptLaws.{kept_after, has_room, has_place}
-use Rattle.so_kernel.proofs.TableLaws.{tables-act}
+use Rattle.so_kernel.proofs.KeptLaws.{kept_after, has_room, has_place, going}
+use Rattle.so_kernel.proofs.TableLaws.{tables-log}
 use Rattle.so_kernel.proofs.kernel.Kernel.add_log.Goals as goal
 
 pub acted-requires : goal.acted-requires
-acted-requires c = has_room c.args.entry 0 c.self.invariant (rw c.self.view_is c.requires.ready) (rw c.requires.is.3 refl)
+acted-requires c = has_room c.args.entry 0 c.self.invariant (rw c.self.view_is c.requires.ready) (rw c.requires.is.4 refl)
 
 pub push-requires : goal.push-requires
 push-requires c = has_place c.args.entry c.self.invariant (rw c.self.view_is c.requires.ready)
@@ -13,4 +13,4 @@ pub invariant_of-self : goal.invariant_of-self
 invariant_of-self c =
     rw (c.push.ensures.entries, c.push.ensures.limit)
     (kept_after c.args.entry c.acted.new.self c.self.invariant (rw c.self.view_is c.requires.ready)
-    (c.acted.ensures ∙ rw c.self.invariant.tables (sym (tables-act c.self.inside.scene.now c.self.inside.history.limit c.self.inside.history.entries c.args.entry c.requires.is c.self.invariant.legal))))
+    (c.acted.ensures ∙ rw c.self.invariant.tables (sym (tables-log c.self.inside.scene.now c.self.inside.history.limit c.self.inside.history.entries c.args.entry c.requires.is c.self.invariant.legal (going c.args.entry c.self.invariant (rw c.self.view_is c.requires.ready))))))

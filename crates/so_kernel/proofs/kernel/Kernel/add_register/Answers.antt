@@ -1,7 +1,9 @@
-use Rattle.std.proofs.Common.{sym, ◌∙◌, arith}
+use Rattle.std.proofs.Common.{sym, ◌∙◌, arith, ap, length}
 use Rattle.so_history.specs.declared.entry.DemandKind.TheVariants.{Start}
 use Rattle.so_history.proofs.DemandLaws.{cost-asked}
-use Rattle.so_kernel.proofs.KeptLaws.{kept_after, has_room, has_place, registered_coop}
+use Rattle.so_lists.proofs.EachBelow.{length-each_below}
+use Rattle.so_kernel.specs.declared.tables.Tables.{Tables}
+use Rattle.so_kernel.proofs.KeptLaws.{kept_after, has_room, has_place, registered_coop, going, registered_one}
 use Rattle.so_kernel.proofs.TableLaws.{tables-register}
 use Rattle.so_kernel.proofs.kernel.Kernel.add_register.Goals as goal
 
@@ -24,4 +26,7 @@ pub invariant_of-self : goal.invariant_of-self
 invariant_of-self c =
     rw (c.push.ensures.entries, c.push.ensures.limit)
     (kept_after c.args.entry c.registered.new.self c.self.invariant (rw c.self.view_is c.requires.ready)
-    (c.registered.ensures ∙ rw (c.len.ensures.value, c.coop-coop.ensures.value, c.self.invariant.tables) (sym (tables-register c.self.inside.scene.now c.self.inside.history.limit c.self.inside.history.entries c.args.entry c.args.coop c.requires.is c.self.invariant.legal))))
+    (c.registered.ensures ∙ rw (c.len.ensures.value, c.coop-coop.ensures.value, c.self.invariant.tables) (sym (tables-register c.self.inside.scene.now c.self.inside.history.limit c.self.inside.history.entries c.args.entry c.args.coop c.requires.is c.self.invariant.legal c.self.invariant.scene (registered_one c.args.entry c.args.coop c.self.invariant (rw c.self.view_is c.requires.ready) c.requires.is) (going c.args.entry c.self.invariant (rw c.self.view_is c.requires.ready))))))
+
+pub registered-requires-clause-variables : goal.registered-requires-clause-variables
+registered-requires-clause-variables c = ap (λ (t : Tables). length t.variables) c.self.invariant.tables ∙ length-each_below _ _

@@ -1,5 +1,5 @@
 use Rattle.std.proofs.Common.{refl, sym, ◌∙◌}
-use Rattle.so_kernel.proofs.KeptLaws.{kept_after, has_room, has_place}
+use Rattle.so_kernel.proofs.KeptLaws.{kept_after, has_room, has_place, going}
 use Rattle.so_kernel.proofs.TableLaws.{tables-stop}
 use Rattle.so_kernel.proofs.kernel.Kernel.add_stop.Goals as goal
 
@@ -13,4 +13,4 @@ pub invariant_of-self : goal.invariant_of-self
 invariant_of-self c =
     rw (c.push.ensures.entries, c.push.ensures.limit)
     (kept_after c.args.entry c.stopped.new.self c.self.invariant (rw c.self.view_is c.requires.ready)
-    (c.stopped.ensures ∙ rw c.self.invariant.tables (sym (tables-stop c.self.inside.scene.now c.self.inside.history.limit c.self.inside.history.entries c.args.entry c.requires.is c.self.invariant.legal))))
+    (c.stopped.ensures ∙ rw c.self.invariant.tables (sym (tables-stop c.self.inside.scene.now c.self.inside.history.limit c.self.inside.history.entries c.args.entry c.requires.is c.self.invariant.legal (going c.args.entry c.self.invariant (rw c.self.view_is c.requires.ready))))))

@@ -1,8 +1,6 @@
 use Rattle.std.proofs.Common.{sym, ◌∙◌, ap, arith}
 use Rattle.std.proofs.lemmas.Bool.{false≢true}
-use Rattle.so_scene.specs.Lanes.{lanes}
 use Rattle.so_history.proofs.DemandLaws.{units-nil}
-use Rattle.so_kernel.specs.Tables.{fresh}
 use Rattle.so_kernel.proofs.TableLaws.{tables-fresh}
 use Rattle.so_kernel.proofs.kernel.Kernel.make.Goals as goal
 
@@ -14,6 +12,6 @@ invariant_of-result c =
       few = c.requires;
       legal = tt;
       within = rw (units-nil c.args.scene.now) (omega arith);
-      tables = c.in_ok-with.ensures ∙ (ap (λ n. fresh n c.keys.result c.args.units) c.lanes.ensures.value ∙ (ap (λ n. fresh (lanes c.args.scene.now) n c.args.units) c.keys.ensures.value ∙ sym (tables-fresh c.args.scene.now c.args.units)));
+      tables = c.in_ok-with.ensures ∙ sym (tables-fresh c.args.scene.now c.args.units);
       full = λ f. absurd (false≢true f);
     }

@@ -1,0 +1,16 @@
+use Rattle.std.proofs.Common.{refl, sym, ◌∙◌}
+use Rattle.so_kernel.proofs.KeptLaws.{kept_after, has_room, has_place}
+use Rattle.so_kernel.proofs.TableLaws.{tables-abort}
+use Rattle.so_kernel.proofs.kernel.Kernel.add_abort.Goals as goal
+
+pub aborted-requires : goal.aborted-requires
+aborted-requires c = has_room c.args.entry 0 c.self.invariant (rw c.self.view_is c.requires.ready) (rw c.requires.is.1 refl)
+
+pub push-requires : goal.push-requires
+push-requires c = has_place c.args.entry c.self.invariant (rw c.self.view_is c.requires.ready)
+
+pub invariant_of-self : goal.invariant_of-self
+invariant_of-self c =
+    rw (c.push.ensures.entries, c.push.ensures.limit)
+    (kept_after c.args.entry c.aborted.new.self c.self.invariant (rw c.self.view_is c.requires.ready)
+    (c.aborted.ensures ∙ rw c.self.invariant.tables (sym (tables-abort c.self.inside.scene.now c.self.inside.history.limit c.self.inside.history.entries c.args.entry c.requires.is c.self.invariant.legal))))
