@@ -55,3 +55,24 @@ reached_leaving s h mbox msg l = rw l (filter_never (receivers s h mbox msg))
 pub reached_absent : (s : SceneParts) (h : List Entry) (mbox : MboxId) (msg : MsgId) → present h ≡ false → reached s h mbox msg ≡ []
 unfolding receivers
 reached_absent s h mbox msg p = rw p refl
+
+-- only a send asks something
+pub asks_nothing : (s : SceneParts) (h : List Entry) (e : Effect) → ((target : Target) (msg : MsgId) (payload : Payload) → e ≡ Send target msg payload → ⊥) → asked_by_effect s h e ≡ []
+asks_nothing s h (Send target msg payload) none = absurd (none target msg payload refl)
+asks_nothing s h (Log text payload) none = refl
+asks_nothing s h (Delayed target msg payload ms) none = refl
+asks_nothing s h (Timer slot target msg payload ms period) none = refl
+asks_nothing s h (Cancel slot) none = refl
+asks_nothing s h (Switch to) none = refl
+asks_nothing s h (SetState leaf) none = refl
+asks_nothing s h Choose none = refl
+asks_nothing s h (Subscribe row) none = refl
+asks_nothing s h (Unsubscribe row) none = refl
+asks_nothing s h (SetFilter filter) none = refl
+asks_nothing s h (DropFilter filter) none = refl
+asks_nothing s h (effect.Register coop) none = refl
+asks_nothing s h (Deregister coop) none = refl
+asks_nothing s h effect.Stop none = refl
+asks_nothing s h (Close chain keep) none = refl
+asks_nothing s h (Receive place) none = refl
+asks_nothing s h (Take place) none = refl

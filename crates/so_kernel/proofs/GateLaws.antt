@@ -15,7 +15,7 @@ use Rattle.so_kernel.specs.declared.answers.Acted.TheVariants as acted_answer
 use Rattle.so_kernel.specs.declared.answers.Ended.TheVariants as ended_answer
 use Rattle.so_kernel.specs.declared.answers.Turn.{Turn}
 use Rattle.so_kernel.specs.Shapes.{Core}
-use Rattle.so_kernel.specs.Gates.{added, gated, gated_entry, core_after, acted, ended, stepped}
+use Rattle.so_kernel.specs.Gates.{added, gated, gated_entry, core_after, acted, ended, failed, stepped}
 
 -- where there is an entry to add, the answer is not Nothing
 some_fits : (e : Entry) (b : Bool) → acted (cond b (Ok e) (Err Full)) ≡ acted_answer.Full → stepped_answer.Full ≡ stepped (cond b (Ok e) (Err Full))
@@ -53,6 +53,28 @@ added_something (End turn) h = cc
 added_something (Leaving coop reason) h = cc
 added_something (Left coop) h = cc
 added_something (Stop cause) h = cc
+
+failed_fits : (e : Entry) (t u : Turn) (b : Bool) → failed (cond b (Ok e) (Err Full)) t ≡ ended_answer.Full u → stepped_answer.Full ≡ stepped (cond b (Ok e) (Err Full))
+failed_fits e t u true h = cc
+failed_fits e t u false h = refl
+
+some_failed : (k : Core) (e : Entry) (t u : Turn) (over full : Bool) → failed (cond over (Err Over) (cond full (Err Full) (gated_entry k (Some e)))) t ≡ ended_answer.Full u → stepped_answer.Full ≡ stepped (cond over (Err Over) (cond full (Err Full) (gated_entry k (Some e))))
+some_failed k e t u true full h = cc
+some_failed k e t u false true h = refl
+some_failed k e t u false false h = failed_fits e t u (fits k.scene k.limit k.history e) h
+
+pub fail_full : (k : Core) (e : Entry) (t u : Turn) → failed (gated k (Some e)) t ≡ ended_answer.Full u → stepped_answer.Full ≡ stepped (gated k (Some e))
+unfolding gated
+fail_full k e t u h = some_failed k e t u (is_over k.scene k.history) k.full h
+
+acted_over : (g : Result Entry Refused) → acted g ≡ acted_answer.Over → stepped_answer.Over ≡ stepped g
+acted_over (Ok e) h = cc
+acted_over (Err Nothing) h = cc
+acted_over (Err Full) h = cc
+acted_over (Err Over) h = refl
+
+pub act_over : (k : Core) (e : Entry) → acted (gated k (Some e)) ≡ acted_answer.Over → stepped_answer.Over ≡ stepped (gated k (Some e))
+act_over k e h = acted_over (gated k (Some e)) h
 
 -- an answer Nothing says that there was nothing to add
 pub nothing_is : (g : Result Entry Refused) → stepped g ≡ stepped_answer.Nothing → g ≡ Err Nothing

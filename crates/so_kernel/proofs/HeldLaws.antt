@@ -10,6 +10,7 @@ use Rattle.so_ids.specs.declared.LaneId.{LaneId}
 use Rattle.so_ids.specs.declared.AgentId.{AgentId}
 use Rattle.so_ids.specs.declared.Place.{Place}
 use Rattle.so_ids.specs.Ids.{party_of}
+use Rattle.so_code.specs.declared.effect.Answer.{Answer}
 use Rattle.so_code.specs.declared.effect.Effect.{Effect}
 use Rattle.so_code.specs.declared.effect.Move.{Move}
 use Rattle.so_code.specs.declared.effect.Move.TheVariants.{Do, Fail}
@@ -29,7 +30,7 @@ use Rattle.so_history.specs.Turns.{Started, Course, vars, ends, running_at, runn
 use Rattle.so_history.specs.Coops.{aborted}
 use Rattle.so_history.specs.Demands.{message_of}
 use Rattle.so_history.specs.Order.{pick, opening_of, taking}
-use Rattle.so_history.specs.Steps.{finished, is_over, Legal}
+use Rattle.so_history.specs.Steps.{finished, is_over, answer_of, Legal}
 use Rattle.so_history.specs.Chain.{registration, tidying, turn_on, turn_entry, lane_entry, first}
 use Rattle.so_history.proofs.TurnLaws.{running_at-begun, running_at-same, running_at-ended, alone, turn_found, turn-begun, turn-spared, turn_of, turn_looked_up, turn_agent, lanes_free}
 use Rattle.so_history.proofs.CourseLaws.{acts_for, course-spared, course-acted, course-begun, has_course}
@@ -38,10 +39,11 @@ use Rattle.so_kernel.specs.declared.answers.Turn.{Turn}
 use Rattle.so_kernel.specs.declared.answers.Refused.{Refused}
 use Rattle.so_kernel.specs.declared.answers.Refused.TheVariants.{Nothing, Full, Over}
 use Rattle.so_kernel.specs.declared.answers.Acted.TheVariants as acted_answer
+use Rattle.so_kernel.specs.declared.answers.Stepped.TheVariants as stepped_answer
 use Rattle.so_kernel.specs.declared.answers.Ended.TheVariants as ended_answer
 use Rattle.so_kernel.specs.declared.answers.Begun.TheVariants as begun_answer
 use Rattle.so_kernel.specs.Shapes.{Core}
-use Rattle.so_kernel.specs.Gates.{IsHeld, HasMoved, IsBegun, gated, gated_entry, core_after, begin_by, answer_for, act_entry, end_entry, fail_entry, acted, ended, failed, turn_after}
+use Rattle.so_kernel.specs.Gates.{IsHeld, HasMoved, IsBegun, gated, gated_entry, core_after, begin_by, answer_for, act_entry, end_entry, fail_entry, acted, ended, failed, stepped, turn_after}
 use Rattle.so_kernel.specs.Held.{IsLaneHeld, AreHeld, turn_move, Moves}
 use Rattle.so_kernel.proofs.KeptLaws.{gated_next}
 
@@ -297,6 +299,26 @@ held_failed k l ts lane t kind before legal in_range none held h after =
     let l_is : l ≡ record k { history = fail_entry t kind ∷ k.history } = after ∙ ap (core_after k) ok in
     let Q : Core → Type 0 = λ x. AreHeld x ts in
     subst Q (sym l_is) (held_failed_on k ts lane t (record t { frame = before }) kind legal (ok_going k (Some (fail_entry t kind)) (fail_entry t kind) ok) in_range none held)
+
+-- the answer where an entry was added
+pub act_added : (k : Core) (t : Turn) (effect : Effect) → acted (gated k (Some (act_entry k t effect))) ≡ acted_answer.Went → stepped_answer.Added ≡ stepped (gated k (Some (act_entry k t effect)))
+act_added k t effect h = sym (ap stepped (went k (act_entry k t effect) (sym h)))
+
+pub end_added : (k : Core) (t : Turn) → ended (gated k (Some (end_entry t))) t ≡ ended_answer.Done → stepped_answer.Added ≡ stepped (gated k (Some (end_entry t)))
+end_added k t h = sym (ap stepped (done k (end_entry t) t (sym h)))
+
+failed_ok : (k : Core) (t : Turn) (kind : FailKind) → ended_answer.Aborted ≡ failed (gated k (Some (fail_entry t kind))) t → gated k (Some (fail_entry t kind)) ≡ Ok (fail_entry t kind)
+failed_ok k t kind h =
+    let g = ok_if_failed (gated k (Some (fail_entry t kind))) t h in
+    g.1 ∙ ap Ok (sym (same_Some (fail_entry t kind) g.0 (gated_next k (Some (fail_entry t kind)) g.0 g.1)))
+
+pub fail_added : (k : Core) (t : Turn) (kind : FailKind) → failed (gated k (Some (fail_entry t kind))) t ≡ ended_answer.Aborted → stepped_answer.Aborted ≡ stepped (gated k (Some (fail_entry t kind)))
+fail_added k t kind h = sym (ap stepped (failed_ok k t kind (sym h)))
+
+-- the entry of a turn's move
+pub move_is_act : (k : Core) (t : Turn) (before : Frame) (effect : Effect) (a : Answer) → Moves k t before (Do effect) → answer_of k.scene k.history effect ≡ Some a →
+    turn_move k.scene k.history (record t { frame = before }) ≡ Some (act_entry k t effect)
+move_is_act k t before effect a moves answers = rw (moves, answers) refl
 
 -- a turn that did not go on is the one before it
 pub same_turn : (k : Core) (g : Result Entry Refused) (t u : Turn) (before : Frame) (effect : Effect) → (acted_answer.Went ≡ acted g → ⊥) → u ≡ turn_after k g t effect → record u { frame = before } ≡ record t { frame = before }

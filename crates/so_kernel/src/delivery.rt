@@ -3,14 +3,14 @@
 ghost use Rattle.std.specs.Prelude.{◌≡◌, ◌+◌, ◌≤◌, length, Some};
 ghost use Rattle.so_scene.specs.Parts.{agents_from};
 ghost use Rattle.so_history.specs.Delivery.{receivers, reached, sent};
-ghost use Rattle.so_history.specs.Demands.{ask_each, asked_by_effect};
+ghost use Rattle.so_history.specs.Demands.{ask_each, asked_by_target, asked_by_effect};
 ghost use Rattle.so_history.specs.Steps.{NamesEffect, answer_of};
 
 use crate::kernel::Kernel;
 use crate::subscriptions::is_subscribed;
 use so_code::{Answer, Effect};
 use so_history::DemandKind;
-use so_ids::{AgentId, MboxId, MsgId, Sent, Target};
+use so_ids::{AgentId, MboxId, MsgId, Payload, Sent, Target};
 
 /// Some agents in a row. So far a message reaches one agent or none.
 #[derive(Clone, Copy, Debug, PartialEq, Eq)]
@@ -30,6 +30,12 @@ pub(crate) struct Asks {
 const NOBODY: Agents = Agents {
     first: AgentId(0),
     count: 0,
+};
+
+/// What asks nothing.
+const NOTHING: Asks = Asks {
+    kind: DemandKind::Start,
+    agents: NOBODY,
 };
 
 impl<'a> Kernel<'a> {
@@ -110,17 +116,25 @@ impl<'a> Kernel<'a> {
     {
         match effect {
             Effect::Send {
-                target: Target::Mbox(mbox),
+                target,
                 msg,
                 payload,
-            } => Asks {
+            } => self.asked_by_target(target, msg, payload),
+            _ => NOTHING,
+        }
+    }
+
+    /// What a send asks of agents.
+    fn asked_by_target(&self, target: Target, msg: MsgId, payload: Payload) -> Asks
+        ensures value { ask_each result.kind (agents_from result.agents.first result.agents.count) ≡ asked_by_target self.now.scene self.now.history target msg payload }
+        ensures range { result.agents.first.0 + result.agents.count ≤ length self.now.scene.agents }
+    {
+        match target {
+            Target::Mbox(mbox) => Asks {
                 kind: DemandKind::Event { mbox, msg, payload },
                 agents: self.reached(mbox, msg),
             },
-            _ => Asks {
-                kind: DemandKind::Start,
-                agents: NOBODY,
-            },
+            Target::Chain(_) => NOTHING,
         }
     }
 }

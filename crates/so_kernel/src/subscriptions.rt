@@ -12,9 +12,15 @@ use so_state::{Row, Tree, choose};
 use std::alloc::Global;
 
 /// Tells whether an active row is for the type from the mbox. No row is active while its agent isn't registered.
-#[tactic(auto, using(crate::proofs::RowLaws::subscribed))]
 pub(crate) fn is_subscribed(rows: &[Row], present: bool, mbox: MboxId, msg: MsgId) -> bool
     ensures { result ≡ list_any (takes_from mbox msg) (zip rows.now (map (λ (row : AnyRow). present && row.active) rows.now)) }
+{
+    some_takes_from(rows, present, mbox, msg)
+}
+
+/// Tells whether some row is active and for the type from the mbox.
+fn some_takes_from(rows: &[Row], present: bool, mbox: MboxId, msg: MsgId) -> bool
+    ensures { result ≡ list_any (λ (row : AnyRow). (present && row.active) && is_for mbox msg row) rows.now }
 {
     rows.iter().any(|row| takes_from(row, present, mbox, msg))
 }
@@ -55,8 +61,8 @@ fn active_of(rows: &[Row], present: bool) -> [bool; 128]
     ensures { take (length rows.now) result ≡ map (λ (row : AnyRow). present && row.active) rows.now }
 {
     let mut active = [false; 128];
-    for (k, row) in rows.iter().enumerate() {
-        active[k] = present && row.active;
+    for k in 0..rows.len() {
+        active[k] = present && rows[k].active;
     }
     active
 }
