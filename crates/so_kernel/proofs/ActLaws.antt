@@ -1,5 +1,5 @@
 -- The effect of a turn that has moved, and its answer.
-use Rattle.std.proofs.Common.{◌≡◌, ◌<◌, length, Some, None, Option, refl, sym, ◌∙◌, ap, subst}
+use Rattle.std.proofs.Common.{◌≡◌, true, ◌<◌, length, Some, None, Option, refl, sym, ◌∙◌, ap, subst}
 use Rattle.std.specs.Prelude.{unwrap_or}
 use Rattle.so_ids.specs.declared.AgentId.{AgentId}
 use Rattle.so_code.specs.declared.effect.Answer.{Answer}
@@ -11,6 +11,12 @@ use Rattle.so_code.specs.declared.frame.Frame.{Frame}
 use Rattle.so_code.specs.declared.frame.Todo.TheVariants as todo
 use Rattle.so_code.specs.Running.{IsFrame, IsRunning}
 use Rattle.so_code.specs.Answers.{IsAnswerTo}
+use Rattle.so_code.specs.Openings.{FitsOpening}
+use Rattle.so_code.specs.Own.{opens_acts}
+use Rattle.so_ids.specs.declared.Chosen.{Chosen}
+use Rattle.so_ids.specs.declared.Chosen.TheVariants as chosen
+use Rattle.so_ids.specs.declared.Opening.{Opening}
+use Rattle.so_ids.specs.declared.Opening.TheVariants as opening
 use Rattle.so_code.proofs.Moves.{is_running}
 use Rattle.so_scene.specs.Parts.{code_of, IsScene}
 use Rattle.so_history.specs.Turns.{Course, move_of}
@@ -49,3 +55,19 @@ moved_fits k t e a scene legal moved answers =
 
 pub answer_is : (k : Core) (e : Effect) (a : Answer) → answer_of k.scene k.history e ≡ Some a → answer_for k e ≡ a
 answer_is k e a answers = rw answers refl
+
+-- an opening that begins with acts
+fits_event : (c : Chosen) → opens_acts (opening.Event c) ≡ true → FitsOpening (opening.Event c)
+fits_event (chosen.Transfer from to) h = absurd cc
+fits_event (chosen.Switch to) h = tt
+fits_event (chosen.Run row) h = tt
+fits_event (chosen.Dead row) h = tt
+fits_event chosen.Suppressed h = tt
+fits_event chosen.Nothing h = tt
+
+pub fits_acts : (o : Opening) → opens_acts o ≡ true → FitsOpening o
+fits_acts (opening.Event c) h = fits_event c h
+fits_acts opening.Start h = tt
+fits_acts opening.Finish h = tt
+fits_acts opening.Thread h = tt
+fits_acts (opening.Time to) h = tt

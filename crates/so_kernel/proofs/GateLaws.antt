@@ -1,5 +1,5 @@
 -- What the gate answers, of one entry and of several.
-use Rattle.std.proofs.Common.{◌≡◌, ℕ, ◌<◌, Bool, true, false, Option, Some, None, Result, Ok, Err, refl, sym, ◌∙◌, ap, cond}
+use Rattle.std.proofs.Common.{◌≡◌, ℕ, ◌+◌, ◌<◌, length, suc, ◌∷◌, arith, Bool, true, false, Option, Some, None, Result, Ok, Err, refl, sym, ◌∙◌, ap, cond}
 use Rattle.so_lists.specs.Lists.{or_else, first_below}
 use Rattle.so_lists.proofs.First.{first_below-from}
 use Rattle.so_history.specs.declared.entry.Entry.{Entry}
@@ -7,6 +7,7 @@ use Rattle.so_history.specs.Units.{fits}
 use Rattle.so_history.specs.declared.entry.EntryKind.{EntryKind}
 use Rattle.so_history.specs.declared.entry.EntryKind.TheVariants.{Register, Begin, Act, End, Leaving, Left, Stop, Abort}
 use Rattle.so_history.specs.Steps.{is_over}
+use Rattle.so_history.proofs.ChainLaws.{IsTidying}
 use Rattle.so_history.specs.Chain.{first, fitting, next_entry}
 use Rattle.so_kernel.specs.declared.answers.Refused.{Refused}
 use Rattle.so_kernel.specs.declared.answers.Refused.TheVariants.{Nothing, Full, Over}
@@ -15,7 +16,7 @@ use Rattle.so_kernel.specs.declared.answers.Acted.TheVariants as acted_answer
 use Rattle.so_kernel.specs.declared.answers.Ended.TheVariants as ended_answer
 use Rattle.so_kernel.specs.declared.answers.Turn.{Turn}
 use Rattle.so_kernel.specs.Shapes.{Core}
-use Rattle.so_kernel.specs.Gates.{added, gated, gated_entry, core_after, acted, ended, failed, stepped}
+use Rattle.so_kernel.specs.Gates.{entries, added, gated, gated_entry, core_after, acted, ended, failed, stepped}
 
 -- where there is an entry to add, the answer is not Nothing
 some_fits : (e : Entry) (b : Bool) → acted (cond b (Ok e) (Err Full)) ≡ acted_answer.Full → stepped_answer.Full ≡ stepped (cond b (Ok e) (Err Full))
@@ -75,6 +76,17 @@ acted_over (Err Over) h = refl
 
 pub act_over : (k : Core) (e : Entry) → acted (gated k (Some e)) ≡ acted_answer.Over → stepped_answer.Over ≡ stepped (gated k (Some e))
 act_over k e h = acted_over (gated k (Some e)) h
+
+-- what main adds aborts nothing
+pub added_tidied : (kind : EntryKind) → IsTidying kind → stepped_answer.Added ≡ added kind
+added_tidied (Leaving coop reason) t = refl
+added_tidied (Left coop) t = refl
+added_tidied (Stop cause) t = refl
+added_tidied (Abort cause) t = absurd t
+added_tidied (Register coop) t = absurd t
+added_tidied (Begin lane demand opening agent) t = absurd t
+added_tidied (Act turn effect answer) t = absurd t
+added_tidied (End turn) t = absurd t
 
 -- an answer Nothing says that there was nothing to add
 pub nothing_is : (g : Result Entry Refused) → stepped g ≡ stepped_answer.Nothing → g ≡ Err Nothing
@@ -159,3 +171,20 @@ goes_on k e f h = chain_cond k (first k.scene k.history) (is_over k.scene k.hist
 pub stops : (k : Core) (why : Refused) → k.full ≡ false → gated k (first k.scene k.history) ≡ Err why → next_entry k.scene k.limit k.history ≡ None
 unfolding next_entry
 stops k why f h = stops_cond k (first k.scene k.history) (is_over k.scene k.history) why (sym (unmarked_gate k (first k.scene k.history) f) ∙ h)
+
+-- the history grows by the entries of the answer
+one_entry : (kind : EntryKind) → entries (added kind) ≡ 1
+one_entry (Abort cause) = refl
+one_entry (Register coop) = refl
+one_entry (Begin lane demand opening agent) = refl
+one_entry (Act turn effect answer) = refl
+one_entry (End turn) = refl
+one_entry (Leaving coop reason) = refl
+one_entry (Left coop) = refl
+one_entry (Stop cause) = refl
+
+pub counted : (k : Core) (g : Result Entry Refused) → length (core_after k g).history ≡ length k.history + entries (stepped g)
+counted k (Ok e) = rw (one_entry e.kind) (omega arith)
+counted k (Err Nothing) = omega arith
+counted k (Err Full) = omega arith
+counted k (Err Over) = omega arith

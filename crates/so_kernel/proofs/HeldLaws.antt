@@ -43,7 +43,7 @@ use Rattle.so_kernel.specs.declared.answers.Stepped.TheVariants as stepped_answe
 use Rattle.so_kernel.specs.declared.answers.Ended.TheVariants as ended_answer
 use Rattle.so_kernel.specs.declared.answers.Begun.TheVariants as begun_answer
 use Rattle.so_kernel.specs.Shapes.{Core}
-use Rattle.so_kernel.specs.Gates.{IsHeld, HasMoved, IsBegun, gated, gated_entry, core_after, begin_by, answer_for, act_entry, end_entry, fail_entry, acted, ended, failed, stepped, turn_after}
+use Rattle.so_kernel.specs.Gates.{IsHeld, HasMoved, IsBegun, gated, gated_entry, core_after, begin_by, answer_for, act_entry, end_entry, fail_entry, acted, ended, failed, added, stepped, turn_after}
 use Rattle.so_kernel.specs.Held.{IsLaneHeld, AreHeld, turn_move, Moves}
 use Rattle.so_kernel.proofs.KeptLaws.{gated_next}
 
@@ -399,6 +399,13 @@ held_began k l ts by lane t legal in_range held b after =
 -- the turn at a place, looked up by that place
 looked_up : (h : List Entry) (place : ℕ) (t : Started) → turn_at h place ≡ Some t → turn_of h t.place ≡ Some t
 looked_up h place t runs = ap (turn_of h) (turn_found h place t runs).0 ∙ turn_looked_up h place t runs
+
+-- the answer of a step that began a turn
+pub begun_added : (k l : Core) (by : PartyId) (lane : LaneId) (t : Turn) → IsBegun l by lane (gated k (begin_by k by lane)) (begun_answer.Turn t) → stepped_answer.Added ≡ stepped (gated k (begin_by k by lane))
+begun_added k l by lane t b =
+    let p = begun_parts l by lane (gated k (begin_by k by lane)) t b in
+    let d = picked_entry k.scene k.history by lane (pick k.scene k.history lane) p.0 (gated_next k (begin_by k by lane) p.0 p.1) in
+    ap added (sym d.1) ∙ ap stepped (sym p.1)
 
 -- the entry of a lane whose turn is in hand
 pub turn_move_is : (k : Core) (t : Turn) (lane : LaneId) → Legal k.scene k.history → IsHeld k.scene k.history t → t.lane.0 ≡ lane.0 →

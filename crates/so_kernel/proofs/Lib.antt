@@ -6,3 +6,4 @@ pub mod Asking
 pub mod RowLaws
 pub mod ReachLaws
 pub mod ActLaws
+pub mod VarLaws

@@ -1,7 +1,8 @@
 -- Which rows are active, and which agents a message reaches.
-use Rattle.std.proofs.Common.{◌≡◌, ℕ, zero, suc, ◌+◌, ◌<◌, ◌≤◌, List, [], ◌∷◌, ◌++◌, length, Bool, true, false, not, ◌&&◌, ◌||◌, cond, arith, refl, sym, ◌∙◌, ap, subst, inl, inr, map, zip}
+use Rattle.std.proofs.Common.{◌≡◌, ℕ, zero, suc, ◌+◌, ◌<◌, ◌≤◌, List, [], ◌∷◌, ◌++◌, length, Bool, true, false, not, ◌&&◌, ◌||◌, cond, arith, refl, sym, ◌∙◌, ap, subst, inl, inr, map, zip, take, set, get_or}
 use Rattle.std.specs.List.{filter, list_any, AllByRecursion}
-use Rattle.std.proofs.lemmas.List.{append-nil}
+use Rattle.std.proofs.lemmas.List.{take_more_set}
+use Rattle.so_kernel.specs.Tables.{actives}
 use Rattle.std.proofs.lemmas.List.Elements.{filter-append}
 use Rattle.std.proofs.lemmas.Bool.{cases_Bool, ne_eqb, eqb-true, and_parts}
 use Rattle.so_ids.specs.declared.AgentId.{AgentId}
@@ -22,3 +23,17 @@ pub subscribed : (present : Bool) (mbox : MboxId) (msg : MsgId) (rows : List Row
 subscribed present mbox msg rows = sym (any_active (λ row. present && row.active) mbox msg rows)
 
 pub ruleset subscriptions = (subscribed)
+
+shift : (k : ℕ) → suc k + 1 ≡ suc (k + 1)
+shift k = omega arith
+
+-- one row more
+pub actives_more : (present : Bool) (rows : List Row) (k : ℕ) (row : Row) → k < length rows → get_or rows k row ≡ row → actives present (take (k + 1) rows) ≡ actives present (take k rows) ++ (present && row.active) ∷ []
+actives_more present [] k row within is = absurd (omega arith)
+actives_more present (x ∷ rows) zero row within is = ap (λ (y : Row). (present && y.active) ∷ []) is
+actives_more present (x ∷ rows) (suc k) row within is =
+    ap (λ n. actives present (take n (x ∷ rows))) (shift k) ∙ ap (λ l. (present && x.active) ∷ l) (actives_more present rows k row (omega (arith, within)) is)
+
+pub actives_set : (present : Bool) (active : List Bool) (rows : List Row) (k : ℕ) (row : Row) → k < length active → k < length rows → get_or rows k row ≡ row → take k active ≡ actives present (take k rows) → take (k + 1) (set active k (present && row.active)) ≡ actives present (take (k + 1) rows)
+actives_set present active rows k row within inside is so_far =
+    take_more_set active k (present && row.active) within ∙ (ap (λ l. l ++ (present && row.active) ∷ []) so_far ∙ sym (actives_more present rows k row inside is))

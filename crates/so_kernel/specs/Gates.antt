@@ -1,5 +1,5 @@
 -- The answer of a step, and the kernel after it.
-use Rattle.std.specs.Prelude.{◌≡◌, List, ◌∷◌, true, Option, Some, None, Result, Ok, Err, if◌then◌else◌, unwrap_or}
+use Rattle.std.specs.Prelude.{◌≡◌, ℕ, List, ◌∷◌, true, Option, Some, None, Result, Ok, Err, if◌then◌else◌, unwrap_or}
 use Rattle.std.specs.Option.{option_map}
 use Rattle.so_ids.specs.declared.PartyId.{PartyId}
 use Rattle.so_ids.specs.declared.LaneId.{LaneId}
@@ -60,6 +60,12 @@ stepped (Ok e) = added e.kind
 stepped (Err Nothing) = stepped_answer.Nothing
 stepped (Err Full) = stepped_answer.Full
 stepped (Err Over) = stepped_answer.Over
+
+-- how many entries a step with this answer added
+abbrev pub entries : Stepped → ℕ
+entries stepped_answer.Added = 1
+entries stepped_answer.Aborted = 1
+entries other = 0
 
 -- the Begin that may be made on a lane
 abbrev pub begin_by : Core → PartyId → LaneId → Option Entry

@@ -1,11 +1,12 @@
 -- The tables of a history, and what each entry makes of them.
-use Rattle.std.specs.Prelude.{ℕ, ◌+◌, ◌<◌, ◌≤◌, ◌^◌, ◌&&◌, List, [], ◌∷◌, ◌++◌, length, Bool, true, false, Option, Some, None, slice_set, slice_index_or, replicate}
+use Rattle.std.specs.Prelude.{ℕ, ◌+◌, ◌<◌, ◌≤◌, ◌^◌, ◌&&◌, List, [], ◌∷◌, ◌++◌, length, map, Bool, true, false, Option, Some, None, slice_set, slice_index_or, replicate}
 use Rattle.std.specs.Option.{is_none}
 use Rattle.so_ids.specs.declared.AgentId.{AgentId}
 use Rattle.so_ids.specs.declared.KeyId.{KeyId}
 use Rattle.so_ids.specs.declared.LaneId.{LaneId}
 use Rattle.so_ids.specs.declared.Place.{Place}
 use Rattle.so_ids.specs.declared.Vars.{Vars}
+use Rattle.so_state.specs.declared.choice.Row.{Row}
 use Rattle.so_lists.specs.Lists.{each_below}
 use Rattle.so_scene.specs.declared.parts.SceneParts.{SceneParts}
 use Rattle.so_scene.specs.Parts.{vars_of}
@@ -40,8 +41,15 @@ marks_of h = record { tried = tried h; present = present h; leaving = leaving h;
 abbrev pub variables_of : SceneParts → List Entry → List Vars
 variables_of s h = each_below (λ a. vars s h (record { 0 = a })) (length s.agents)
 
+abbrev pub first_vars : SceneParts → ℕ → List Vars
+first_vars s n = each_below (λ a. vars_of s (record { 0 = a })) n
+
 abbrev pub initial : SceneParts → List Vars
-initial s = each_below (λ a. vars_of s (record { 0 = a })) (length s.agents)
+initial s = first_vars s (length s.agents)
+
+-- which rows are active, where their agent is registered or isn't
+abbrev pub actives : Bool → List Row → List Bool
+actives present rows = map (λ (row : Row). present && row.active) rows
 
 -- the tables of a history
 abbrev pub tables_of : SceneParts → ℕ → List Entry → Tables

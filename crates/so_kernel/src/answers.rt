@@ -1,6 +1,6 @@
 //! What steps answer, and the turn that a begin hands out.
 
-ghost use Rattle.std.specs.Prelude.{◌≡◌, Err};
+ghost use Rattle.std.specs.Prelude.{◌≡◌, ◌≤◌, Err};
 
 use so_code::Frame;
 use so_ids::{AgentId, LaneId, PartyId, Place};
@@ -71,6 +71,21 @@ pub struct Turn {
     pub lane: LaneId,
     pub agent: AgentId,
     pub frame: Frame,
+}
+
+impl Stepped {
+    ghost use Rattle.so_kernel.specs.Gates.{entries};
+
+    /// How many entries the step added: one or none.
+    pub fn entries(self) -> u32
+        ensures value { result ≡ entries self }
+        ensures few { result ≤ 1 }
+    {
+        match self {
+            Stepped::Added | Stepped::Aborted => 1,
+            Stepped::Nothing | Stepped::Full | Stepped::Over => 0,
+        }
+    }
 }
 
 impl Refused {

@@ -123,6 +123,7 @@ impl<'a> Kernel<'a> {
         ensures value { result ≡ begin_by self.now by lane }
         ensures row { IfSome result (λ e. IsRow self.now.scene self.now.history e.by e.kind) }
     {
+        let _scene = self.scene();
         match picked {
             Some(demand) => Some(Entry {
                 by,

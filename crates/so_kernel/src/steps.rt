@@ -192,6 +192,7 @@ fn step_begin(kernel: &mut Kernel, turns: &mut Turns, lane: LaneId) -> Stepped
 }
 
 /// Makes the step of each pick in order, and says how many added an entry.
+#[tactic(auto, using(crate::proofs::GateLaws::counted))]
 pub fn play(kernel: &mut Kernel, turns: &mut Turns, picks: &[Pick]) -> u32
     requires few { length picks.now < 2 ^ 32 }
     requires lanes { All (IsPickInRange kernel.old.scene) picks.now }
@@ -202,10 +203,7 @@ pub fn play(kernel: &mut Kernel, turns: &mut Turns, picks: &[Pick]) -> u32
 {
     let mut added = 0;
     for pick in picks {
-        match step(kernel, turns, *pick) {
-            Stepped::Added | Stepped::Aborted => added += 1,
-            _ => {}
-        }
+        added += step(kernel, turns, *pick).entries();
     }
     added
 }

@@ -6,6 +6,7 @@ ghost use Rattle.so_state.specs.declared.choice.Row.{Row as AnyRow};
 ghost use Rattle.so_state.specs.States.{default_state};
 ghost use Rattle.so_state.specs.Choice.{is_for, chosen};
 ghost use Rattle.so_history.specs.Delivery.{takes_from};
+ghost use Rattle.so_kernel.specs.Tables.{actives};
 
 use so_ids::{Chosen, MboxId, MsgId, StateId};
 use so_state::{Row, Tree, choose};
@@ -58,11 +59,18 @@ pub(crate) fn choose_in_default(
 /// Which rows are active, at the beginning of the array.
 fn active_of(rows: &[Row], present: bool) -> [bool; 128]
     requires { length rows.now ≤ 128 }
-    ensures { take (length rows.now) result ≡ map (λ (row : AnyRow). present && row.active) rows.now }
+    ensures { take (length rows.now) result ≡ actives present rows.now }
 {
     let mut active = [false; 128];
     for k in 0..rows.len() {
-        active[k] = present && rows[k].active;
+        active[k] = is_active(&rows[k], present);
     }
     active
+}
+
+/// Tells whether the row is active, where its agent is registered or isn't.
+fn is_active(row: &Row, present: bool) -> bool
+    ensures { result ≡ (present && row.now.active) }
+{
+    present && row.active
 }

@@ -1,8 +1,8 @@
-use Rattle.std.proofs.Common.{◌≡◌, ◌&&◌, length, map, take}
-use Rattle.so_state.specs.declared.choice.Row.{Row}
+use Rattle.std.proofs.Common.{◌≡◌, length, take}
+use Rattle.so_kernel.specs.Tables.{actives}
 use Rattle.so_kernel.proofs.subscriptions.active_of.Given as goal
 
 abbrev pub invariant-loop-k : goal.invariant-loop-k
 invariant-loop-k l =
     (length l.active ≡ 128)
-    × (take l.k l.active ≡ map (λ (row : Row). l.present && row.active) (take l.k l.rows))
+    × (take l.k l.active ≡ actives l.present (take l.k l.rows))

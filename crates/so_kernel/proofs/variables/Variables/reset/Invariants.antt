@@ -1,9 +1,8 @@
 use Rattle.std.proofs.Common.{◌≡◌, length, take}
-use Rattle.so_lists.specs.Lists.{each_below}
-use Rattle.so_scene.specs.Parts.{vars_of}
+use Rattle.so_kernel.specs.Tables.{first_vars}
 use Rattle.so_kernel.proofs.variables.Variables.reset.Given as goal
 
 abbrev pub invariant-loop-agent : goal.invariant-loop-agent
 invariant-loop-agent l =
     (length l.self ≡ length l.scene.agents)
-    × (take l.agent l.self ≡ each_below (λ a. vars_of l.scene (record { 0 = a })) l.agent)
+    × (take l.agent l.self ≡ first_vars l.scene l.agent)

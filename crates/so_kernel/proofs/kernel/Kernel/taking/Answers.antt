@@ -1,0 +1,8 @@
+use Rattle.std.proofs.Common.{◌≡◌, ◌<◌, Some, sym, ◌∙◌, subst, length}
+use Rattle.so_history.proofs.DemandLaws.{picked_of}
+use Rattle.so_kernel.specs.Shapes.{Core}
+use Rattle.so_history.specs.Order.{pick}
+use Rattle.so_kernel.proofs.kernel.Kernel.taking.Goals as goal
+
+pub begin_with-requires : goal.begin_with-requires
+begin_with-requires c = picked_of c.args.self.now.scene c.args.self.now.history c.args.lane c.in-Some.demand c.scene-scene.ensures.scene (sym c.requires.picked ∙ c.in-Some.is)
