@@ -1,5 +1,5 @@
 -- What the crates above use of the moves of a code.
-use Rattle.std.proofs.Common.{◌≡◌, ℕ, ◌<◌, Bool, true, false, List, length, Option, Some, None, refl}
+use Rattle.std.proofs.Common.{◌≡◌, ℕ, ◌<◌, Bool, true, false, List, length, Option, Some, None, refl, sym, subst}
 use Rattle.std.specs.Prelude.{if◌then◌else◌}
 use Rattle.std.proofs.lemmas.Option.{slice_get_within}
 use Rattle.so_ids.specs.declared.Opening.{Opening}
@@ -23,7 +23,7 @@ use Rattle.so_code.specs.Shape.{IsCode}
 use Rattle.so_code.specs.Places.{IsAt}
 use Rattle.so_code.specs.Machine.{landed, step, steps, first_move, after}
 use Rattle.so_code.specs.Running.{IsFrame, IsRunning}
-use Rattle.so_code.specs.Answers.{said, armed, put_done, sent, switched, has_transferred, chose, chosen_by, subscribed, registered, took, answered_to, answered_in, answered}
+use Rattle.so_code.specs.Answers.{Fits, IsAnswerTo, said, armed, put_done, sent, switched, has_transferred, chose, chosen_by, subscribed, registered, took, answered_to, answered_in, answered}
 use Rattle.so_code.specs.Openings.{OpensEvent, Opens, FitsOpening}
 use Rattle.so_code.specs.Origins.{Origin}
 use Rattle.so_code.specs.Own.{is_own, RunsActs, IsOwnAct}
@@ -81,6 +81,12 @@ module _ (code : List Instr) (is_code : IsCode code) (allowed : Instr → Bool) 
 
   pub own_act : (f g : Frame) (e : Effect) → IsFrame code f → RunsActs f → after code f ≡ (Do e, g) → IsOwnAct code allowed e g
   own_act f g e frame runs moves = own.own_act code allowed passes only f g e (places-code code is_code) frame runs moves
+
+-- ---- an answer
+
+-- one that fits the effect for which the frame waits is its answer
+pub is_answer : (f : Frame) (e : Effect) (a : Answer) → f.todo ≡ todo.Wait e → Fits e a → IsAnswerTo f.todo a
+is_answer f e a waits fits = subst (λ (t : Todo). IsAnswerTo t a) (sym waits) fits
 
 -- ---- an opening
 
