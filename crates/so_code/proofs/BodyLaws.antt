@@ -1,6 +1,6 @@
 -- A turn begins with the first act of the body that its opening names.
-use Rattle.std.proofs.Common.{◌≡◌, ℕ, suc, ◌+◌, Bool, true, false, List, [], ◌∷◌, ◌++◌, length, drop, Some, arith, refl, sym, ap, ◌∙◌, length-append, append_assoc, zero, ◌<◌, Option, None, subst}
-use Rattle.std.specs.Prelude.{map, replicate, IsSome, slice_index_or, if◌then◌else◌}
+use Rattle.std.proofs.Common.{◌≡◌, ℕ, suc, ◌+◌, Bool, true, false, List, [], ◌∷◌, ◌++◌, length, drop, Some, arith, refl, sym, ap, ◌∙◌, length-append, append_assoc, zero, ◌<◌, Option, subst}
+use Rattle.std.specs.Prelude.{replicate, IsSome, slice_index_or, if◌then◌else◌}
 use Rattle.std.specs.List.{AllByRecursion}
 use Rattle.std.proofs.lemmas.Bool.{eq-eqb}
 use Rattle.std.proofs.Math.Seq.{drop-append_seam}

@@ -1,7 +1,6 @@
 -- What the crates above use of the moves of a code.
-use Rattle.std.proofs.Common.{◌≡◌, ℕ, zero, suc, ◌<◌, ◌≤◌, Bool, true, false, List, [], ◌∷◌, length, Option, Some, None, arith, refl, sym, ap, ◌∙◌, subst}
-use Rattle.std.specs.Prelude.{slice_get, Contains, slice_index_or, if◌then◌else◌}
-use Rattle.std.specs.List.{AllByRecursion}
+use Rattle.std.proofs.Common.{◌≡◌, ℕ, ◌<◌, Bool, true, false, List, length, Option, Some, None, refl, sym, subst}
+use Rattle.std.specs.Prelude.{if◌then◌else◌}
 use Rattle.std.proofs.lemmas.Option.{slice_get_within}
 use Rattle.so_ids.specs.declared.Opening.{Opening}
 use Rattle.so_ids.specs.declared.Opening.TheVariants as opening
@@ -9,7 +8,6 @@ use Rattle.so_ids.specs.declared.Chosen.{Chosen}
 use Rattle.so_ids.specs.declared.Chosen.TheVariants as chosen
 use Rattle.so_ids.specs.declared.Put.{Put}
 use Rattle.so_ids.specs.declared.Put.TheVariants as put_is
-use Rattle.so_ids.specs.declared.StateId.{StateId}
 use Rattle.so_code.specs.declared.instr.Instr.{Instr}
 use Rattle.so_code.specs.declared.effect.Effect.{Effect}
 use Rattle.so_code.specs.declared.effect.Effect.TheVariants as effect
@@ -25,8 +23,8 @@ use Rattle.so_code.specs.Shape.{IsCode}
 use Rattle.so_code.specs.Places.{IsAt}
 use Rattle.so_code.specs.Machine.{landed, step, steps, first_move, after}
 use Rattle.so_code.specs.Running.{IsFrame, IsRunning}
-use Rattle.so_code.specs.Answers.{said, armed, put_done, sent, switched, has_transferred, chose, chosen_by, subscribed, registered, took, answered_to, answered_in, answered}
-use Rattle.so_code.specs.Openings.{HasState, OpensEvent, Opens, FitsOpening}
+use Rattle.so_code.specs.Answers.{Fits, IsAnswerTo, said, armed, put_done, sent, switched, has_transferred, chose, chosen_by, subscribed, registered, took, answered_to, answered_in, answered}
+use Rattle.so_code.specs.Openings.{OpensEvent, Opens, FitsOpening}
 use Rattle.so_code.specs.Origins.{Origin}
 use Rattle.so_code.specs.Own.{is_own, RunsActs, IsOwnAct}
 use Rattle.so_code.proofs.ShapeLaws.{places-code}
@@ -83,6 +81,12 @@ module _ (code : List Instr) (is_code : IsCode code) (allowed : Instr → Bool) 
 
   pub own_act : (f g : Frame) (e : Effect) → IsFrame code f → RunsActs f → after code f ≡ (Do e, g) → IsOwnAct code allowed e g
   own_act f g e frame runs moves = own.own_act code allowed passes only f g e (places-code code is_code) frame runs moves
+
+-- ---- an answer
+
+-- one that fits the effect for which the frame waits is its answer
+pub is_answer : (f : Frame) (e : Effect) (a : Answer) → f.todo ≡ todo.Wait e → Fits e a → IsAnswerTo f.todo a
+is_answer f e a waits fits = subst (λ (t : Todo). IsAnswerTo t a) (sym waits) fits
 
 -- ---- an opening
 
