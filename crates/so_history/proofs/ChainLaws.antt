@@ -1,35 +1,44 @@
 -- The entries of the picks, and that a run that is not over goes on.
-use Rattle.std.proofs.Common.{◌≡◌, ℕ, ◌<◌, List, [], ◌∷◌, length, Bool, true, false, not, ◌&&◌, cond, Option, Some, None, refl, sym, ◌∙◌, ap, subst}
+use Rattle.std.proofs.Common.{◌≡◌, ℕ, ◌<◌, List, [], ◌∷◌, length, Bool, true, false, not, ◌&&◌, ◌||◌, cond, Option, Some, None, refl, sym, ◌∙◌, ap, subst}
 use Rattle.std.specs.List.{find, AllByRecursion}
-use Rattle.std.specs.Option.{option_map}
+use Rattle.std.specs.Option.{option_map, option_and_then}
 use Rattle.std.proofs.lemmas.Bool.{and_parts, false≢true}
 use Rattle.so_ids.specs.declared.CoopId.{CoopId}
 use Rattle.so_ids.specs.declared.LaneId.{LaneId}
+use Rattle.so_ids.specs.declared.MsgId.{MsgId}
+use Rattle.so_ids.specs.declared.Target.{Target}
+use Rattle.so_ids.specs.declared.Target.TheVariants.{Mbox, Chain}
 use Rattle.so_ids.specs.declared.Reason.{Reason}
 use Rattle.so_ids.specs.declared.Reason.TheVariants.{Shutdown}
 use Rattle.so_lists.specs.Lists.{is_empty, or_else, head, first_below}
 use Rattle.so_lists.proofs.Filters.{each-weaker}
 use Rattle.so_lists.proofs.First.{or_else-none, or_else-swap, first_below-none, none-first_below, first_below-some, option_map-none}
 use Rattle.so_scene.specs.declared.parts.SceneParts.{SceneParts}
-use Rattle.so_scene.specs.Parts.{IsScene}
+use Rattle.so_code.specs.declared.effect.Answer.{Answer}
+use Rattle.so_code.specs.declared.effect.Effect.{Effect}
+use Rattle.so_code.specs.declared.effect.Effect.TheVariants as effect
+use Rattle.so_code.specs.declared.effect.Move.{Move}
+use Rattle.so_code.specs.declared.effect.Move.TheVariants.{Do, Done, Fail}
+use Rattle.so_scene.specs.Parts.{NamesTarget, IsScene}
 use Rattle.so_scene.specs.Lanes.{lanes, key_of}
 use Rattle.so_scene.proofs.LaneLaws.{some_lane}
 use Rattle.so_history.specs.declared.entry.Entry.{Entry}
 use Rattle.so_history.specs.declared.entry.EntryKind.{EntryKind}
-use Rattle.so_history.specs.declared.entry.EntryKind.TheVariants.{Register, Begin, Act, End, Leaving, Left, Stop}
+use Rattle.so_history.specs.declared.entry.EntryKind.TheVariants.{Register, Begin, Act, End, Leaving, Left, Stop, Abort}
 use Rattle.so_history.specs.declared.entry.StopCause.{StopCause}
-use Rattle.so_history.specs.declared.entry.StopCause.TheVariants.{Idle}
+use Rattle.so_history.specs.declared.entry.StopCause.TheVariants.{Asked, Idle}
 use Rattle.so_history.specs.declared.entry.Demand.{Demand}
 use Rattle.so_history.specs.Demands.{waiting}
-use Rattle.so_history.specs.Turns.{Started, Course, running, running_at, running_on, running_with, lane_number, key_number, course}
-use Rattle.so_history.specs.Coops.{tried, present, leaving, stopped, has_reason}
+use Rattle.so_history.specs.Turns.{Started, Course, running, running_at, running_on, running_with, lane_number, key_number, move_of, course}
+use Rattle.so_history.specs.Coops.{the_coop, tried, present, leaving, stopped, stop_asked, aborted, has_reason}
 use Rattle.so_history.specs.Units.{fits}
 use Rattle.so_history.specs.Order.{is_free, may_take, pick}
-use Rattle.so_history.specs.Steps.{the_coop, may_leave, is_idle, finished, Legal}
-use Rattle.so_history.specs.Chain.{by_main, next_of, turn_entry, turn_on, begin_entry, registration, leaving_entry, left_entry, stop_entry, tidying, lane_entry, first, fitting, next_entry, StopsAtLimit}
+use Rattle.so_history.specs.Steps.{NamesEffect, may_leave, may_stop, is_idle, finished, is_over, answer_to_send, answer_of, entry_of, Legal}
+use Rattle.so_history.specs.Chain.{by_main, signed, next_of, turn_entry, turn_on, begin_entry, registration, leaving_entry, left_entry, stop_entry, tidying, lane_entry, first, fitting, next_entry, StopsAtLimit}
 use Rattle.so_history.proofs.DemandLaws.{pick-free, waiting_of}
-use Rattle.so_history.proofs.TurnLaws.{at_looked_up, running_nowhere, running_at-nil}
+use Rattle.so_history.proofs.TurnLaws.{turn_of, at_looked_up, running_nowhere, running_at-nil}
 use Rattle.so_history.proofs.CourseLaws.{has_course}
+use Rattle.so_history.proofs.SoundLaws.{names_parts, course_sound}
 
 registered_cond : (b : Bool) (e : Entry) → cond b None (Some (by_main (Register the_coop))) ≡ Some e → e ≡ by_main (Register the_coop)
 registered_cond true e h = cc
@@ -51,36 +60,40 @@ abbrev Tidied : Option Entry → Type 0
 Tidied None = ⊥
 Tidied (Some x) = IsTidying x.kind
 
-of_tidying : (a b c : Bool) (e : Entry) →
-    or_else (cond a (Some (by_main (Leaving the_coop Shutdown))) None) (or_else (cond b (Some (by_main (Left the_coop))) None) (cond c (Some (by_main (Stop Idle))) None)) ≡ Some e → IsTidying e.kind
-of_tidying true b c e h = subst Tidied h tt
-of_tidying false true c e h = subst Tidied h tt
-of_tidying false false true e h = subst Tidied h tt
-of_tidying false false false e h = cc
+of_tidying : (a b c d : Bool) (e : Entry) →
+    or_else (cond a (Some (by_main (Stop Asked))) None) (or_else (cond b (Some (by_main (Leaving the_coop Shutdown))) None) (or_else (cond c (Some (by_main (Left the_coop))) None) (cond d (Some (by_main (Stop Idle))) None))) ≡ Some e → IsTidying e.kind
+of_tidying true b c d e h = subst Tidied h tt
+of_tidying false true c d e h = subst Tidied h tt
+of_tidying false false true d e h = subst Tidied h tt
+of_tidying false false false true e h = subst Tidied h tt
+of_tidying false false false false e h = cc
 
 pub tidied : (s : SceneParts) (h : List Entry) (e : Entry) → tidying s h ≡ Some e → IsTidying e.kind
 unfolding tidying
-tidied s h e t = of_tidying (has_reason h) (may_leave s h) (not (stopped h) && is_idle s h) e t
+tidied s h e t = of_tidying (may_stop s h Asked) (has_reason h) (may_leave s h) (may_stop s h Idle) e t
 
 pub not_tidied : (kind : EntryKind) → IsTidying kind → ((coop : CoopId) (reason : Reason) → kind ≡ Leaving coop reason → ⊥) → ((coop : CoopId) → kind ≡ Left coop → ⊥) → ((cause : StopCause) → kind ≡ Stop cause → ⊥) → ⊥
 not_tidied (Leaving coop reason) t a b c = a coop reason refl
 not_tidied (Left coop) t a b c = b coop refl
 not_tidied (Stop cause) t a b c = c cause refl
+not_tidied (Abort cause) t a b c = t
 not_tidied (Register coop) t a b c = t
 not_tidied (Begin lane demand opening agent) t a b c = t
 not_tidied (Act turn effect answer) t a b c = t
 not_tidied (End turn) t a b c = t
 
 -- the stop for idleness is tried last, and only where nothing waits: so it may be tried before the Begins
-regroup : (l f s b : Option Entry) → or_else s b ≡ or_else b s → or_else (or_else l (or_else f s)) b ≡ or_else l (or_else f (or_else b s))
-regroup (Some x) f s b h = refl
-regroup None (Some x) s b h = refl
-regroup None None s b h = h
+regroup : (a l f s b : Option Entry) → or_else s b ≡ or_else b s → or_else (or_else a (or_else l (or_else f s))) b ≡ or_else a (or_else l (or_else f (or_else b s)))
+regroup (Some y) l f s b h = refl
+regroup None (Some x) f s b h = refl
+regroup None None (Some x) s b h = refl
+regroup None None None s b h = h
 
-stops_idle : (b c : Bool) (e : Entry) → cond (b && c) (Some (by_main (Stop Idle))) None ≡ Some e → c ≡ true
-stops_idle true true e h = refl
-stops_idle true false e h = cc
-stops_idle false c e h = cc
+stops_idle : (a b c : Bool) (e : Entry) → cond (a && (b && c)) (Some (by_main (Stop Idle))) None ≡ Some e → c ≡ true
+stops_idle true true true e h = refl
+stops_idle true true false e h = cc
+stops_idle true false c e h = cc
+stops_idle false b c e h = cc
 
 idle_waits : (s : SceneParts) (h : List Entry) → is_idle s h ≡ true → is_empty (waiting s h) ≡ true
 unfolding is_idle
@@ -107,9 +120,9 @@ pub first-free : (s : SceneParts) (h : List Entry) → ((l : ℕ) → l < lanes 
 unfolding first tidying
 first-free s h free =
     let none : first_below (λ l. turn_entry s h (turn_on h (record { 0 = l }))) (lanes s) ≡ None = first_below-none _ (lanes s) (λ l k. ap (λ ts. turn_entry s h (head ts)) (free l k)) in
-    let begins : (e : Entry) → stop_entry s h ≡ Some e → first_below (λ l. begin_entry s h (record { 0 = l })) (lanes s) ≡ None =
-    λ e stop. first_below-none _ (lanes s) (λ l k. no_begin s h (record { 0 = l }) (idle_waits s h (stops_idle (not (stopped h)) (is_idle s h) e stop))) in
-    rw none (ap (or_else (registration h)) (sym (regroup (leaving_entry h) (left_entry s h) (stop_entry s h) _ (or_else-swap (stop_entry s h) _ begins))))
+    let begins : (e : Entry) → stop_entry s h Idle ≡ Some e → first_below (λ l. begin_entry s h (record { 0 = l })) (lanes s) ≡ None =
+    λ e stop. first_below-none _ (lanes s) (λ l k. no_begin s h (record { 0 = l }) (idle_waits s h (stops_idle (not (stopped h)) (not (stop_asked h)) (is_idle s h) e stop))) in
+    rw none (ap (or_else (registration h)) (sym (regroup (stop_entry s h Asked) (leaving_entry h) (left_entry s h) (stop_entry s h Idle) _ (or_else-swap (stop_entry s h Idle) _ begins))))
 
 -- and where the first turn that runs is on this lane, it is that turn's move
 pub first-turn : (s : SceneParts) (h : List Entry) (lane : ℕ) (x : Entry) → lane < lanes s → turn_entry s h (turn_on h (record { 0 = lane })) ≡ Some x → ((l : ℕ) → l < lane → running_at lane_number h l ≡ []) → first s h ≡ Some x
@@ -126,21 +139,44 @@ pub lane_entry-turn : (s : SceneParts) (h : List Entry) (lane : LaneId) (x : Ent
 unfolding lane_entry
 lane_entry-turn s h lane x e = rw e refl
 
-abbrev HasCourseHere : SceneParts → List Entry → Started → Type 0
-HasCourseHere s h t = (c : Course) × (course s h t.place ≡ Some c)
+-- a turn has an entry for its next move
+abbrev HasMove : SceneParts → List Entry → Started → Type 0
+HasMove s h t = (x : Entry) × (turn_entry s h (Some t) ≡ Some x)
+
+send_answered : (s : SceneParts) (h : List Entry) (target : Target) (msg : MsgId) → NamesTarget s target → (a : Answer) × (answer_to_send s h target msg ≡ Some a)
+send_answered s h (Mbox mbox) msg named = (_, refl)
+send_answered s h (Chain chain) msg named = absurd named
+
+-- an effect that names parts of the scene has an answer
+pub answered_named : (s : SceneParts) (h : List Entry) (e : Effect) → NamesEffect s e → (a : Answer) × (answer_of s h e ≡ Some a)
+answered_named s h (effect.Log text payload) named = (_, refl)
+answered_named s h (effect.Send target msg payload) named = send_answered s h target msg named.0
+answered_named s h effect.Stop named = (_, refl)
+answered_named s h other named = absurd named
+
+moved_entry : (s : SceneParts) (h : List Entry) (place : ℕ) (m : Move) → ((e : Effect) → m ≡ Do e → NamesEffect s e) → (k : EntryKind) × (entry_of s h place m ≡ Some k)
+moved_entry s h place (Do e) named = let a = answered_named s h e (named e refl) in (_, ap (option_map (Act (record { 0 = place }) e)) a.1)
+moved_entry s h place Done named = (_, refl)
+moved_entry s h place (Fail kind) named = (_, refl)
+
+pub has_move : (s : SceneParts) (h : List Entry) (t : Started) → IsScene s → Legal s h → turn_of h t.place ≡ Some t → HasMove s h t
+has_move s h t scene legal at =
+    let it = has_course s h t at in
+    let sound = course_sound s scene h t.place it.reached legal it.has in
+    let k = moved_entry s h t.place (move_of s it.reached).0 (names_parts s scene it.reached sound) in
+    (_, ap (option_and_then (next_of s h t)) it.has ∙ ap (option_map (signed t.by)) k.1)
 
 -- a lane that has no move has no turn
-no_move : (s : SceneParts) (h : List Entry) (ts : List Started) → AllByRecursion (λ t. HasCourseHere s h t) ts → turn_entry s h (head ts) ≡ None → ts ≡ []
+no_move : (s : SceneParts) (h : List Entry) (ts : List Started) → AllByRecursion (λ t. HasMove s h t) ts → turn_entry s h (head ts) ≡ None → ts ≡ []
 no_move s h [] a e = refl
 no_move s h (t ∷ ts) a e =
-    let it : option_map (next_of s h t) (course s h t.place) ≡ Some (next_of s h t a.0.0) = ap (option_map (next_of s h t)) a.0.1 in
-    let none : Some (next_of s h t a.0.0) ≡ None = sym it ∙ e in
+    let none : Some a.0.0 ≡ None = sym a.0.1 ∙ e in
     absurd cc
 
-no_turn : (s : SceneParts) (h : List Entry) (lane : LaneId) → turn_entry s h (turn_on h lane) ≡ None → running_on h lane ≡ []
-no_turn s h lane e =
+no_turn : (s : SceneParts) (h : List Entry) (lane : LaneId) → IsScene s → Legal s h → turn_entry s h (turn_on h lane) ≡ None → running_on h lane ≡ []
+no_turn s h lane scene legal e =
     no_move s h (running_on h lane)
-    (each-weaker _ _ (λ t p. let it = has_course s h t p.0 in (it.reached, it.has)) (running_on h lane) (at_looked_up lane_number h lane.0)) e
+    (each-weaker _ _ (λ t p. has_move s h t scene legal p.0) (running_on h lane) (at_looked_up lane_number h lane.0)) e
 
 -- where no lane may take a demand and no turn runs, none waits
 nothing_waits : (s : SceneParts) (h : List Entry) (ds : List Demand) → IsScene s → running h ≡ [] → AllByRecursion (λ d. d.agent.0 < length s.agents) ds → ((l : ℕ) → l < lanes s → find (may_take s h (record { 0 = l })) ds ≡ None) → ds ≡ []
@@ -162,46 +198,49 @@ unless_none true e h = refl
 unless_none false e h = cc
 
 -- the marks of a run in which nothing is to be done
-over_cases : (t st p l : Bool) → t ≡ true → (st && (p && not l)) ≡ false → (l && (true && true)) ≡ false → (not st && (t && (true && (true && (true && true))))) ≡ false → (st && (not p && true)) ≡ true
-over_cases false st p l a b c d = cc
-over_cases true true p true a b c d = cc
-over_cases true true true false a b c d = cc
-over_cases true true false false a b c d = refl
-over_cases true false p l a b c d = cc
+over_cases : (t st asked p l : Bool) → t ≡ true → (not st && asked) ≡ false → (st && (p && not l)) ≡ false → (l && (true && true)) ≡ false → (not st && (not asked && (t && (true && (true && (true && true)))))) ≡ false → (st && (not p && true)) ≡ true
+over_cases false st asked p l a q b c d = cc
+over_cases true true asked p true a q b c d = cc
+over_cases true true asked true false a q b c d = cc
+over_cases true true asked false false a q b c d = refl
+over_cases true false true p l a q b c d = cc
+over_cases true false false p l a q b c d = cc
 
 registered_none : (h : List Entry) → registration h ≡ None → tried h ≡ true
 unfolding registration
 registered_none h e = unless_none (tried h) _ e
 
 record Untidied (s : SceneParts) (h : List Entry) : Type 0 where
+  unasked : (not (stopped h) && stop_asked h) ≡ false
   no_reason : has_reason h ≡ false
   stays : may_leave s h ≡ false
-  busy : (not (stopped h) && is_idle s h) ≡ false
+  busy : (not (stopped h) && (not (stop_asked h) && is_idle s h)) ≡ false
 
 tidied_none : (s : SceneParts) (h : List Entry) → tidying s h ≡ None → Untidied s h
 unfolding tidying
 tidied_none s h e =
-    let a = or_else-none (leaving_entry h) (or_else (left_entry s h) (stop_entry s h)) e in
-    let b = or_else-none (left_entry s h) (stop_entry s h) a.1 in
-    record { no_reason = if_none (has_reason h) _ a.0; stays = if_none (may_leave s h) _ b.0; busy = if_none (not (stopped h) && is_idle s h) _ b.1 }
+    let q = or_else-none (stop_entry s h Asked) (or_else (leaving_entry h) (or_else (left_entry s h) (stop_entry s h Idle))) e in
+    let a = or_else-none (leaving_entry h) (or_else (left_entry s h) (stop_entry s h Idle)) q.1 in
+    let b = or_else-none (left_entry s h) (stop_entry s h Idle) a.1 in
+    record { unasked = if_none (may_stop s h Asked) _ q.0; no_reason = if_none (has_reason h) _ a.0; stays = if_none (may_leave s h) _ b.0; busy = if_none (may_stop s h Idle) _ b.1 }
 
 over : (s : SceneParts) (h : List Entry) → waiting s h ≡ [] → running h ≡ [] → tried h ≡ true → Untidied s h → finished s h ≡ true
 unfolding has_reason may_leave is_idle finished
 over s h w r t u =
     let stays : (leaving h && (true && true)) ≡ false = rw (w, r) at u.stays in
-    let busy : (not (stopped h) && (tried h && (true && (true && (true && true))))) ≡ false = rw (u.no_reason, u.stays, w, r) at u.busy in
-    rw w (over_cases (tried h) (stopped h) (present h) (leaving h) t u.no_reason stays busy)
+    let busy : (not (stopped h) && (not (stop_asked h) && (tried h && (true && (true && (true && true)))))) ≡ false = rw (u.no_reason, u.stays, w, r) at u.busy in
+    rw w (over_cases (tried h) (stopped h) (stop_asked h) (present h) (leaving h) t u.unasked u.no_reason stays busy)
 
-moves_none : (s : SceneParts) (h : List Entry) → first s h ≡ None → (l : ℕ) → l < lanes s → running_at lane_number h l ≡ []
+moves_none : (s : SceneParts) (h : List Entry) → IsScene s → Legal s h → first s h ≡ None → (l : ℕ) → l < lanes s → running_at lane_number h l ≡ []
 unfolding first
-moves_none s h none l k =
-    no_turn s h (record { 0 = l }) (none-first_below (λ i. turn_entry s h (turn_on h (record { 0 = i }))) (lanes s)
+moves_none s h scene legal none l k =
+    no_turn s h (record { 0 = l }) scene legal (none-first_below (λ i. turn_entry s h (turn_on h (record { 0 = i }))) (lanes s)
     (or_else-none (first_below (λ i. turn_entry s h (turn_on h (record { 0 = i }))) (lanes s)) _ none).0 l k)
 
 -- after a legal history that is not over there is a first step
 pub goes_on : (s : SceneParts) (h : List Entry) → IsScene s → Legal s h → first s h ≡ None → finished s h ≡ true
 goes_on s h scene legal none =
-    let free = moves_none s h none in
+    let free = moves_none s h scene legal none in
     let quiet : running h ≡ [] = running_nowhere s h legal free in
     let parts = or_else-none (registration h) _ (sym (first-free s h free) ∙ none) in
     let rest = or_else-none (tidying s h) _ parts.1 in
@@ -220,7 +259,7 @@ end_case : (s : SceneParts) (limit : ℕ) (h : List Entry) (o : Option Entry) �
 end_case s limit h None is some e = absurd (some refl)
 end_case s limit h (Some x) is some e = record { entry = x; next = is; too_large = end_fits s limit h x (fits s limit h x) refl e }
 
-pub stops_at : (s : SceneParts) (limit : ℕ) (h : List Entry) → IsScene s → Legal s h → next_entry s limit h ≡ None → finished s h ≡ false → StopsAtLimit s limit h
+pub stops_at : (s : SceneParts) (limit : ℕ) (h : List Entry) → IsScene s → Legal s h → next_entry s limit h ≡ None → is_over s h ≡ false → StopsAtLimit s limit h
 unfolding next_entry
 stops_at s limit h scene legal none going =
-    end_case s limit h (first s h) refl (λ n. false≢true (sym going ∙ goes_on s h scene legal n)) (rw going at none)
+    end_case s limit h (first s h) refl (λ n. false≢true (sym going ∙ ap (λ b. b || aborted h) (goes_on s h scene legal n))) (rw going at none)

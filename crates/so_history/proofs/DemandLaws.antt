@@ -20,18 +20,24 @@ use Rattle.so_scene.proofs.AgentLaws.{agents_in_range}
 use Rattle.so_history.specs.declared.entry.DemandKind.{DemandKind}
 use Rattle.so_history.specs.declared.entry.Entry.{Entry}
 use Rattle.so_history.specs.declared.entry.EntryKind.{EntryKind}
-use Rattle.so_history.specs.declared.entry.EntryKind.TheVariants.{Register, Begin, Act, End, Leaving, Left, Stop}
+use Rattle.so_history.specs.declared.entry.EntryKind.TheVariants.{Register, Begin, Act, End, Leaving, Left, Stop, Abort}
 use Rattle.so_history.specs.declared.entry.Demand.{Demand}
-use Rattle.so_history.specs.Demands.{ask_each, asked_by, demands_from, queued_by, demands, takes, taken, waiting, without}
+use Rattle.so_ids.specs.declared.MboxId.{MboxId}
+use Rattle.so_ids.specs.declared.MsgId.{MsgId}
+use Rattle.so_code.specs.declared.effect.Effect.{Effect}
+use Rattle.so_history.specs.Coops.{the_coop, present}
+use Rattle.so_history.specs.Delivery.{registered, receivers, reached}
+use Rattle.so_history.specs.Demands.{ask_each, asked_by, asked_by_effect, demands_from, queued_by, demands, takes, taken, waiting, without}
 use Rattle.so_history.specs.Units.{units}
 use Rattle.so_history.specs.Order.{is_free, may_take, pick}
 use Rattle.so_history.specs.Steps.{IsBegin, IsRow, Legal}
 use Rattle.so_history.specs.Facts.{takings}
+use Rattle.so_history.proofs.AskedLaws.{effect_asks}
 use Rattle.so_history.proofs.NameLaws.{same_place, Sorted, sorted-append, sorted-filter, named_here, demands_from_sorted, length-demands_from, all_earlier, filter-without}
 
 -- demands are queued at the place of their entry
 pub queued_here : (s : SceneParts) (h : List Entry) (kind : EntryKind) → AllByRecursion (λ d. d.id.place.0 ≡ length h) (queued_by s h kind)
-queued_here s h kind = named_here (length h) 0 (asked_by s kind)
+queued_here s h kind = named_here (length h) 0 (asked_by s h kind)
 
 pub demands_early : (s : SceneParts) (h : List Entry) → AllByRecursion (λ d. d.id.place.0 < length h) (demands s h)
 unfolding demands
@@ -45,7 +51,7 @@ pub demands_sorted : (s : SceneParts) (h : List Entry) → Sorted (demands s h)
 unfolding demands Sorted
 demands_sorted s [] = tt
 demands_sorted s (e ∷ h) =
-    sorted-append (demands s h) (queued_by s h e.kind) (demands_sorted s h) (demands_from_sorted (length h) 0 (asked_by s e.kind))
+    sorted-append (demands s h) (queued_by s h e.kind) (demands_sorted s h) (demands_from_sorted (length h) 0 (asked_by s h e.kind))
     (all_earlier (length h) (demands s h) (queued_by s h e.kind) (demands_early s h) (queued_here s h e.kind))
 
 pub waiting_sorted : (s : SceneParts) (h : List Entry) → Sorted (waiting s h)
@@ -82,6 +88,7 @@ takes_waiting s h by (End turn) row d t = cc
 takes_waiting s h by (Leaving coop reason) row d t = cc
 takes_waiting s h by (Left coop) row d t = cc
 takes_waiting s h by (Stop cause) row d t = cc
+takes_waiting s h by (Abort cause) row d t = cc
 
 -- a taken demand was queued earlier
 pub taken_early : (s : SceneParts) (h : List Entry) → Legal s h → (d : DemandId) → taken h d ≡ true → d.place.0 < length h
@@ -186,14 +193,31 @@ asked_of : (s : SceneParts) (kind : DemandKind) (agents : List AgentId) (place k
 asked_of s kind [] place k a = tt
 asked_of s kind (x ∷ agents) place k a = (a.0, asked_of s kind agents place (k + 1) a.1)
 
+registered_of : (s : SceneParts) (h : List Entry) → IsScene s → AllByRecursion (λ a. a.0 < length s.agents) (registered s h)
+registered_of s h scene =
+    elim (cases_Bool (present h)) [
+      | inl y ↦ rw y (agents_in_range s the_coop scene)
+      | inr f ↦ rw f tt
+    ]
+
+pub reached_of : (s : SceneParts) (h : List Entry) (mbox : MboxId) (msg : MsgId) → IsScene s → AllByRecursion (λ a. a.0 < length s.agents) (reached s h mbox msg)
+unfolding receivers
+reached_of s h mbox msg scene = each-filter _ _ (receivers s h mbox msg) (each-filter _ _ (registered s h) (registered_of s h scene))
+
+effect_of : (s : SceneParts) (h : List Entry) (effect : Effect) → IsScene s → AllByRecursion (λ d. d.agent.0 < length s.agents) (demands_from (length h) 0 (asked_by_effect s h effect))
+effect_of s h effect scene =
+    effect_asks s h (λ asked. AllByRecursion (λ (d : Demand). d.agent.0 < length s.agents) (demands_from (length h) 0 asked)) tt
+    (λ mbox msg payload. asked_of s _ (reached s h mbox msg) (length h) 0 (reached_of s h mbox msg scene)) effect
+
 pub queued_of : (s : SceneParts) (h : List Entry) (kind : EntryKind) → IsScene s → AllByRecursion (λ d. d.agent.0 < length s.agents) (queued_by s h kind)
 queued_of s h (Register coop) scene = asked_of s _ (agents_of s coop) (length h) 0 (agents_in_range s coop scene)
 queued_of s h (Leaving coop reason) scene = asked_of s _ (agents_of s coop) (length h) 0 (agents_in_range s coop scene)
 queued_of s h (Begin lane demand opening agent) scene = tt
-queued_of s h (Act turn effect answer) scene = tt
+queued_of s h (Act turn effect answer) scene = effect_of s h effect scene
 queued_of s h (End turn) scene = tt
 queued_of s h (Left coop) scene = tt
 queued_of s h (Stop cause) scene = tt
+queued_of s h (Abort cause) scene = tt
 
 demands_of : (s : SceneParts) (h : List Entry) → IsScene s → AllByRecursion (λ d. d.agent.0 < length s.agents) (demands s h)
 unfolding demands

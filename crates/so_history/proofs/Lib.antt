@@ -1,8 +1,11 @@
 pub mod PlacesLemmas
 pub mod NameLaws
+pub mod AskedLaws
 pub mod DemandLaws
 pub mod TurnLaws
+pub mod OpeningLaws
 pub mod CourseLaws
+pub mod SoundLaws
 pub mod ChainLaws
 pub mod PlaceLaws
 pub mod OverlapLaws

@@ -17,14 +17,14 @@ use Rattle.so_scene.specs.declared.parts.SceneParts.{SceneParts}
 use Rattle.so_scene.specs.Lanes.{key_of, serves}
 use Rattle.so_history.specs.declared.entry.Entry.{Entry}
 use Rattle.so_history.specs.declared.entry.EntryKind.{EntryKind}
-use Rattle.so_history.specs.declared.entry.EntryKind.TheVariants.{Register, Begin, Act, End, Leaving, Left, Stop}
+use Rattle.so_history.specs.declared.entry.EntryKind.TheVariants.{Register, Begin, Act, End, Leaving, Left, Stop, Abort}
 use Rattle.so_history.specs.declared.entry.Demand.{Demand}
 use Rattle.so_history.specs.Places.{before}
-use Rattle.so_history.specs.Demands.{queued_by, demands, takes, taken, waiting}
+use Rattle.so_history.specs.Demands.{queued_by, demands, takes, taken, waiting, named}
 use Rattle.so_history.specs.Turns.{running_with}
 use Rattle.so_history.specs.Order.{may_take, pick}
 use Rattle.so_history.specs.Steps.{IsBegin, IsRow, IsStep, Legal}
-use Rattle.so_history.specs.Facts.{named, TakesAt, TakenBefore, InOrder, BeginsWith, ByChoice}
+use Rattle.so_history.specs.Facts.{TakesAt, TakenBefore, InOrder, BeginsWith, ByChoice}
 use Rattle.so_history.proofs.NameLaws.{same_place, found_by_name, found_least}
 use Rattle.so_history.proofs.DemandLaws.{queued_here, waiting_sorted, picked, takes_waiting, taken_early}
 use Rattle.so_history.proofs.TurnLaws.{may_be_taken}
@@ -109,6 +109,7 @@ what s h by (End turn) row d t = absurd cc
 what s h by (Leaving coop reason) row d t = absurd cc
 what s h by (Left coop) row d t = absurd cc
 what s h by (Stop cause) row d t = absurd cc
+what s h by (Abort cause) row d t = absurd cc
 
 place_before : (a b : DemandId) → is_earlier a b ≡ true → a.place.0 ≤ b.place.0
 place_before a b e = grind arith

@@ -19,7 +19,7 @@ use Rattle.so_scene.specs.Parts.{IsScene}
 use Rattle.so_scene.specs.Lanes.{lanes, key_of, serves}
 use Rattle.so_history.specs.declared.entry.Entry.{Entry}
 use Rattle.so_history.specs.declared.entry.EntryKind.{EntryKind}
-use Rattle.so_history.specs.declared.entry.EntryKind.TheVariants.{Register, Begin, Act, End, Leaving, Left, Stop}
+use Rattle.so_history.specs.declared.entry.EntryKind.TheVariants.{Register, Begin, Act, End, Leaving, Left, Stop, Abort}
 use Rattle.so_history.specs.declared.entry.Demand.{Demand}
 use Rattle.so_history.specs.Demands.{waiting}
 use Rattle.so_history.specs.Turns.{Started, started_by, turns, ends, ended, running, running_at, running_on, running_with, lane_number, key_number, turn_at}
@@ -35,6 +35,7 @@ started_here place by (Act turn effect answer) = tt
 started_here place by (End turn) = tt
 started_here place by (Left coop) = tt
 started_here place by (Stop cause) = tt
+started_here place by (Abort cause) = tt
 
 pub turns_early : (h : List Entry) → AllByRecursion (λ t. t.place < length h) (turns h)
 unfolding turns
@@ -65,6 +66,7 @@ ends_early s h by (Act turn effect answer) row t e = cc
 ends_early s h by (Leaving coop reason) row t e = cc
 ends_early s h by (Left coop) row t e = cc
 ends_early s h by (Stop cause) row t e = cc
+ends_early s h by (Abort cause) row t e = cc
 
 -- an ended turn began earlier
 pub ended_early : (s : SceneParts) (h : List Entry) → Legal s h → (t : ℕ) → ended h t ≡ true → t < length h
@@ -146,6 +148,7 @@ few_started place by (Act turn effect answer) = omega arith
 few_started place by (End turn) = omega arith
 few_started place by (Left coop) = omega arith
 few_started place by (Stop cause) = omega arith
+few_started place by (Abort cause) = omega arith
 
 ends_or_begins : (kind : EntryKind) (place : ℕ) (by : PartyId) → ((t : ℕ) → ends kind t ≡ false) ⊎ (started_by place by kind ≡ [])
 ends_or_begins (Begin lane demand opening agent) place by = inl (λ t. refl)
@@ -155,6 +158,7 @@ ends_or_begins (Act turn effect answer) place by = inl (λ t. refl)
 ends_or_begins (End turn) place by = inr refl
 ends_or_begins (Left coop) place by = inl (λ t. refl)
 ends_or_begins (Stop cause) place by = inl (λ t. refl)
+ends_or_begins (Abort cause) place by = inl (λ t. refl)
 
 pub none_first : (f : Started → ℕ) (n : ℕ) → running_at f [] n ≡ []
 unfolding running turns
@@ -187,6 +191,7 @@ lanes_free s h by (Act turn effect answer) row = tt
 lanes_free s h by (End turn) row = tt
 lanes_free s h by (Left coop) row = tt
 lanes_free s h by (Stop cause) row = tt
+lanes_free s h by (Abort cause) row = tt
 
 -- the demand that is picked may be taken
 pub may_be_taken : (s : SceneParts) (h : List Entry) (lane : LaneId) (ds : List Demand) (d : Demand) → find (may_take s h lane) ds ≡ Some d → may_take s h lane d ≡ true
@@ -219,6 +224,7 @@ keys_free s h by (Act turn effect answer) row = tt
 keys_free s h by (End turn) row = tt
 keys_free s h by (Left coop) row = tt
 keys_free s h by (Stop cause) row = tt
+keys_free s h by (Abort cause) row = tt
 
 -- the running turn at a place is alone at its number
 pub alone : (f : Started → ℕ) (s : SceneParts) (h : List Entry) (place : ℕ) (t : Started) → Frees f s → Legal s h → turn_at h place ≡ Some t → running_at f h (f t) ≡ t ∷ []
@@ -242,6 +248,7 @@ started_looked_up place by (Act turn effect answer) h at = tt
 started_looked_up place by (End turn) h at = tt
 started_looked_up place by (Left coop) h at = tt
 started_looked_up place by (Stop cause) h at = tt
+started_looked_up place by (Abort cause) h at = tt
 
 -- so the places of turns differ
 pub turns_looked_up : (h : List Entry) → AllByRecursion (λ t. turn_of h t.place ≡ Some t) (turns h)
@@ -296,6 +303,7 @@ started_on s h place by (Act turn effect answer) row = tt
 started_on s h place by (End turn) row = tt
 started_on s h place by (Left coop) row = tt
 started_on s h place by (Stop cause) row = tt
+started_on s h place by (Abort cause) row = tt
 
 turns_on : (s : SceneParts) (h : List Entry) → Legal s h → AllByRecursion (λ t. t.lane.0 < lanes s) (turns h)
 unfolding turns
@@ -354,7 +362,7 @@ turn-spared s h e place t legal spares runs =
     ]
 
 -- turns are of agents of the scene
-started_of : (s : SceneParts) (h : List Entry) (place : ℕ) (by : PartyId) (kind : EntryKind) → IsScene s → IsRow s h by kind → AllByRecursion (λ t. t.agent.0 < length s.agents) (started_by place by kind)
+pub started_of : (s : SceneParts) (h : List Entry) (place : ℕ) (by : PartyId) (kind : EntryKind) → IsScene s → IsRow s h by kind → AllByRecursion (λ t. t.agent.0 < length s.agents) (started_by place by kind)
 unfolding agent_number
 started_of s h place by (Begin lane demand opening agent) scene row =
     let same : agent.0 ≡ row.demand.agent.0 = ap agent_number row.is in
@@ -366,6 +374,7 @@ started_of s h place by (Act turn effect answer) scene row = tt
 started_of s h place by (End turn) scene row = tt
 started_of s h place by (Left coop) scene row = tt
 started_of s h place by (Stop cause) scene row = tt
+started_of s h place by (Abort cause) scene row = tt
 
 turns_of : (s : SceneParts) (h : List Entry) → IsScene s → Legal s h → AllByRecursion (λ t. t.agent.0 < length s.agents) (turns h)
 unfolding turns

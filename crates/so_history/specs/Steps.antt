@@ -1,5 +1,5 @@
 -- Which entry may follow a history, and which histories are legal.
-use Rattle.std.specs.Prelude.{◌≡◌, ℕ, ◌<◌, List, [], ◌∷◌, Bool, true, false, not, ◌&&◌, ◌||◌, ◌⊎◌, Option, Some, None}
+use Rattle.std.specs.Prelude.{◌≡◌, ℕ, ◌<◌, List, [], ◌∷◌, length, Bool, true, false, not, ◌&&◌, ◌||◌, ◌⊎◌, Option, Some, None}
 use Rattle.std.specs.Option.{option_map}
 use Rattle.so_ids.specs.declared.PartyId.{PartyId}
 use Rattle.so_ids.specs.declared.LaneId.{LaneId}
@@ -17,6 +17,7 @@ use Rattle.so_code.specs.declared.effect.Move.{Move}
 use Rattle.so_code.specs.declared.effect.Move.TheVariants.{Do, Done, Fail}
 use Rattle.so_lists.specs.Lists.{is_empty}
 use Rattle.so_scene.specs.declared.parts.SceneParts.{SceneParts}
+use Rattle.so_scene.specs.Parts.{NamesTarget}
 use Rattle.so_scene.specs.Lanes.{lanes}
 use Rattle.so_history.specs.declared.entry.Entry.{Entry}
 use Rattle.so_history.specs.declared.entry.EntryKind.{EntryKind}
@@ -48,6 +49,13 @@ finished s h = stopped h && (not (present h) && is_empty (waiting s h))
 -- nothing follows: the run is over, or it was aborted
 abbrev pub is_over : SceneParts → List Entry → Bool
 is_over s h = finished s h || aborted h
+
+-- what an effect names is there, and its act is built
+abbrev pub NamesEffect : SceneParts → Effect → Type 0
+NamesEffect s (effect.Log text payload) = text.0 < length s.texts
+NamesEffect s (effect.Send target msg payload) = NamesTarget s target × (msg.0 < length s.messages)
+NamesEffect s effect.Stop = Unit {0}
+NamesEffect s other = ⊥
 
 -- the answer to a send
 abbrev pub answer_to_send : SceneParts → List Entry → Target → MsgId → Option Answer
