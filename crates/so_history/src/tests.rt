@@ -12,6 +12,7 @@ use so_ids::{
     Target, TextId, TimerId,
 };
 use so_lines::LineBuf;
+use std::process::Abort;
 
 /// An entry at a place, and its line.
 #[derive(Clone, Copy)]
@@ -169,7 +170,7 @@ const TWO: Payload = Payload {
 };
 
 /// Each entry has its line.
-fn agree(rt: HostRuntime, rows: &[Printed]) {
+fn agree(rt: &impl Abort, rows: &[Printed]) {
     for row in rows {
         let mut buf = LineBuf::new();
         put_trace(&mut buf, row.place, row.entry);
@@ -268,7 +269,7 @@ fn each_kind_of_entry_has_its_words(rt: HostRuntime) {
             "23 p2 abort exception 9 already_subscribed\n",
         ),
     ];
-    agree(rt, &rows);
+    agree(&rt, &rows);
 }
 
 #[test]
@@ -404,7 +405,7 @@ fn each_effect_has_its_words(rt: HostRuntime) {
             "30 p2 act 9 take 14 = got 1 1 7 -1\n",
         ),
     ];
-    agree(rt, &rows);
+    agree(&rt, &rows);
 }
 
 #[test]
@@ -490,5 +491,5 @@ fn each_answer_has_its_words(rt: HostRuntime) {
         ended(EndReason::NoWait, "30 p2 act 9 take 14 = ended no_wait\n"),
         ended(EndReason::Closed, "30 p2 act 9 take 14 = ended closed\n"),
     ];
-    agree(rt, &rows);
+    agree(&rt, &rows);
 }
