@@ -14,5 +14,4 @@ pub mod CoopLaws
 pub mod FactLaws
 pub mod TextLaws
 pub mod CauseLaws
-pub mod OwnerLaws
 pub mod LineLaws

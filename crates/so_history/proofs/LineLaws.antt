@@ -1,5 +1,5 @@
 -- The line of an entry of a legal history is short.
-use Rattle.std.proofs.Common.{◌≡◌, ℕ, ◌+◌, ◌≤◌, List, length, Option, Some, None, arith, refl, sym, ap, subst}
+use Rattle.std.proofs.Common.{◌≡◌, ℕ, ◌+◌, ◌≤◌, List, length, Option, Some, None, arith, refl, subst}
 use Rattle.std.proofs.lemmas.Option.{same_Some}
 use Rattle.std.specs.Option.{option_map}
 use Rattle.so_ids.specs.declared.PartyId.{PartyId}
@@ -17,7 +17,6 @@ use Rattle.so_scene.specs.declared.parts.SceneParts.{SceneParts}
 use Rattle.so_history.specs.declared.entry.Entry.{Entry}
 use Rattle.so_history.specs.declared.entry.EntryKind.{EntryKind}
 use Rattle.so_history.specs.declared.entry.EntryKind.TheVariants.{Register, Begin, Act, End, Leaving, Left, Stop, Abort}
-use Rattle.so_history.specs.declared.entry.AbortCause.TheVariants.{Exception}
 use Rattle.so_history.specs.Places.{entry_at, before}
 use Rattle.so_history.specs.Turns.{move_of}
 use Rattle.so_history.specs.Steps.{IsRow, Legal, answer_to_send, answer_of, entry_of}

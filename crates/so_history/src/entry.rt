@@ -1,7 +1,9 @@
 //! The entries of a history, and the demands that they queue.
 
 use so_code::{Answer, Effect, FailKind};
-use so_ids::{AgentId, CoopId, DemandId, LaneId, MboxId, MsgId, Opening, PartyId, Payload, Place, Reason};
+use so_ids::{
+    AgentId, CoopId, DemandId, LaneId, MboxId, MsgId, Opening, PartyId, Payload, Place, Reason,
+};
 
 /// Why the run stops.
 #[derive(Clone, Copy, Debug, PartialEq, Eq)]

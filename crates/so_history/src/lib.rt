@@ -5,6 +5,8 @@ mod entry;
 mod history;
 pub mod laws;
 mod lines;
+#[cfg(test)]
+mod tests;
 mod trace;
 mod words;
 

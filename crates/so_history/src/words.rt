@@ -5,7 +5,10 @@ ghost use Rattle.arrayvec.specs.ArrayVec.{array_vec_len};
 ghost use Rattle.so_history.specs.Trace.{demand_words, chosen_words, opening_words, target_words, fail_words, fault_words, refusal_words, reason_words, keep_words, first_words, sent_words, put_words, plan_words, ended_words};
 
 use so_code::FailKind;
-use so_ids::{AgentId, Chosen, DefFault, DemandId, EndReason, Opening, Plan, Put, Reason, Refusal, Sent, Target};
+use so_ids::{
+    AgentId, Chosen, DefFault, DemandId, EndReason, Opening, Plan, Put, Reason, Refusal, Sent,
+    Target,
+};
 use so_lines::{LineBuf, put, put_number, put_signed, put_states, put_word};
 
 /// Appends a demand by its place and number, or `-` where there is none.

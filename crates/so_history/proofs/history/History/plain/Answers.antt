@@ -1,20 +1,19 @@
 use Rattle.std.proofs.Common.{refl, arith}
 use Rattle.so_history.proofs.PlaceLaws.{inside, before-entry}
-use Rattle.so_history.proofs.OwnerLaws.{act_owned, abort_owned}
-use Rattle.so_history.proofs.CauseLaws.{turn_of, by_exception}
-use Rattle.so_history.proofs.TextLaws.{act_named}
+use Rattle.so_history.proofs.CauseLaws.{turn_of, exception_of, by_exception, is_exception}
+use Rattle.so_history.proofs.TextLaws.{act_named, abort_named}
 use Rattle.so_history.proofs.history.History.plain.Goals as goal
 
 -- an act: its turn began earlier, and its agent and its text are there
 
 pub owner-requires : goal.owner-requires
 owner-requires c =
-    let it = act_owned c.args.scene.now c.args.self.now.entries c.args.place.0 c.args.entry c.in-Act.turn c.in-Act.effect c.in-Act.answer c.parts-parts.ensures.keeps c.requires.legal c.requires.here c.in-Act.is in
+    let it = act_named c.args.scene.now c.args.self.now.entries c.args.place.0 c.args.entry c.in-Act.turn c.in-Act.effect c.in-Act.answer c.parts-parts.ensures.keeps c.requires.legal c.requires.here c.in-Act.is in
     omega (arith, it.early, inside c.args.self.now.entries c.args.place.0 c.args.entry c.requires.here)
 
 pub put_effect-requires-clause-agent : goal.put_effect-requires-clause-agent
 put_effect-requires-clause-agent c =
-    let it = act_owned c.args.scene.now c.args.self.now.entries c.args.place.0 c.args.entry c.in-Act.turn c.in-Act.effect c.in-Act.answer c.parts-parts.ensures.keeps c.requires.legal c.requires.here c.in-Act.is in
+    let it = act_named c.args.scene.now c.args.self.now.entries c.args.place.0 c.args.entry c.in-Act.turn c.in-Act.effect c.in-Act.answer c.parts-parts.ensures.keeps c.requires.legal c.requires.here c.in-Act.is in
     rw c.owner.ensures it.agent
 
 pub put_effect-requires-clause-text : goal.put_effect-requires-clause-text
@@ -23,7 +22,7 @@ put_effect-requires-clause-text c =
 
 pub returns-in-Act : goal.returns-in-Act
 returns-in-Act c =
-    let it = act_owned c.args.scene.now c.args.self.now.entries c.args.place.0 c.args.entry c.in-Act.turn c.in-Act.effect c.in-Act.answer c.parts-parts.ensures.keeps c.requires.legal c.requires.here c.in-Act.is in
+    let it = act_named c.args.scene.now c.args.self.now.entries c.args.place.0 c.args.entry c.in-Act.turn c.in-Act.effect c.in-Act.answer c.parts-parts.ensures.keeps c.requires.legal c.requires.here c.in-Act.is in
     let there = before-entry c.args.self.now.entries c.args.place.0 c.in-Act.turn.0 it.early (inside c.args.self.now.entries c.args.place.0 c.args.entry c.requires.here) in
     rw (c.put_effect.ensures, c.in-Act.is, c.owner.ensures, there) refl
 
@@ -31,16 +30,16 @@ returns-in-Act c =
 
 pub owner-requires-in-Abort-Exception : goal.owner-requires-in-Abort-Exception
 owner-requires-in-Abort-Exception c =
-    let it = abort_owned c.args.scene.now c.args.self.now.entries c.args.place.0 c.args.entry c.in-Abort-Exception.cause c.parts-parts.ensures.keeps c.requires.legal c.requires.here c.in-Abort-Exception.is in
+    let it = abort_named c.args.scene.now c.args.self.now.entries c.args.place.0 c.args.entry (turn_of c.in-Abort-Exception.cause) (exception_of c.in-Abort-Exception.cause) c.parts-parts.ensures.keeps c.requires.legal c.requires.here (is_exception c.args.entry.kind c.in-Abort-Exception.cause c.in-Abort-Exception.is) in
     rw (c.in-Abort-Exception.is, by_exception c.in-Abort-Exception.cause) (omega (arith, it.early, inside c.args.self.now.entries c.args.place.0 c.args.entry c.requires.here))
 
 pub put_exception-requires-clause-agent : goal.put_exception-requires-clause-agent
 put_exception-requires-clause-agent c =
-    let it = abort_owned c.args.scene.now c.args.self.now.entries c.args.place.0 c.args.entry c.in-Abort-Exception.cause c.parts-parts.ensures.keeps c.requires.legal c.requires.here c.in-Abort-Exception.is in
+    let it = abort_named c.args.scene.now c.args.self.now.entries c.args.place.0 c.args.entry (turn_of c.in-Abort-Exception.cause) (exception_of c.in-Abort-Exception.cause) c.parts-parts.ensures.keeps c.requires.legal c.requires.here (is_exception c.args.entry.kind c.in-Abort-Exception.cause c.in-Abort-Exception.is) in
     rw (c.owner-in-Abort-Exception.ensures, c.in-Abort-Exception.is, by_exception c.in-Abort-Exception.cause) it.agent
 
 pub returns-in-Abort-Exception : goal.returns-in-Abort-Exception
 returns-in-Abort-Exception c =
-    let it = abort_owned c.args.scene.now c.args.self.now.entries c.args.place.0 c.args.entry c.in-Abort-Exception.cause c.parts-parts.ensures.keeps c.requires.legal c.requires.here c.in-Abort-Exception.is in
+    let it = abort_named c.args.scene.now c.args.self.now.entries c.args.place.0 c.args.entry (turn_of c.in-Abort-Exception.cause) (exception_of c.in-Abort-Exception.cause) c.parts-parts.ensures.keeps c.requires.legal c.requires.here (is_exception c.args.entry.kind c.in-Abort-Exception.cause c.in-Abort-Exception.is) in
     let there = before-entry c.args.self.now.entries c.args.place.0 (turn_of c.in-Abort-Exception.cause).0 it.early (inside c.args.self.now.entries c.args.place.0 c.args.entry c.requires.here) in
     rw (c.put_exception.ensures, c.owner-in-Abort-Exception.ensures, c.in-Abort-Exception.is, by_exception c.in-Abort-Exception.cause, there) refl
