@@ -9,30 +9,40 @@ use Rattle.so_history.specs.Turns.{running_at, lane_number}
 use Rattle.so_history.specs.Chain.{first, next_entry, FollowsFirst, IsChain}
 use Rattle.so_history.proofs.TurnLaws.{none_first}
 use Rattle.so_kernel.specs.Shapes.{Core}
-use Rattle.so_kernel.specs.Gates.{gated, core_after, stepped}
+use Rattle.so_kernel.specs.Gates.{gated, core_after, stepped, entries}
 use Rattle.so_kernel.specs.Held.{AreHeld, IsLaneHeld}
 use Rattle.so_kernel.specs.declared.answers.Refused.{Refused}
 use Rattle.so_kernel.specs.declared.answers.Refused.TheVariants.{Nothing, Full, Over}
-use Rattle.so_kernel.specs.declared.answers.Stepped.TheVariants.{Added}
+use Rattle.so_kernel.specs.declared.answers.Stepped.{Stepped}
 use Rattle.so_kernel.specs.declared.answers.Turn.{Turn}
 use Rattle.so_kernel.proofs.KeptLaws.{fits_gated}
-use Rattle.so_kernel.proofs.GateLaws.{goes_on, stops}
+use Rattle.so_kernel.proofs.GateLaws.{goes_on, stops, one_entry}
 use Rattle.so_env.specs.Runs.{IsOnTheWay}
 
-added_ok : (g : Result Entry Refused) → Added ≡ stepped g → (e : Entry) × (g ≡ Ok e)
-added_ok (Ok e) h = (e, refl)
-added_ok (Err Nothing) h = cc
-added_ok (Err Full) h = cc
-added_ok (Err Over) h = cc
+-- a step added an entry, or added none
+abbrev pub Adds : Result Entry Refused → Type 0
+Adds g = entries (stepped g) ≡ 0 → ⊥
 
-refused_err : (g : Result Entry Refused) → (Added ≡ stepped g → ⊥) → (why : Refused) × (g ≡ Err why)
-refused_err (Ok e) h = absurd (h refl)
+added_ok : (g : Result Entry Refused) → Adds g → (e : Entry) × (g ≡ Ok e)
+added_ok (Ok e) h = (e, refl)
+added_ok (Err Nothing) h = absurd (h refl)
+added_ok (Err Full) h = absurd (h refl)
+added_ok (Err Over) h = absurd (h refl)
+
+refused_err : (g : Result Entry Refused) → entries (stepped g) ≡ 0 → (why : Refused) × (g ≡ Err why)
+refused_err (Ok e) h = absurd (omega (arith, one_entry e.kind, h))
 refused_err (Err why) h = (why, refl)
+
+pub adds : (g : Result Entry Refused) (answer : Stepped) (n : ℕ) → answer ≡ stepped g → n ≡ entries answer → (n ≡ 0 → ⊥) → Adds g
+adds g answer n is count some = λ none. some (count ∙ (ap entries is ∙ none))
+
+pub adds_none : (g : Result Entry Refused) (answer : Stepped) (n : ℕ) → answer ≡ stepped g → n ≡ entries answer → n ≡ 0 → entries (stepped g) ≡ 0
+adds_none g answer n is count none = ap entries (sym is) ∙ (sym count ∙ none)
 
 next_is : (s : SceneParts) (limit : ℕ) (k : Core) (r : Option Entry) → k.scene ≡ s → k.limit ≡ limit → next_entry k.scene k.limit k.history ≡ r → next_entry s limit k.history ≡ r
 next_is s limit k r a b e = rw (← a, ← b) e
 
-pub way_on : (s : SceneParts) (limit : ℕ) (k l : Core) (ts us : List (Option Turn)) → IsOnTheWay s limit k ts → Added ≡ stepped (gated k (first k.scene k.history)) → l ≡ core_after k (gated k (first k.scene k.history)) → AreHeld l us →
+pub way_on : (s : SceneParts) (limit : ℕ) (k l : Core) (ts us : List (Option Turn)) → IsOnTheWay s limit k ts → Adds (gated k (first k.scene k.history)) → l ≡ core_after k (gated k (first k.scene k.history)) → AreHeld l us →
     IsOnTheWay s limit l us
 way_on s limit k l ts us way added after held =
     let ok = added_ok (gated k (first k.scene k.history)) added in
@@ -47,7 +57,7 @@ way_on s limit k l ts us way added after held =
       unmarked = ap (λ (x : Core). x.full) is ∙ way.unmarked;
     }
 
-pub way_shorter : (k l : Core) → Added ≡ stepped (gated k (first k.scene k.history)) → l ≡ core_after k (gated k (first k.scene k.history)) → l.limit - length l.history < k.limit - length k.history
+pub way_shorter : (k l : Core) → Adds (gated k (first k.scene k.history)) → l ≡ core_after k (gated k (first k.scene k.history)) → l.limit - length l.history < k.limit - length k.history
 way_shorter k l added after =
     let ok = added_ok (gated k (first k.scene k.history)) added in
     let is : l ≡ record k { history = ok.0 ∷ k.history } = after ∙ ap (core_after k) ok.1 in
@@ -59,7 +69,7 @@ same_history k Nothing = (refl, refl)
 same_history k Full = (refl, refl)
 same_history k Over = (refl, refl)
 
-pub way_end : (s : SceneParts) (limit : ℕ) (k l : Core) (ts : List (Option Turn)) → IsOnTheWay s limit k ts → (Added ≡ stepped (gated k (first k.scene k.history)) → ⊥) → l ≡ core_after k (gated k (first k.scene k.history)) →
+pub way_end : (s : SceneParts) (limit : ℕ) (k l : Core) (ts : List (Option Turn)) → IsOnTheWay s limit k ts → entries (stepped (gated k (first k.scene k.history))) ≡ 0 → l ≡ core_after k (gated k (first k.scene k.history)) →
     IsChain s limit l.history × (l.scene ≡ s)
 way_end s limit k l ts way other after =
     let err = refused_err (gated k (first k.scene k.history)) other in
@@ -80,20 +90,20 @@ way_start k ts empty unmarked none =
         size = ap length none ∙ length-replicate (lanes k.scene) None;
         each = λ l in_range.
             let P : Option Turn → Type 0 = λ x. IsLaneHeld k.scene k.history l x in
-            subst P (sym (ap (λ (us : List (Option Turn)). get_or us l None) none ∙ get_or-replicate (lanes k.scene) l None None in_range)) (ap (λ h. running_at lane_number h l) empty ∙ none_first lane_number l);
+            subst P (sym (ap (λ (us : List (Option Turn)). get_or us l None) none ∙ get_or-replicate (lanes k.scene) l None None in_range)) (λ _. ap (λ h. running_at lane_number h l) empty ∙ none_first lane_number l);
       };
       follows = let P : List Entry → Type 0 = λ h. FollowsFirst k.scene k.limit h in subst P (sym empty) tt;
       unmarked = unmarked;
     }
 
 -- a step that added an entry, and one that didn't
-pub added_entry : (k l : Core) → Added ≡ stepped (gated k (first k.scene k.history)) → l ≡ core_after k (gated k (first k.scene k.history)) → (e : Entry) × (l.history ≡ e ∷ k.history) × (l.scene ≡ k.scene)
+pub added_entry : (k l : Core) → Adds (gated k (first k.scene k.history)) → l ≡ core_after k (gated k (first k.scene k.history)) → (e : Entry) × (l.history ≡ e ∷ k.history) × (l.scene ≡ k.scene)
 added_entry k l added after =
     let ok = added_ok (gated k (first k.scene k.history)) added in
     let is : l ≡ record k { history = ok.0 ∷ k.history } = after ∙ ap (core_after k) ok.1 in
     (ok.0, ap (λ (x : Core). x.history) is, ap (λ (x : Core). x.scene) is)
 
-pub same_after : (k l : Core) → (Added ≡ stepped (gated k (first k.scene k.history)) → ⊥) → l ≡ core_after k (gated k (first k.scene k.history)) → l.history ≡ k.history
+pub same_after : (k l : Core) → entries (stepped (gated k (first k.scene k.history))) ≡ 0 → l ≡ core_after k (gated k (first k.scene k.history)) → l.history ≡ k.history
 same_after k l other after =
     let err = refused_err (gated k (first k.scene k.history)) other in
     let is : l ≡ core_after k (Err err.0) = after ∙ ap (core_after k) err.1 in

@@ -1,18 +1,21 @@
 -- A step that says Nothing leaves the next step to be tried, and any other answer is the answer.
-use Rattle.std.proofs.Common.{◌≡◌, ℕ, ◌+◌, ◌<◌, Option, None, Err, sym, ◌∙◌, ap, subst, add-one}
+use Rattle.std.proofs.Common.{◌≡◌, ℕ, ◌+◌, ◌<◌, Option, None, Err, sym, ◌∙◌, ap, subst, add-one, inl, inr}
+use Rattle.std.proofs.lemmas.Bool.{cases_Bool}
 use Rattle.so_ids.specs.declared.LaneId.{LaneId}
 use Rattle.so_lists.specs.Lists.{or_else}
 use Rattle.so_scene.specs.Lanes.{lanes}
 use Rattle.so_history.specs.declared.entry.Entry.{Entry}
-use Rattle.so_history.specs.Chain.{begin_entry, lane_entry}
-use Rattle.so_history.proofs.ChainLaws.{lane_entry-free}
+use Rattle.so_history.specs.Chain.{begin_entry, lane_entry, first}
+use Rattle.so_history.specs.Coops.{aborted}
+use Rattle.so_history.proofs.ChainLaws.{first-free}
 use Rattle.so_kernel.specs.Shapes.{Core}
 use Rattle.so_kernel.specs.Gates.{gated, core_after, stepped}
 use Rattle.so_kernel.specs.declared.answers.Refused.TheVariants.{Nothing}
 use Rattle.so_kernel.specs.declared.answers.Stepped.{Stepped}
 use Rattle.so_kernel.specs.declared.answers.Stepped.TheVariants.{Nothing as NothingStep}
+use Rattle.so_kernel.proofs.HeldLaws.{lane_free, same_over}
 use Rattle.so_kernel.proofs.GateLaws.{two-nothing, two-other, core_nothing, still_going, below-other, nothing_is, nothing_gated}
-use Rattle.so_env.specs.Runs.{NoneRuns, lanes_entry}
+use Rattle.so_env.specs.Runs.{NoneRuns, lanes_entry, free_first}
 
 -- a step that would add this entry
 pub record Steps (k l : Core) (a : Option Entry) (answer : Stepped) : Type 0 where
@@ -41,8 +44,8 @@ first_of k l a b answer other s =
 -- a lane on which no turn runs begins one
 pub begins : (k l : Core) (lane : LaneId) (answer : Stepped) → NoneRuns k → lane.0 < lanes k.scene → Steps k l (lane_entry k.scene k.history lane) answer → Steps k l (begin_entry k.scene k.history lane) answer
 begins k l lane answer free in_range s =
-    let same = lane_entry-free k.scene k.history lane (free lane.0 in_range) in
-    record { answer_is = s.answer_is ∙ ap (λ e. stepped (gated k e)) same; after = s.after ∙ ap (λ e. core_after k (gated k e)) same }
+    let same = lane_free k lane (λ going. free going lane.0 in_range) in
+    record { answer_is = s.answer_is ∙ ap stepped same; after = s.after ∙ ap (core_after k) same }
 
 -- the first lane that says something
 pub first_lane : (k l : Core) (lane : ℕ) (answer : Stepped) → lane < lanes k.scene → gated k (lanes_entry k lane) ≡ Err Nothing → (answer ≡ NothingStep → ⊥) → Steps k l (begin_entry k.scene k.history (record { 0 = lane })) answer → Steps k l (lanes_entry k (lanes k.scene)) answer
@@ -57,3 +60,11 @@ one_more k l lane none s =
     let here : gated k (begin_entry k.scene k.history (record { 0 = lane })) ≡ Err Nothing = nothing_is _ (sym s.answer_is) in
     let next : lanes_entry k (lane + 1) ≡ begin_entry k.scene k.history (record { 0 = lane }) = ap (lanes_entry k) (add-one lane) ∙ ap (λ o. or_else o (begin_entry k.scene k.history (record { 0 = lane }))) before in
     ap (gated k) next ∙ here
+
+-- the first step where no turn is in hand
+pub first_free : (k : Core) → NoneRuns k → gated k (first k.scene k.history) ≡ gated k (free_first k)
+first_free k free =
+    elim (cases_Bool (aborted k.history)) [
+      | inl y ↦ same_over k _ _ y
+      | inr f ↦ ap (gated k) (first-free k.scene k.history (free f))
+    ]

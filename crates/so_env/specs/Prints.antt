@@ -7,11 +7,12 @@ use Rattle.so_lists.specs.Lists.{is_empty}
 use Rattle.so_scene.specs.declared.parts.SceneParts.{SceneParts}
 use Rattle.so_history.specs.declared.entry.Entry.{Entry}
 use Rattle.so_history.specs.declared.lines.Mode.{Mode}
-use Rattle.so_history.specs.Steps.{finished, Legal}
+use Rattle.so_history.specs.Coops.{aborted}
+use Rattle.so_history.specs.Steps.{finished, is_over, Legal}
 use Rattle.so_history.specs.Chain.{IsChain, StopsAtLimit}
 use Rattle.so_history.specs.Text.{text, line_after}
 use Rattle.so_env.specs.declared.outcome.Cause.{Cause}
-use Rattle.so_env.specs.declared.outcome.Cause.TheVariants.{Done, Limit, Write}
+use Rattle.so_env.specs.declared.outcome.Cause.TheVariants.{Done, Aborted, Limit, Write}
 
 -- known bytes grew by these, or where a write failed by a part of them that isn't the whole
 abbrev pub Printed : Bool → Option (List ℕ) → Option (List ℕ) → List ℕ → Type 0
@@ -52,7 +53,7 @@ pub record Counts (s : SceneParts) (mode : Mode) (h : List Entry) (failed : Bool
 
 -- why a run with this history ended, where a write failed or not
 abbrev pub cause_of : SceneParts → List Entry → Bool → Cause
-cause_of s h failed = if failed then Write else (if finished s h then Done else Limit)
+cause_of s h failed = if failed then Write else (if finished s h then Done else (if aborted h then Aborted else Limit))
 
 -- a simulation: its history is the chain of first steps, and the sink got its text
 pub record IsSimulated (s : SceneParts) (limit : ℕ) (mode : Mode) (h : List Entry) (cause : Cause) (n : ℕ) (old new : Option (List ℕ)) (before now : ℕ) : Type 0 where
@@ -60,7 +61,7 @@ pub record IsSimulated (s : SceneParts) (limit : ℕ) (mode : Mode) (h : List En
   pub legal : Legal s h
   pub failed : Bool
   pub is : cause ≡ cause_of s h failed
-  pub at_limit : finished s h ≡ false → StopsAtLimit s limit h
+  pub at_limit : is_over s h ≡ false → StopsAtLimit s limit h
   pub printed : Printed failed old new (text s mode h)
   pub counts : Counts s mode h failed n
   pub risen : HasRisen failed before now

@@ -5,6 +5,7 @@ use Rattle.so_scene.specs.declared.parts.SceneParts.{SceneParts}
 use Rattle.so_scene.specs.Lanes.{lanes}
 use Rattle.so_history.specs.declared.entry.Entry.{Entry}
 use Rattle.so_history.specs.Turns.{running_at, lane_number}
+use Rattle.so_history.specs.Coops.{aborted}
 use Rattle.so_history.specs.Chain.{registration, tidying, begin_entry, FollowsFirst}
 use Rattle.so_kernel.specs.Shapes.{Core}
 use Rattle.so_kernel.specs.Held.{AreHeld}
@@ -14,9 +15,9 @@ use Rattle.so_kernel.specs.declared.answers.Turn.{Turn}
 abbrev pub NoneBelow : List (Option Turn) → ℕ → Type 0
 NoneBelow ts n = (l : ℕ) → l < n → slice_index_or ts l None ≡ None
 
--- no turn runs on a lane
+-- no turn runs on a lane, or the run was aborted
 abbrev pub NoneRuns : Core → Type 0
-NoneRuns k = (l : ℕ) → l < lanes k.scene → running_at lane_number k.history l ≡ []
+NoneRuns k = aborted k.history ≡ false → (l : ℕ) → l < lanes k.scene → running_at lane_number k.history l ≡ []
 
 -- the first Begin of the first n lanes
 abbrev pub lanes_entry : Core → ℕ → Option Entry

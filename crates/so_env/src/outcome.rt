@@ -12,6 +12,8 @@ pub enum Cause {
     Usage(u32),
     /// A step didn't fit the units.
     Limit,
+    /// An exception aborted the run.
+    Aborted,
     /// The bytes give no scene.
     Scene(SceneFault),
     /// The file couldn't be read.

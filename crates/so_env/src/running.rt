@@ -13,7 +13,7 @@ use crate::print::{Printing, print_last};
 use so_history::{History, Mode};
 use so_ids::NoMemory;
 use so_io::Sink;
-use so_kernel::{Kernel, RunState, Stepped, Turns};
+use so_kernel::{Kernel, RunState, Turns};
 use so_scene::Scene;
 use std::alloc::Global;
 
@@ -108,6 +108,7 @@ fn cause_of(kernel: &Kernel, failed: bool) -> Cause
     }
     match kernel.state() {
         RunState::Finished => Cause::Done,
+        RunState::Aborted => Cause::Aborted,
         RunState::Full => Cause::Limit,
         RunState::Going => Cause::Limit,
     }
@@ -128,11 +129,9 @@ fn run<K: Sink>(kernel: &mut Kernel, turns: &mut Turns, mode: Mode, out: &mut K)
         pieces: 0,
     };
     loop {
-        match step_first(kernel, turns) {
-            Stepped::Added => {
-                printing = print_last(kernel.history(), kernel.scene(), mode, out, printing);
-            }
-            _ => return printing,
+        if step_first(kernel, turns).entries() == 0 {
+            return printing;
         }
+        printing = print_last(kernel.history(), kernel.scene(), mode, out, printing);
     }
 }

@@ -1,5 +1,5 @@
 -- What an effect asks: nothing, or to handle a message that is sent through a mbox.
-use Rattle.std.proofs.Common.{◌≡◌, List, [], ◌∷◌, true, false, not, refl}
+use Rattle.std.proofs.Common.{◌≡◌, List, [], ◌∷◌, true, false, refl}
 use Rattle.std.specs.List.{filter}
 use Rattle.so_ids.specs.declared.AgentId.{AgentId}
 use Rattle.so_ids.specs.declared.MboxId.{MboxId}

@@ -29,7 +29,7 @@ use Rattle.so_history.specs.declared.entry.StopCause.{StopCause}
 use Rattle.so_history.specs.declared.entry.StopCause.TheVariants.{Asked, Idle}
 use Rattle.so_history.specs.declared.entry.Demand.{Demand}
 use Rattle.so_history.specs.Demands.{waiting}
-use Rattle.so_history.specs.Turns.{Started, Course, running, running_at, running_on, running_with, lane_number, key_number, move_of, course}
+use Rattle.so_history.specs.Turns.{Started, running, running_at, running_on, running_with, lane_number, key_number, move_of}
 use Rattle.so_history.specs.Coops.{the_coop, tried, present, leaving, stopped, stop_asked, aborted, has_reason}
 use Rattle.so_history.specs.Units.{fits}
 use Rattle.so_history.specs.Order.{is_free, may_take, pick}

@@ -1,5 +1,5 @@
 -- How turns begin: with acts, since all subscriptions run their handlers.
-use Rattle.std.proofs.Common.{◌≡◌, ℕ, zero, suc, ◌<◌, List, [], ◌∷◌, length, true, Option, Some, None, arith, refl, sym, ◌∙◌, ap, subst, inl, inr}
+use Rattle.std.proofs.Common.{◌≡◌, ℕ, zero, suc, List, [], ◌∷◌, length, true, Option, Some, None, refl, sym, subst, inl, inr}
 use Rattle.std.specs.Prelude.{slice_get}
 use Rattle.std.specs.List.{AllByRecursion}
 use Rattle.std.proofs.lemmas.Option.{same_Some}
@@ -7,17 +7,15 @@ use Rattle.std.proofs.lemmas.List.Elements.{recursion_from_All}
 use Rattle.std.proofs.lemmas.Bool.{cases_lt}
 use Rattle.std.proofs.lemmas.List.{get_or_past}
 use Rattle.so_ids.specs.declared.AgentId.{AgentId}
-use Rattle.so_ids.specs.declared.Opening.{Opening}
 use Rattle.so_ids.specs.declared.Opening.TheVariants as opening
 use Rattle.so_code.specs.Own.{opens_acts}
 use Rattle.so_state.specs.declared.choice.Row.{Row}
-use Rattle.so_state.specs.declared.choice.RowKind.{RowKind}
 use Rattle.so_state.specs.declared.choice.RowKind.TheVariants.{Run}
-use Rattle.so_state.specs.Choice.{choice_of, choice_at, choice_by, answering}
+use Rattle.so_state.specs.Choice.{choice_at, choice_by, answering}
 use Rattle.so_state.specs.States.{path}
 use Rattle.so_scene.specs.declared.parts.SceneParts.{SceneParts}
 use Rattle.so_scene.specs.declared.parts.AgentDef.{AgentDef}
-use Rattle.so_scene.specs.Parts.{no_agent, agent_of, rows_of, states_of, IsRow, IsAgent, IsScene}
+use Rattle.so_scene.specs.Parts.{no_agent, rows_of, states_of, IsRow, IsScene}
 use Rattle.so_history.specs.declared.entry.Entry.{Entry}
 use Rattle.so_history.specs.declared.entry.Demand.{Demand}
 use Rattle.so_history.specs.declared.entry.DemandKind.{DemandKind}

@@ -1,14 +1,13 @@
 -- What the frame of a turn keeps, and what its effects name.
-use Rattle.std.proofs.Common.{◌≡◌, ℕ, zero, suc, ◌<◌, List, [], ◌∷◌, length, Bool, true, false, cond, Option, Some, None, arith, refl, sym, ◌∙◌, ap, subst, inl, inr}
-use Rattle.std.specs.Prelude.{◌==◌, slice_get, slice_index_or}
+use Rattle.std.proofs.Common.{◌≡◌, ℕ, zero, suc, ◌<◌, List, [], ◌∷◌, length, Bool, true, false, cond, Option, Some, None, refl, sym, ap, subst}
+use Rattle.std.specs.Prelude.{◌==◌, slice_get}
 use Rattle.std.specs.Option.{option_map}
 use Rattle.std.specs.List.{AllByRecursion}
-use Rattle.std.proofs.lemmas.Bool.{cases_Bool, eqb-true}
+use Rattle.std.proofs.lemmas.Bool.{eqb-true}
 use Rattle.std.proofs.lemmas.Option.{same_Some}
 use Rattle.so_ids.specs.declared.AgentId.{AgentId}
 use Rattle.so_ids.specs.declared.DemandId.{DemandId}
 use Rattle.so_ids.specs.declared.LaneId.{LaneId}
-use Rattle.so_ids.specs.declared.MboxId.{MboxId}
 use Rattle.so_ids.specs.declared.MsgId.{MsgId}
 use Rattle.so_ids.specs.declared.PartyId.{PartyId}
 use Rattle.so_ids.specs.declared.Payload.{Payload}
@@ -30,22 +29,21 @@ use Rattle.so_code.specs.declared.instr.Instr.{Instr}
 use Rattle.so_code.specs.declared.instr.Instr.TheVariants as instr
 use Rattle.so_code.specs.Shape.{IsCode}
 use Rattle.so_code.specs.Places.{IsAt}
-use Rattle.so_code.specs.Machine.{after}
 use Rattle.so_code.specs.Running.{IsFrame, IsAwake}
-use Rattle.so_code.specs.Answers.{Fits, IsAnswerTo, answered}
+use Rattle.so_code.specs.Answers.{Fits, IsAnswerTo}
 use Rattle.so_code.specs.Openings.{begun}
-use Rattle.so_code.specs.Own.{is_own, effect_of, opens_acts, RunsActs, IsOwnAct}
+use Rattle.so_code.specs.Own.{is_own, effect_of, opens_acts, RunsActs}
 use Rattle.so_code.proofs.Moves.{after_frame, after_waits, after_runs, own_act}
 use Rattle.so_code.proofs.AnswerLaws.{answered_frame, answered_awake, begun_frame, begun_awake}
 use Rattle.so_code.proofs.OwnLaws.{begun_runs, answered_runs}
 use Rattle.so_scene.specs.declared.parts.SceneParts.{SceneParts}
-use Rattle.so_scene.specs.Parts.{no_agent, agent_of, code_of, NamesParts, NamesTarget, IsAgent, IsScene}
+use Rattle.so_scene.specs.Parts.{no_agent, code_of, NamesParts, IsScene}
 use Rattle.so_history.specs.declared.entry.Entry.{Entry}
 use Rattle.so_history.specs.declared.entry.EntryKind.{EntryKind}
 use Rattle.so_history.specs.declared.entry.EntryKind.TheVariants.{Register, Begin, Act, End, Leaving, Left, Stop, Abort}
 use Rattle.so_history.specs.Demands.{message_of}
 use Rattle.so_history.specs.Turns.{Course, move_of, answer_to, advanced, vars, course}
-use Rattle.so_history.specs.Steps.{NamesEffect, answer_of, answer_to_send, entry_of, IsMove, IsRow, Legal}
+use Rattle.so_history.specs.Steps.{NamesEffect, answer_of, answer_to_send, entry_of, IsRow, Legal}
 use Rattle.so_history.proofs.OpeningLaws.{opening_acts}
 use Rattle.so_history.proofs.TurnLaws.{started_of}
 

@@ -1,9 +1,6 @@
 -- The effect of a turn that has moved, and its answer.
-use Rattle.std.proofs.Common.{◌≡◌, true, ◌<◌, length, Some, None, Option, refl, sym, ◌∙◌, ap, subst}
-use Rattle.std.specs.Prelude.{unwrap_or}
-use Rattle.so_ids.specs.declared.AgentId.{AgentId}
+use Rattle.std.proofs.Common.{◌≡◌, true, Some, refl, sym, ◌∙◌, ap, subst}
 use Rattle.so_code.specs.declared.effect.Answer.{Answer}
-use Rattle.so_code.specs.declared.effect.Answer.TheVariants.{Okay}
 use Rattle.so_code.specs.declared.effect.Effect.{Effect}
 use Rattle.so_code.specs.declared.effect.Move.{Move}
 use Rattle.so_code.specs.declared.effect.Move.TheVariants.{Do}
@@ -19,7 +16,7 @@ use Rattle.so_ids.specs.declared.Opening.{Opening}
 use Rattle.so_ids.specs.declared.Opening.TheVariants as opening
 use Rattle.so_code.proofs.Moves.{is_running}
 use Rattle.so_scene.specs.Parts.{code_of, IsScene}
-use Rattle.so_history.specs.Turns.{Course, move_of}
+use Rattle.so_history.specs.Turns.{move_of}
 use Rattle.so_history.specs.Steps.{NamesEffect, answer_of, Legal}
 use Rattle.so_history.proofs.SoundLaws.{IsSound, agent_code, moved_waits, moved_frame, names_parts, answer_fits, course_sound}
 use Rattle.so_kernel.specs.declared.answers.Turn.{Turn}

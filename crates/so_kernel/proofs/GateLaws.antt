@@ -1,5 +1,5 @@
 -- What the gate answers, of one entry and of several.
-use Rattle.std.proofs.Common.{◌≡◌, ℕ, ◌+◌, ◌<◌, length, suc, ◌∷◌, arith, Bool, true, false, Option, Some, None, Result, Ok, Err, refl, sym, ◌∙◌, ap, cond}
+use Rattle.std.proofs.Common.{◌≡◌, ℕ, ◌+◌, ◌<◌, length, arith, Bool, true, false, Option, Some, None, Result, Ok, Err, refl, sym, ◌∙◌, ap, cond}
 use Rattle.so_lists.specs.Lists.{or_else, first_below}
 use Rattle.so_lists.proofs.First.{first_below-from}
 use Rattle.so_history.specs.declared.entry.Entry.{Entry}
@@ -173,7 +173,7 @@ unfolding next_entry
 stops k why f h = stops_cond k (first k.scene k.history) (is_over k.scene k.history) why (sym (unmarked_gate k (first k.scene k.history) f) ∙ h)
 
 -- the history grows by the entries of the answer
-one_entry : (kind : EntryKind) → entries (added kind) ≡ 1
+pub one_entry : (kind : EntryKind) → entries (added kind) ≡ 1
 one_entry (Abort cause) = refl
 one_entry (Register coop) = refl
 one_entry (Begin lane demand opening agent) = refl

@@ -13,7 +13,7 @@ use Rattle.so_ids.specs.Ids.{party_of}
 use Rattle.so_code.specs.declared.effect.Answer.{Answer}
 use Rattle.so_code.specs.declared.effect.Effect.{Effect}
 use Rattle.so_code.specs.declared.effect.Move.{Move}
-use Rattle.so_code.specs.declared.effect.Move.TheVariants.{Do, Fail}
+use Rattle.so_code.specs.declared.effect.Move.TheVariants.{Do}
 use Rattle.so_code.specs.declared.frame.Frame.{Frame}
 use Rattle.so_code.specs.Machine.{after}
 use Rattle.so_code.specs.Openings.{begun}
@@ -30,7 +30,7 @@ use Rattle.so_history.specs.Turns.{Started, Course, vars, ends, running_at, runn
 use Rattle.so_history.specs.Coops.{aborted}
 use Rattle.so_history.specs.Demands.{message_of}
 use Rattle.so_history.specs.Order.{pick, opening_of, taking}
-use Rattle.so_history.specs.Steps.{finished, is_over, answer_of, Legal}
+use Rattle.so_history.specs.Steps.{finished, answer_of, Legal}
 use Rattle.so_history.specs.Chain.{registration, tidying, turn_on, turn_entry, lane_entry, first}
 use Rattle.so_history.proofs.TurnLaws.{running_at-begun, running_at-same, running_at-ended, alone, turn_found, turn-begun, turn-spared, turn_of, turn_looked_up, turn_agent, lanes_free}
 use Rattle.so_history.proofs.CourseLaws.{acts_for, course-spared, course-acted, course-begun, has_course}

@@ -1,5 +1,5 @@
 -- The agents that a message reaches: the owner of the mbox, or nobody.
-use Rattle.std.proofs.Common.{◌≡◌, ℕ, zero, suc, ◌+◌, ◌<◌, ◌≤◌, List, [], ◌∷◌, ◌++◌, length, Bool, true, false, not, ◌&&◌, ◌||◌, cond, arith, refl, sym, ◌∙◌, ap, subst, inl, inr, map, zip}
+use Rattle.std.proofs.Common.{◌≡◌, ℕ, zero, suc, ◌+◌, ◌<◌, ◌≤◌, List, [], ◌∷◌, ◌++◌, length, Bool, true, false, ◌&&◌, ◌||◌, arith, refl, sym, ◌∙◌, ap, subst, inl, inr}
 use Rattle.std.specs.Prelude.{◌==◌}
 use Rattle.std.specs.List.{filter, list_any, AllByRecursion}
 use Rattle.std.proofs.lemmas.List.{append-nil, get_or_past}
@@ -13,12 +13,11 @@ use Rattle.so_lists.proofs.EachBelow.{length-each_below}
 use Rattle.so_state.specs.declared.choice.Row.{Row}
 use Rattle.so_state.specs.Choice.{is_for}
 use Rattle.so_scene.specs.declared.parts.SceneParts.{SceneParts}
-use Rattle.so_scene.specs.declared.parts.CoopDef.{CoopDef}
 use Rattle.so_scene.specs.declared.parts.AgentDef.{AgentDef}
 use Rattle.so_scene.specs.Parts.{no_agent, no_coop, coop_of, agents_from, agents_of, rows_of, direct_mbox, IsCoop, IsScene}
 use Rattle.so_history.specs.declared.entry.Entry.{Entry}
 use Rattle.so_history.specs.Coops.{the_coop, present, leaving}
-use Rattle.so_history.specs.Delivery.{takes_from, is_subscribed, registered, receivers, is_leaving, reached, missed}
+use Rattle.so_history.specs.Delivery.{is_subscribed, registered, receivers, reached, missed}
 use Rattle.so_kernel.proofs.RowLaws.{any_active}
 
 zero_add : (n : ℕ) → 0 + n ≡ n

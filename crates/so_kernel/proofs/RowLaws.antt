@@ -1,14 +1,10 @@
 -- Which rows are active, and which agents a message reaches.
-use Rattle.std.proofs.Common.{◌≡◌, ℕ, zero, suc, ◌+◌, ◌<◌, ◌≤◌, List, [], ◌∷◌, ◌++◌, length, Bool, true, false, not, ◌&&◌, ◌||◌, cond, arith, refl, sym, ◌∙◌, ap, subst, inl, inr, map, zip, take, set, get_or}
-use Rattle.std.specs.List.{filter, list_any, AllByRecursion}
+use Rattle.std.proofs.Common.{◌≡◌, ℕ, zero, suc, ◌+◌, ◌<◌, List, [], ◌∷◌, ◌++◌, length, Bool, ◌&&◌, ◌||◌, arith, refl, sym, ◌∙◌, ap, map, zip, take, set, get_or}
+use Rattle.std.specs.List.{list_any}
 use Rattle.std.proofs.lemmas.List.{take_more_set}
 use Rattle.so_kernel.specs.Tables.{actives}
-use Rattle.std.proofs.lemmas.List.Elements.{filter-append}
-use Rattle.std.proofs.lemmas.Bool.{cases_Bool, ne_eqb, eqb-true, and_parts}
-use Rattle.so_ids.specs.declared.AgentId.{AgentId}
 use Rattle.so_ids.specs.declared.MboxId.{MboxId}
 use Rattle.so_ids.specs.declared.MsgId.{MsgId}
-use Rattle.so_lists.specs.Lists.{each_below}
 use Rattle.so_state.specs.declared.choice.Row.{Row}
 use Rattle.so_state.specs.Choice.{is_for}
 use Rattle.so_history.specs.Delivery.{takes_from}

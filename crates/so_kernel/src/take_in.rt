@@ -37,7 +37,8 @@ impl<'a> Kernel<'a> {
     {
         let place = Place(self.history.len());
         let coop = self.scene.coop(coop);
-        self.tables.registered(self.scene, place, coop.first, coop.count);
+        self.tables
+            .registered(self.scene, place, coop.first, coop.count);
         self.history.push(entry);
     }
 

@@ -1,10 +1,9 @@
 use Rattle.std.proofs.Common.{◌≡◌, ◌∙◌, sym, ap, arith}
 use Rattle.so_scene.specs.Lanes.{lanes}
-use Rattle.so_history.specs.Chain.{lane_entry, first}
-use Rattle.so_history.proofs.ChainLaws.{first-free}
-use Rattle.so_kernel.specs.Gates.{gated, core_after, stepped}
+use Rattle.so_kernel.specs.Gates.{core_after, stepped}
 use Rattle.so_kernel.proofs.HeldLaws.{first_of_turns, none_running}
-use Rattle.so_env.specs.Runs.{free_first, NoneRuns}
+use Rattle.so_env.specs.Runs.{NoneRuns}
+use Rattle.so_env.proofs.StepLaws.{first_free}
 use Rattle.so_env.proofs.first.step_first.Goals as goal
 
 pub first_held-requires : goal.first_held-requires
@@ -15,16 +14,14 @@ first_held-requires c =
 pub returns-in-Some-clause-answer : goal.returns-in-Some-clause-answer
 returns-in-Some-clause-answer c =
     let count : c.lanes-lanes.result ≡ lanes c.args.kernel.now.scene = c.lanes-lanes.ensures.value ∙ ap lanes c.scene.ensures.value in
-    let e : first c.args.kernel.now.scene c.args.kernel.now.history ≡ lane_entry c.args.kernel.now.scene c.args.kernel.now.history c.in-Some.lane =
-    first_of_turns c.args.kernel.now c.args.turns.now c.in-Some.lane c.scene.ensures.legal c.requires.held (rw (← count) c.in-Some.ensures.in_range) c.in-Some.ensures.holds c.in-Some.ensures.none_before in
-    c.step.ensures.answer ∙ ap (λ a. stepped (gated c.args.kernel.now a)) (sym e)
+    let e = first_of_turns c.args.kernel.now c.args.turns.now c.in-Some.lane c.scene.ensures.scene c.scene.ensures.legal c.requires.held (rw (← count) c.in-Some.ensures.in_range) c.in-Some.ensures.holds c.in-Some.ensures.none_before in
+    c.step.ensures.answer ∙ ap stepped (sym e)
 
 pub returns-in-Some-clause-after : goal.returns-in-Some-clause-after
 returns-in-Some-clause-after c =
     let count : c.lanes-lanes.result ≡ lanes c.args.kernel.now.scene = c.lanes-lanes.ensures.value ∙ ap lanes c.scene.ensures.value in
-    let e : first c.args.kernel.now.scene c.args.kernel.now.history ≡ lane_entry c.args.kernel.now.scene c.args.kernel.now.history c.in-Some.lane =
-    first_of_turns c.args.kernel.now c.args.turns.now c.in-Some.lane c.scene.ensures.legal c.requires.held (rw (← count) c.in-Some.ensures.in_range) c.in-Some.ensures.holds c.in-Some.ensures.none_before in
-    c.step.ensures.after ∙ ap (λ a. core_after c.args.kernel.now (gated c.args.kernel.now a)) (sym e)
+    let e = first_of_turns c.args.kernel.now c.args.turns.now c.in-Some.lane c.scene.ensures.scene c.scene.ensures.legal c.requires.held (rw (← count) c.in-Some.ensures.in_range) c.in-Some.ensures.holds c.in-Some.ensures.none_before in
+    c.step.ensures.after ∙ ap (core_after c.args.kernel.now) (sym e)
 
 pub step_free-requires-clause-free : goal.step_free-requires-clause-free
 step_free-requires-clause-free c =
@@ -35,12 +32,12 @@ pub returns-in-None-clause-answer : goal.returns-in-None-clause-answer
 returns-in-None-clause-answer c =
     let count : c.lanes-lanes.result ≡ lanes c.args.kernel.now.scene = c.lanes-lanes.ensures.value ∙ ap lanes c.scene.ensures.value in
     let free : NoneRuns c.args.kernel.now = none_running c.args.kernel.now c.args.turns.now c.requires.held (rw (← count) c.in-None.ensures) in
-    let e : first c.args.kernel.now.scene c.args.kernel.now.history ≡ free_first c.args.kernel.now = first-free c.args.kernel.now.scene c.args.kernel.now.history free in
-    c.step_free.ensures.answer ∙ ap (λ a. stepped (gated c.args.kernel.now a)) (sym e)
+    let e = first_free c.args.kernel.now free in
+    c.step_free.ensures.answer ∙ ap stepped (sym e)
 
 pub returns-in-None-clause-after : goal.returns-in-None-clause-after
 returns-in-None-clause-after c =
     let count : c.lanes-lanes.result ≡ lanes c.args.kernel.now.scene = c.lanes-lanes.ensures.value ∙ ap lanes c.scene.ensures.value in
     let free : NoneRuns c.args.kernel.now = none_running c.args.kernel.now c.args.turns.now c.requires.held (rw (← count) c.in-None.ensures) in
-    let e : first c.args.kernel.now.scene c.args.kernel.now.history ≡ free_first c.args.kernel.now = first-free c.args.kernel.now.scene c.args.kernel.now.history free in
-    c.step_free.ensures.after ∙ ap (λ a. core_after c.args.kernel.now (gated c.args.kernel.now a)) (sym e)
+    let e = first_free c.args.kernel.now free in
+    c.step_free.ensures.after ∙ ap (core_after c.args.kernel.now) (sym e)

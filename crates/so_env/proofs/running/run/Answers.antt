@@ -2,24 +2,24 @@ use Rattle.std.proofs.Common.{◌≡◌, ◌∷◌, length, sym, ◌∙◌, ap, 
 use Rattle.so_history.specs.declared.entry.Entry.{Entry}
 use Rattle.so_history.specs.Text.{text}
 use Rattle.so_env.specs.Prints.{Printed, Counts}
-use Rattle.so_env.proofs.RunLaws.{way_on, way_shorter, way_end, added_entry, same_after}
+use Rattle.so_env.proofs.RunLaws.{adds, adds_none, way_on, way_shorter, way_end, added_entry, same_after}
 use Rattle.so_env.proofs.PrintLaws.{printed_none, print_on, risen_on, counts_none, counts_on, only_if}
 use Rattle.so_env.proofs.running.run.Goals as goal
 
-pub loop-kernel-init : goal.loop-kernel-init
-loop-kernel-init g c = record {
+pub loop-mode-init : goal.loop-mode-init
+loop-mode-init g c = record {
   way = c.requires.way;
   printed = printed_none c.args.kernel.now.scene c.args.mode c.args.kernel.now.history (g.K.Sink.content c.args.out.now) c.requires.fresh;
   counts = counts_none c.args.kernel.now.scene c.args.mode c.args.kernel.now.history c.requires.fresh;
   risen = record { later = omega arith; rose = λ no_fault. cc };
 }
 
-pub loop-kernel-smaller : goal.loop-kernel-smaller
-loop-kernel-smaller g c = way_shorter c.loop-kernel.kernel c.step_first.new.kernel (sym c.in-Added.is ∙ c.step_first.ensures.answer) c.step_first.ensures.after
+pub loop-mode-smaller : goal.loop-mode-smaller
+loop-mode-smaller g c = way_shorter c.loop-mode.kernel c.step_first.new.kernel (adds _ _ _ c.step_first.ensures.answer c.entries.ensures.value c.if-entries.false) c.step_first.ensures.after
 
 pub print_last-printing-requires-clause-some : goal.print_last-printing-requires-clause-some
 print_last-printing-requires-clause-some g c =
-    let more = added_entry c.loop-kernel.kernel c.step_first.new.kernel (sym c.in-Added.is ∙ c.step_first.ensures.answer) c.step_first.ensures.after in
+    let more = added_entry c.loop-mode.kernel c.step_first.new.kernel (adds _ _ _ c.step_first.ensures.answer c.entries.ensures.value c.if-entries.false) c.step_first.ensures.after in
     rw (c.history.ensures.entries, more.1) (omega arith)
 
 pub print_last-printing-requires-clause-legal : goal.print_last-printing-requires-clause-legal
@@ -27,34 +27,34 @@ print_last-printing-requires-clause-legal g c = rw (c.scene.ensures.value, c.his
 
 pub print_last-printing-requires-clause-few : goal.print_last-printing-requires-clause-few
 print_last-printing-requires-clause-few g c =
-    let more = added_entry c.loop-kernel.kernel c.step_first.new.kernel (sym c.in-Added.is ∙ c.step_first.ensures.answer) c.step_first.ensures.after in
-    omega (arith, ap length c.history.ensures.entries, ap length more.1, c.loop-kernel.invariant.counts.few)
+    let more = added_entry c.loop-mode.kernel c.step_first.new.kernel (adds _ _ _ c.step_first.ensures.answer c.entries.ensures.value c.if-entries.false) c.step_first.ensures.after in
+    omega (arith, ap length c.history.ensures.entries, ap length more.1, c.loop-mode.invariant.counts.few)
 
-pub loop-kernel-preserved : goal.loop-kernel-preserved
-loop-kernel-preserved g c =
-    let more = added_entry c.loop-kernel.kernel c.step_first.new.kernel (sym c.in-Added.is ∙ c.step_first.ensures.answer) c.step_first.ensures.after in
-    let way = c.loop-kernel.invariant.way in
+pub loop-mode-preserved : goal.loop-mode-preserved
+loop-mode-preserved g c =
+    let more = added_entry c.loop-mode.kernel c.step_first.new.kernel (adds _ _ _ c.step_first.ensures.answer c.entries.ensures.value c.if-entries.false) c.step_first.ensures.after in
+    let way = c.loop-mode.invariant.way in
     let scene : c.scene.result.now ≡ c.args.kernel.now.scene = c.scene.ensures.value ∙ (more.2 ∙ way.scene) in
-    let grown : c.history.result.now.entries ≡ more.0 ∷ c.loop-kernel.kernel.history = c.history.ensures.entries ∙ more.1 in
+    let grown : c.history.result.now.entries ≡ more.0 ∷ c.loop-mode.kernel.history = c.history.ensures.entries ∙ more.1 in
     record {
-      way = way_on _ _ c.loop-kernel.kernel c.step_first.new.kernel c.loop-kernel.turns c.step_first.new.turns way (sym c.in-Added.is ∙ c.step_first.ensures.answer) c.step_first.ensures.after c.step_first.ensures.held;
+      way = way_on _ _ c.loop-mode.kernel c.step_first.new.kernel c.loop-mode.turns c.step_first.new.turns way (adds _ _ _ c.step_first.ensures.answer c.entries.ensures.value c.if-entries.false) c.step_first.ensures.after c.step_first.ensures.held;
       printed =
           subst (λ (l : List Entry). Printed c.print_last-printing.result.failed (g.K.Sink.content c.args.out.now) (g.K.Sink.content c.print_last-printing.new.out) (text c.args.kernel.now.scene c.args.mode l)) c.history.ensures.entries
-          (print_on c.args.kernel.now.scene c.scene.result.now c.args.mode c.loop-kernel.kernel.history c.history.result.now.entries more.0 _ _ _ _ _ scene grown c.loop-kernel.invariant.printed c.print_last-printing.ensures.line);
+          (print_on c.args.kernel.now.scene c.scene.result.now c.args.mode c.loop-mode.kernel.history c.history.result.now.entries more.0 _ _ _ _ _ scene grown c.loop-mode.invariant.printed c.print_last-printing.ensures.line);
       counts =
           subst (λ (l : List Entry). Counts c.args.kernel.now.scene c.args.mode l c.print_last-printing.result.failed c.print_last-printing.result.pieces) c.history.ensures.entries
-          (counts_on c.args.kernel.now.scene c.scene.result.now c.args.mode c.loop-kernel.kernel.history c.history.result.now.entries more.0 _ _ _ _ scene grown (only_if _ _ _ _ _ c.print_last-printing.ensures.line) c.loop-kernel.invariant.counts c.print_last-printing.ensures.pieces);
-      risen = risen_on _ _ _ _ _ c.loop-kernel.invariant.risen c.print_last-printing.ensures.cause;
+          (counts_on c.args.kernel.now.scene c.scene.result.now c.args.mode c.loop-mode.kernel.history c.history.result.now.entries more.0 _ _ _ _ scene grown (only_if _ _ _ _ _ c.print_last-printing.ensures.line) c.loop-mode.invariant.counts c.print_last-printing.ensures.pieces);
+      risen = risen_on _ _ _ _ _ c.loop-mode.invariant.risen c.print_last-printing.ensures.cause;
     }
 
-pub returns-in_default : goal.returns-in_default
-returns-in_default g c =
-    let ends = way_end c.args.kernel.now.scene c.args.kernel.now.limit c.loop-kernel.kernel c.step_first.new.kernel c.loop-kernel.turns c.loop-kernel.invariant.way (λ added. c.in_default.not-Added (c.step_first.ensures.answer ∙ sym added)) c.step_first.ensures.after in
-    let same = same_after c.loop-kernel.kernel c.step_first.new.kernel (λ added. c.in_default.not-Added (c.step_first.ensures.answer ∙ sym added)) c.step_first.ensures.after in
+pub returns-then-entries : goal.returns-then-entries
+returns-then-entries g c =
+    let ends = way_end c.args.kernel.now.scene c.args.kernel.now.limit c.loop-mode.kernel c.step_first.new.kernel c.loop-mode.turns c.loop-mode.invariant.way (adds_none _ _ _ c.step_first.ensures.answer c.entries.ensures.value c.if-entries.true) c.step_first.ensures.after in
+    let same = same_after c.loop-mode.kernel c.step_first.new.kernel (adds_none _ _ _ c.step_first.ensures.answer c.entries.ensures.value c.if-entries.true) c.step_first.ensures.after in
     record {
       chain = ends.0;
       scene = ends.1;
-      printed = subst (λ (l : List Entry). Printed c.loop-kernel.printing.failed (g.K.Sink.content c.args.out.now) (g.K.Sink.content c.loop-kernel.out) (text c.args.kernel.now.scene c.args.mode l)) (sym same) c.loop-kernel.invariant.printed;
-      pieces = subst (λ (l : List Entry). Counts c.args.kernel.now.scene c.args.mode l c.loop-kernel.printing.failed c.loop-kernel.printing.pieces) (sym same) c.loop-kernel.invariant.counts;
-      cause = c.loop-kernel.invariant.risen;
+      printed = subst (λ (l : List Entry). Printed c.loop-mode.printing.failed (g.K.Sink.content c.args.out.now) (g.K.Sink.content c.loop-mode.out) (text c.args.kernel.now.scene c.args.mode l)) (sym same) c.loop-mode.invariant.printed;
+      pieces = subst (λ (l : List Entry). Counts c.args.kernel.now.scene c.args.mode l c.loop-mode.printing.failed c.loop-mode.printing.pieces) (sym same) c.loop-mode.invariant.counts;
+      cause = c.loop-mode.invariant.risen;
     }

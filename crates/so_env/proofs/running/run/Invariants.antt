@@ -4,13 +4,13 @@ use Rattle.so_env.specs.Runs.{IsOnTheWay}
 use Rattle.so_env.specs.Prints.{Printed, HasRisen, Counts}
 use Rattle.so_env.proofs.running.run.Given as goal
 
-abbrev pub invariant-loop-kernel : goal.invariant-loop-kernel
-invariant-loop-kernel g l = record {
+abbrev pub invariant-loop-mode : goal.invariant-loop-mode
+invariant-loop-mode g l = record {
   way : IsOnTheWay l.fn.kernel.scene l.fn.kernel.limit l.kernel l.turns;
   printed : Printed l.printing.failed (g.K.Sink.content l.fn.out) (g.K.Sink.content l.out) (text l.fn.kernel.scene l.mode l.kernel.history);
   counts : Counts l.fn.kernel.scene l.mode l.kernel.history l.printing.failed l.printing.pieces;
   risen : HasRisen l.printing.failed (g.K.Sink.faults l.fn.out) (g.K.Sink.faults l.out);
 }
 
-abbrev pub decreases-loop-kernel : goal.decreases-loop-kernel
-decreases-loop-kernel g l = l.kernel.limit - length l.kernel.history
+abbrev pub decreases-loop-mode : goal.decreases-loop-mode
+decreases-loop-mode g l = l.kernel.limit - length l.kernel.history

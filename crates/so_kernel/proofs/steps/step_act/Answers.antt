@@ -1,5 +1,4 @@
-use Rattle.std.proofs.Common.{◌≡◌, Some, refl, sym, ◌∙◌, ap}
-use Rattle.std.specs.Prelude.{slice_set}
+use Rattle.std.proofs.Common.{◌≡◌, Some, sym, ◌∙◌, ap}
 use Rattle.so_code.specs.declared.effect.Move.TheVariants.{Do}
 use Rattle.so_history.proofs.ChainLaws.{answered_named}
 use Rattle.so_kernel.specs.declared.answers.Acted.TheVariants as acted_answer

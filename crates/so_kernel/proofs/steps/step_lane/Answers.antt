@@ -2,7 +2,6 @@ use Rattle.std.proofs.Common.{sym, ◌∙◌, ap, subst, Option}
 use Rattle.so_kernel.specs.Gates.{gated, core_after, stepped}
 use Rattle.so_kernel.specs.Held.{IsLaneHeld}
 use Rattle.so_kernel.specs.declared.answers.Turn.{Turn}
-use Rattle.so_history.proofs.ChainLaws.{lane_entry-free}
 use Rattle.so_kernel.proofs.HeldLaws.{lane_free, lane_move}
 use Rattle.so_kernel.proofs.steps.step_lane.Goals as goal
 

@@ -1,7 +1,3 @@
-use Rattle.std.proofs.Common.{◌≡◌, Some, refl, sym, ◌∙◌, subst}
-use Rattle.so_history.specs.Turns.{Course}
-use Rattle.so_history.specs.Steps.{NamesEffect}
-use Rattle.so_history.proofs.SoundLaws.{moved_waits, moved_frame, names_parts, answer_fits, course_sound}
 use Rattle.so_kernel.proofs.ActLaws.{moved_named, moved_fits, moved_running, answer_is}
 use Rattle.so_kernel.proofs.HeldLaws.{held_acted}
 use Rattle.so_kernel.proofs.kernel.Kernel.add_act.Goals as goal

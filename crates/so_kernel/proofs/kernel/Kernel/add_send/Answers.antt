@@ -1,4 +1,4 @@
-use Rattle.std.proofs.Common.{◌≡◌, ◌+◌, ◌≤◌, length, arith, refl, sym, ◌∙◌, ap, subst}
+use Rattle.std.proofs.Common.{◌≡◌, ◌+◌, ◌≤◌, length, arith, sym, ◌∙◌, ap, subst}
 use Rattle.so_code.specs.declared.effect.Effect.TheVariants.{Send}
 use Rattle.so_code.specs.declared.effect.Answer.{Answer}
 use Rattle.so_ids.specs.declared.Place.{Place}
@@ -6,7 +6,6 @@ use Rattle.so_history.specs.declared.entry.EntryKind.TheVariants.{Act}
 use Rattle.so_scene.specs.Parts.{agents_from}
 use Rattle.so_history.specs.Demands.{ask_each, asked_by_effect}
 use Rattle.so_kernel.specs.Shapes.{Core}
-use Rattle.so_kernel.specs.Tables.{queued}
 use Rattle.so_kernel.proofs.KeptLaws.{kept_after, has_room, has_place, going}
 use Rattle.so_kernel.proofs.TableLaws.{tables-send, cost-sent}
 use Rattle.so_kernel.proofs.kernel.Kernel.add_send.Goals as goal

@@ -1,6 +1,5 @@
-use Rattle.std.proofs.Common.{◌≡◌, ◌<◌, length, refl, sym, ◌∙◌, subst, get_or}
+use Rattle.std.proofs.Common.{◌≡◌, ◌<◌, length, refl, sym, ◌∙◌, subst}
 use Rattle.so_lists.proofs.EachBelow.{length-each_below, get_or-each_below}
-use Rattle.so_ids.specs.declared.Vars.{Vars}
 use Rattle.so_history.specs.Turns.{vars}
 use Rattle.so_history.proofs.OpeningLaws.{opening_acts}
 use Rattle.so_kernel.specs.Shapes.{Core}

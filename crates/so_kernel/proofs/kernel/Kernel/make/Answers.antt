@@ -1,4 +1,4 @@
-use Rattle.std.proofs.Common.{sym, ◌∙◌, ap, arith}
+use Rattle.std.proofs.Common.{sym, ◌∙◌, arith}
 use Rattle.std.proofs.lemmas.Bool.{false≢true}
 use Rattle.so_history.proofs.DemandLaws.{units-nil}
 use Rattle.so_kernel.proofs.TableLaws.{tables-fresh}

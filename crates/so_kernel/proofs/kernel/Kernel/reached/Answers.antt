@@ -1,4 +1,4 @@
-use Rattle.std.proofs.Common.{◌≡◌, true, false, refl, sym, ◌∙◌}
+use Rattle.std.proofs.Common.{◌≡◌, true, false, sym, ◌∙◌}
 use Rattle.so_history.specs.Coops.{leaving}
 use Rattle.so_history.proofs.AskedLaws.{reached_leaving}
 use Rattle.so_kernel.proofs.ReachLaws.{nobody, reached_staying}

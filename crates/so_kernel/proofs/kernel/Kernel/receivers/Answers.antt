@@ -1,4 +1,4 @@
-use Rattle.std.proofs.Common.{◌≡◌, true, false, arith, refl, sym, ◌∙◌}
+use Rattle.std.proofs.Common.{◌≡◌, true, false, arith, sym, ◌∙◌}
 use Rattle.so_history.specs.Delivery.{is_subscribed}
 use Rattle.so_kernel.proofs.ReachLaws.{nobody, just_one, receivers_owner, receivers_none, receivers_past}
 use Rattle.so_kernel.proofs.kernel.Kernel.receivers.Goals as goal

@@ -1,10 +1,7 @@
-use Rattle.std.proofs.Common.{◌≡◌, ℕ, length, true, false, None, refl, sym, ◌∙◌, ap}
-use Rattle.so_ids.specs.declared.Sent.{Sent}
-use Rattle.so_scene.specs.Parts.{agents_from}
+use Rattle.std.proofs.Common.{◌≡◌, length, true, false, refl, sym, ◌∙◌, ap}
 use Rattle.so_history.specs.Coops.{leaving}
 use Rattle.so_history.specs.Delivery.{receivers}
 use Rattle.so_history.proofs.AskedLaws.{reached_leaving}
-use Rattle.so_kernel.specs.Shapes.{Core}
 use Rattle.so_kernel.proofs.ReachLaws.{length_from, reached_staying, missed_staying, missed_leaving}
 use Rattle.so_kernel.proofs.kernel.Kernel.sent.Goals as goal
 

@@ -1,7 +1,5 @@
-use Rattle.std.proofs.Common.{◌≡◌, ◌<◌, Some, sym, ◌∙◌, subst, length}
+use Rattle.std.proofs.Common.{sym, ◌∙◌}
 use Rattle.so_history.proofs.DemandLaws.{picked_of}
-use Rattle.so_kernel.specs.Shapes.{Core}
-use Rattle.so_history.specs.Order.{pick}
 use Rattle.so_kernel.proofs.kernel.Kernel.taking.Goals as goal
 
 pub begin_with-requires : goal.begin_with-requires

@@ -1,4 +1,4 @@
-use Rattle.std.proofs.Common.{◌≡◌, Some, sym, ◌∙◌, ap}
+use Rattle.std.proofs.Common.{sym, ◌∙◌, ap}
 use Rattle.so_history.proofs.ChainLaws.{tidied}
 use Rattle.so_kernel.specs.Gates.{stepped, gated}
 use Rattle.so_kernel.proofs.KeptLaws.{gated_next}

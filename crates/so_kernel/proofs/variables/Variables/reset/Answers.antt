@@ -1,4 +1,4 @@
-use Rattle.std.proofs.Common.{◌≡◌, length, refl, sym, ◌∙◌, ap, arith}
+use Rattle.std.proofs.Common.{sym, ◌∙◌, arith}
 use Rattle.std.proofs.lemmas.List.{length-set}
 use Rattle.so_kernel.proofs.VarLaws.{no_vars, vars_set}
 use Rattle.so_kernel.proofs.variables.Variables.reset.Goals as goal

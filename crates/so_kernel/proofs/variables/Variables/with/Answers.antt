@@ -1,4 +1,4 @@
-use Rattle.std.proofs.Common.{arith, refl, sym, ◌∙◌, ap, ◌++◌, ◌∷◌, []}
+use Rattle.std.proofs.Common.{arith, sym, ◌∙◌}
 use Rattle.so_kernel.proofs.VarLaws.{no_vars, vars_more}
 use Rattle.so_kernel.proofs.variables.Variables.with.Goals as goal
 
