@@ -1,13 +1,17 @@
 -- Where the bodies of a code stand: one after the other, each closed by the End that names it.
-use Rattle.std.specs.Prelude.{ℕ, ◌+◌, Bool, true, false, ◌&&◌, List, [], ◌∷◌, Option, Some, None, if◌then◌else◌}
+use Rattle.std.specs.Prelude.{ℕ, ◌+◌, Bool, true, false, List, [], ◌∷◌, Option, Some, None, nat_eq, if◌then◌else◌}
 use Rattle.so_code.specs.declared.instr.Body.{Body}
-use Rattle.so_code.specs.declared.instr.Body.TheVariants.{Start, Finish}
+use Rattle.so_code.specs.declared.instr.Body.TheVariants.{Start, Finish, Enter, Exit, Row, Thread}
 use Rattle.so_code.specs.declared.instr.Instr.{Instr}
 use Rattle.so_code.specs.declared.instr.Instr.TheVariants.{End}
 
 abbrev pub same_body : Body → Body → Bool
 same_body Start Start = true
 same_body Finish Finish = true
+same_body Thread Thread = true
+same_body (Enter a) (Enter b) = nat_eq a.0 b.0
+same_body (Exit a) (Exit b) = nat_eq a.0 b.0
+same_body (Row a) (Row b) = nat_eq a.0 b.0
 same_body a b = false
 
 abbrev pub is_end : Instr → Bool
@@ -27,10 +31,11 @@ body_from body start place (i ∷ code) =
 abbrev pub body_at : List Instr → Body → Option ℕ
 body_at code body = body_from body 0 0 code
 
--- the code is made of these bodies, in this order
-abbrev pub are_bodies : List Body → List Instr → Bool
-are_bodies [] [] = true
-are_bodies [] (i ∷ code) = false
-are_bodies (b ∷ bodies) [] = false
-are_bodies (b ∷ bodies) (i ∷ code) =
-    if is_end i then ends b i && are_bodies bodies code else are_bodies (b ∷ bodies) code
+-- the bodies of a code, in order
+abbrev pub with_end : Instr → List Body → List Body
+with_end (End body) bodies = body ∷ bodies
+with_end other bodies = bodies
+
+abbrev pub bodies_in : List Instr → List Body
+bodies_in [] = []
+bodies_in (i ∷ code) = with_end i (bodies_in code)

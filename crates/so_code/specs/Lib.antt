@@ -1,4 +1,14 @@
+pub mod Values
 pub mod Bodies
+pub mod Receives
 pub mod Valid
+pub mod Shape
+pub mod Places
 pub mod Machine
 pub mod Running
+pub mod Answers
+pub mod Openings
+pub mod Origins
+pub mod Own
+pub mod Turns
+pub mod Differs

@@ -1,13 +1,13 @@
-//! A checked code, and where its bodies stand.
+//! A checked code, and where it differs from another.
 
-ghost use Rattle.std.specs.Prelude.{◌≡◌, ◌≤◌, length};
-ghost use Rattle.so_code.specs.Bodies.{body_at, same_body, is_end, ends};
-ghost use Rattle.so_code.specs.Valid.{IsCode};
+ghost use Rattle.std.specs.Prelude.{◌≡◌, ◌<◌, ◌≤◌, length, Some, IsNone, IfSome, IsTrue, ◌↔◌};
+ghost use Rattle.so_code.specs.Differs.{IsFirstDifference};
+ghost use Rattle.so_code.specs.Shape.{IsCode};
 
-use crate::instr::{Body, Instr};
+use crate::instr::Instr;
 use std::marker::Model;
 
-/// The code of an agent: its bodies one after the other, each closed by the `End` that names it.
+/// The code of an agent or a plain thread, as the list of its instructions.
 #[derive(Debug, Drop)]
 pub struct Code {
     instrs: Vec<Instr>,
@@ -16,7 +16,7 @@ pub struct Code {
 impl Model for Code {
     ghost use Rattle.std.specs.Prelude.{List};
     ghost use Rattle.so_code.specs.declared.instr.Instr.{Instr};
-    ghost use Rattle.so_code.specs.Valid.{IsCode};
+    ghost use Rattle.so_code.specs.Shape.{IsCode};
 
     ghost Value = { List Instr };
 
@@ -41,46 +41,40 @@ impl Code {
     {
         &self.instrs
     }
-}
 
-/// Where a body begins.
-pub(crate) fn body_at(code: &[Instr], body: Body) -> Option<u32>
-    requires { length code.now ≤ 1024 }
-    ensures { result ≡ body_at code.now body }
-{
-    let mut start = 0;
-    for (place, instr) in code.iter().enumerate() {
-        if ends(body, *instr) {
-            return Some(start);
-        }
-        if is_end(*instr) {
-            start = place as u32 + 1;
-        }
-    }
-    None
-}
-
-fn ends(body: Body, instr: Instr) -> bool
-    ensures { result ≡ ends body instr }
-{
-    match instr {
-        Instr::End { body: other } => same_body(other, body),
-        Instr::Log { text: _, args: _ } => false,
+    /// The number of the first instruction that differs, or the shorter length where one code begins
+    /// the other; None exactly where they are equal.
+    pub fn differs(&self, other: &Code) -> Option<u32>
+        ensures same { IsNone result → self.now ≡ other.now }
+        ensures differs { IfSome result (IsFirstDifference self.now other.now) }
+    {
+        difference(&self.instrs, &other.instrs)
     }
 }
 
-fn is_end(instr: Instr) -> bool
-    ensures { result ≡ is_end instr }
+#[tactic(auto, using(crate::proofs::SameInstrs::sames))]
+fn is_same(a: Instr, b: Instr) -> bool
+    ensures { IsTrue result ↔ (a ≡ b) }
 {
-    matches!(instr, Instr::End { .. })
+    a == b
 }
 
-fn same_body(a: Body, b: Body) -> bool
-    ensures { result ≡ same_body a b }
+#[tactic(auto, using(crate::proofs::SameCodes::codes))]
+fn difference(a: &[Instr], b: &[Instr]) -> Option<u32>
+    requires a { length a.now ≤ 1024 }
+    requires b { length b.now ≤ 1024 }
+    ensures same { IsNone result → a.now ≡ b.now }
+    ensures differs { IfSome result (IsFirstDifference a.now b.now) }
 {
-    match (a, b) {
-        (Body::Start, Body::Start) => true,
-        (Body::Finish, Body::Finish) => true,
-        _ => false,
+    let shorter = a.len().min(b.len());
+    for place in 0..shorter {
+        if !is_same(a[place], b[place]) {
+            return Some(place as u32);
+        }
+    }
+    if a.len() == b.len() {
+        None
+    } else {
+        Some(shorter as u32)
     }
 }

@@ -1,6 +1,6 @@
 use Rattle.std.proofs.Common.{◌≡◌, ◌≤◌, drop}
 use Rattle.so_code.specs.Bodies.{body_from}
-use Rattle.so_code.proofs.code.body_at.Given as goal
+use Rattle.so_code.proofs.bodies.body_at.Given as goal
 
 abbrev pub invariant-loop-place : goal.invariant-loop-place
 invariant-loop-place l =

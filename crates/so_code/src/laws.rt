@@ -1,0 +1,62 @@
+//! What holds of the turns of a code. Each law is the contract of a function that does nothing.
+
+ghost use Rattle.std.specs.Prelude.{◌≡◌, ◌+◌, ◌++◌, List, true, false, length, replicate};
+ghost use Rattle.std.specs.List.{AllByRecursion};
+ghost use Rattle.so_code.specs.declared.effect.Answer.{Answer as AnyAnswer};
+ghost use Rattle.so_code.specs.declared.effect.Answer.TheVariants.{Okay};
+ghost use Rattle.so_code.specs.declared.effect.Effect.{Effect as AnyEffect};
+ghost use Rattle.so_code.specs.declared.effect.Move.TheVariants.{Do};
+ghost use Rattle.so_code.specs.declared.frame.Frame.{Frame as AnyFrame};
+ghost use Rattle.so_code.specs.declared.instr.Cmp.{Cmp as AnyCmp};
+ghost use Rattle.so_code.specs.declared.instr.Operand.{Operand as AnyOperand};
+ghost use Rattle.so_code.specs.declared.instr.Instr.{Instr as AnyInstr};
+ghost use Rattle.so_code.specs.Values.{holds, value};
+ghost use Rattle.so_code.specs.Shape.{IsCode};
+ghost use Rattle.so_code.specs.Machine.{after};
+ghost use Rattle.so_code.specs.Running.{IsFrame};
+ghost use Rattle.so_code.specs.Origins.{Origin};
+ghost use Rattle.so_code.specs.Own.{RunsActs, IsOwnAct, is_own};
+ghost use Rattle.so_code.specs.Turns.{effects_by, effects_in, is_straight, lines_of, is_log, at_place, BeginsWith, first_place, IsIf, GoesOnWith};
+
+/// A turn whose body has no jump asks for the effects of the body's acts, in their order, until an
+/// act or an answer raises an exception.
+pub fn acts_in_order()
+    ensures { (code acts : List AnyInstr) (f : AnyFrame) (answers : List AnyAnswer) → (begins : BeginsWith code acts f) →
+        AllByRecursion (λ i. is_straight i ≡ true) acts →
+        effects_by (after code) answers f ≡ effects_in acts answers (at_place (first_place begins) f) }
+{}
+
+/// A turn whose body has log acts alone writes their lines in their order, with the values that it
+/// began with.
+pub fn lines_in_order()
+    ensures { (code acts : List AnyInstr) (f : AnyFrame) → BeginsWith code acts f →
+        AllByRecursion (λ i. is_log i ≡ true) acts →
+        effects_by (after code) (replicate (length acts) Okay) f ≡ lines_of f acts }
+{}
+
+/// Where its comparison is true, an `if` goes on with the next act.
+pub fn if_goes_on()
+    ensures { (code : List AnyInstr) (f : AnyFrame) (a : AnyOperand) (cmp : AnyCmp) (b : AnyOperand) (passed rest : List AnyInstr) →
+        IsCode code → IsFrame code f → IsIf code f a cmp b passed rest → holds cmp (value f a) (value f b) ≡ true →
+        GoesOnWith code f (f.place + 1) (passed ++ rest) }
+{}
+
+/// Where its comparison is false, an `if` passes over exactly its acts.
+pub fn if_passes_over()
+    ensures { (code : List AnyInstr) (f : AnyFrame) (a : AnyOperand) (cmp : AnyCmp) (b : AnyOperand) (passed rest : List AnyInstr) →
+        IsCode code → IsFrame code f → IsIf code f a cmp b passed rest → holds cmp (value f a) (value f b) ≡ false →
+        GoesOnWith code f (f.place + (length passed + 1)) rest }
+{}
+
+/// Each effect comes from an act of the code, or from a switch, a transfer or a receive.
+pub fn effects_come_from_acts()
+    ensures { (code : List AnyInstr) (f g : AnyFrame) (e : AnyEffect) →
+        IsCode code → IsFrame code f → after code f ≡ (Do e, g) → Origin code e g }
+{}
+
+/// A code without switch and receive asks only for the effects of its own acts.
+pub fn only_own_acts()
+    ensures { (code : List AnyInstr) (f g : AnyFrame) (e : AnyEffect) →
+        IsCode code → AllByRecursion (λ i. is_own i ≡ true) code → IsFrame code f → RunsActs f →
+        after code f ≡ (Do e, g) → IsOwnAct code is_own e g }
+{}
