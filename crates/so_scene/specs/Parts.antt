@@ -1,19 +1,35 @@
 -- The parts of a scene by number, and what a checked scene keeps.
-use Rattle.std.specs.Prelude.{◌≡◌, ℕ, ◌+◌, ◌<◌, ◌≤◌, List, [], length, slice_index_or}
-use Rattle.std.specs.List.{All}
+use Rattle.std.specs.Prelude.{◌≡◌, ℕ, zero, suc, ◌+◌, ◌<◌, ◌≤◌, ◌==◌, pos, List, [], ◌∷◌, length, map, replicate, slice_index_or, bytes_eq, nat_eq, false, Option, None, option_map, if◌then◌else◌}
+use Rattle.std.specs.List.{All, IsDistinct, position}
 use Rattle.so_lists.specs.Lists.{each_below}
 use Rattle.so_ids.specs.declared.AgentId.{AgentId}
 use Rattle.so_ids.specs.declared.CoopId.{CoopId}
+use Rattle.so_ids.specs.declared.MboxId.{MboxId}
+use Rattle.so_ids.specs.declared.MsgId.{MsgId}
+use Rattle.so_ids.specs.declared.RowId.{RowId}
 use Rattle.so_ids.specs.declared.TextId.{TextId}
+use Rattle.so_ids.specs.declared.Target.{Target}
+use Rattle.so_ids.specs.declared.Target.TheVariants.{Mbox, Chain}
 use Rattle.so_code.specs.declared.instr.Instr.{Instr}
-use Rattle.so_code.specs.declared.instr.Instr.TheVariants.{Log, End}
-use Rattle.so_code.specs.Valid.{IsCode}
+use Rattle.so_code.specs.declared.instr.Instr.TheVariants as instr
+use Rattle.so_code.specs.Bodies.{bodies_in}
+use Rattle.so_code.specs.Shape.{IsCode, agent_bodies}
+use Rattle.so_scene.specs.declared.parts.MessageDef.{MessageDef}
 use Rattle.so_scene.specs.declared.parts.CoopDef.{CoopDef}
+use Rattle.so_scene.specs.declared.parts.RowDef.{RowDef}
 use Rattle.so_scene.specs.declared.parts.AgentDef.{AgentDef}
 use Rattle.so_scene.specs.declared.parts.SceneParts.{SceneParts}
 
+-- ---- parts by number
+
+abbrev pub no_message : MessageDef
+no_message = record { name = []; signal = false }
+
+abbrev pub message_of : SceneParts → MsgId → MessageDef
+message_of s m = slice_index_or s.messages m.0 no_message
+
 abbrev pub no_agent : AgentDef
-no_agent = record { name = []; coop = record { 0 = 0 }; code = [] }
+no_agent = record { name = []; coop = record { 0 = 0 }; vars = record { 0 = replicate 16 (pos 0) }; rows = []; code = [] }
 
 abbrev pub agent_of : SceneParts → AgentId → AgentDef
 agent_of s a = slice_index_or s.agents a.0 no_agent
@@ -40,29 +56,87 @@ code_of s a = (agent_of s a).code
 abbrev pub text_of : SceneParts → TextId → List ℕ
 text_of s t = slice_index_or s.texts t.0 []
 
+-- ---- mboxes and rows
+
+-- the direct mbox of an agent has the agent's number
+abbrev pub direct_mbox : AgentId → MboxId
+direct_mbox a = record { 0 = a.0 }
+
+abbrev pub row_number : ℕ → RowId
+row_number k = record { 0 = k }
+
+abbrev pub msg_number : RowDef → ℕ
+msg_number row = row.msg.0
+
+-- the first row for a type
+abbrev pub row_for : List RowDef → MsgId → Option RowId
+row_for rows msg = option_map row_number (position (λ row. msg_number row == msg.0) rows)
+
+-- the row of an agent for a type at a mbox: agents subscribe to their direct mboxes alone
+abbrev pub row_of : SceneParts → AgentId → MboxId → MsgId → Option RowId
+row_of s a mbox msg = if mbox.0 == a.0 then row_for (agent_of s a).rows msg else None
+
+-- ---- what a checked scene keeps
+
+-- a delivery goes to the direct mbox of an agent
+abbrev pub IsTarget : SceneParts → Target → Type 0
+IsTarget s (Mbox mbox) = mbox.0 < length s.agents
+IsTarget s (Chain chain) = ⊥
+
+-- what an instruction names is in the scene, and instructions of later versions don't stand in it
+abbrev pub NamesParts : SceneParts → Instr → Type 0
+NamesParts s (instr.Set to a) = Unit {0}
+NamesParts s (instr.Add to a b) = Unit {0}
+NamesParts s (instr.Sub to a b) = Unit {0}
+NamesParts s (instr.Mul to a b) = Unit {0}
+NamesParts s (instr.If a cmp b count) = Unit {0}
+NamesParts s (instr.Skip count) = Unit {0}
+NamesParts s (instr.Throw a) = Unit {0}
+NamesParts s (instr.Log text args) = text.0 < length s.texts
+NamesParts s (instr.Send target msg args) = IsTarget s target × (msg.0 < length s.messages)
+NamesParts s instr.Stop = Unit {0}
+NamesParts s (instr.End body) = Unit {0}
+NamesParts s other = ⊥
+
 -- the one cooperation, of all agents
 pub record IsCoop (s : SceneParts) (c : CoopDef) : Type 0 where
   pub named : length c.name ≤ 32
   pub first : c.first.0 ≡ 0
   pub count : c.count ≡ length s.agents
 
--- the texts that an instruction names are texts of the scene
-abbrev pub NamesTexts : SceneParts → Instr → Type 0
-NamesTexts s (Log text args) = text.0 < length s.texts
-NamesTexts s (End body) = Unit {0}
+-- the numbers of n rows
+unfoldable pub row_numbers : ℕ → List RowId
+row_numbers n = each_below row_number n
 
+-- an agent of the one cooperation: its rows are of different types of the scene, its code is made of its start, its
+-- finish and the body of each row, and names what is in the scene
 pub record IsAgent (s : SceneParts) (a : AgentDef) : Type 0 where
   pub named : length a.name ≤ 32
   pub coop : a.coop.0 ≡ 0
+  pub vars : length a.vars.0 ≡ 16
+  pub few_rows : length a.rows ≤ 128
+  pub rows : All (λ row. msg_number row < length s.messages) a.rows
+  pub no_twice : IsDistinct nat_eq (map msg_number a.rows)
   pub code : IsCode a.code
-  pub texts : All (NamesTexts s) a.code
+  pub bodies : bodies_in a.code ≡ agent_bodies 0 (row_numbers (length a.rows))
+  pub parts : All (NamesParts s) a.code
+
+abbrev pub message_name : MessageDef → List ℕ
+message_name m = m.name
+
+abbrev pub agent_name : AgentDef → List ℕ
+agent_name a = a.name
 
 -- the parts are those of a scene
 pub record IsScene (s : SceneParts) : Type 0 where
+  pub few_messages : length s.messages ≤ 256
+  pub message_names : IsDistinct bytes_eq (map message_name s.messages)
   pub one_coop : length s.coops ≡ 1
   pub coops : All (IsCoop s) s.coops
   pub some_agent : 0 < length s.agents
   pub few_agents : length s.agents ≤ 4096
   pub agents : All (IsAgent s) s.agents
+  pub agent_names : IsDistinct bytes_eq (map agent_name s.agents)
   pub few_texts : length s.texts ≤ 4096
   pub texts : All (λ t. length t ≤ 64) s.texts
+  pub each_text_once : IsDistinct bytes_eq s.texts

@@ -3,7 +3,14 @@
 use crate::items::Items;
 use crate::words::{Name, Text};
 use so_code::Code;
-use so_ids::{AgentId, CoopId};
+use so_ids::{AgentId, CoopId, MsgId, Vars};
+
+/// A type of messages. A signal carries no values.
+#[derive(Debug, Drop)]
+pub struct MessageDef {
+    pub name: Name,
+    pub signal: bool,
+}
 
 /// A cooperation: its agents are `count` agents from `first` on.
 #[derive(Debug, Drop)]
@@ -13,17 +20,28 @@ pub struct CoopDef {
     pub count: u32,
 }
 
-/// An agent: its cooperation, and the code of its handlers.
+/// A subscription of an agent to a type at its own direct mbox. Row k runs the body `Row(k)` of the
+/// agent's code.
+#[derive(Clone, Copy, Debug, PartialEq, Eq)]
+pub struct RowDef {
+    pub msg: MsgId,
+}
+
+/// An agent: its cooperation, the variables with which it begins, its subscriptions and the code of its
+/// handlers.
 #[derive(Debug, Drop)]
 pub struct AgentDef {
     pub name: Name,
     pub coop: CoopId,
+    pub vars: Vars,
+    pub rows: Items<RowDef>,
     pub code: Code,
 }
 
 /// All parts.
 #[derive(Debug, Drop)]
 pub struct SceneParts {
+    pub messages: Items<MessageDef>,
     pub coops: Items<CoopDef>,
     pub agents: Items<AgentDef>,
     pub texts: Items<Text>,

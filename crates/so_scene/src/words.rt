@@ -1,6 +1,6 @@
 //! Names and texts, in place.
 
-ghost use Rattle.std.specs.Prelude.{◌≡◌, ◌≤◌, length, true, IfSome, IfNone, false};
+ghost use Rattle.std.specs.Prelude.{◌≡◌, ◌≤◌, [], length, true, IfSome, IfNone, false};
 ghost use Rattle.std.specs.List.{list_all};
 ghost use Rattle.so_scene.specs.Words.{is_name, is_text, is_name_byte, is_text_byte};
 
@@ -37,6 +37,15 @@ impl Name {
         match held.try_extend_from_slice(bytes) {
             Ok(()) => Some(Name { held }),
             Err(_) => unreachable!(),
+        }
+    }
+
+    /// No bytes, for what has no name.
+    pub fn none() -> Name
+        ensures { result ≡ [] }
+    {
+        Name {
+            held: ArrayVec::new(),
         }
     }
 
