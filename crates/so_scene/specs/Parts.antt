@@ -78,25 +78,29 @@ row_of s a mbox msg = if mbox.0 == a.0 then row_for (agent_of s a).rows msg else
 
 -- ---- what a checked scene keeps
 
--- a delivery goes to the direct mbox of an agent
-abbrev pub IsTarget : SceneParts → Target → Type 0
-IsTarget s (Mbox mbox) = mbox.0 < length s.agents
-IsTarget s (Chain chain) = ⊥
+-- in a scene of so many agents, a delivery goes to the direct mbox of one of them
+abbrev pub IsTarget : ℕ → Target → Type 0
+IsTarget agents (Mbox mbox) = mbox.0 < agents
+IsTarget agents (Chain chain) = ⊥
 
--- what an instruction names is in the scene, and instructions of later versions don't stand in it
+-- what an instruction names is in a scene of so many agents, messages and texts. Instructions that don't stand here come
+-- in no scene yet
+abbrev pub NamesWithin : ℕ → ℕ → ℕ → Instr → Type 0
+NamesWithin agents messages texts (instr.Set to a) = Unit {0}
+NamesWithin agents messages texts (instr.Add to a b) = Unit {0}
+NamesWithin agents messages texts (instr.Sub to a b) = Unit {0}
+NamesWithin agents messages texts (instr.Mul to a b) = Unit {0}
+NamesWithin agents messages texts (instr.If a cmp b count) = Unit {0}
+NamesWithin agents messages texts (instr.Skip count) = Unit {0}
+NamesWithin agents messages texts (instr.Throw a) = Unit {0}
+NamesWithin agents messages texts (instr.Log text args) = text.0 < texts
+NamesWithin agents messages texts (instr.Send target msg args) = IsTarget agents target × (msg.0 < messages)
+NamesWithin agents messages texts instr.Stop = Unit {0}
+NamesWithin agents messages texts (instr.End body) = Unit {0}
+NamesWithin agents messages texts other = ⊥
+
 abbrev pub NamesParts : SceneParts → Instr → Type 0
-NamesParts s (instr.Set to a) = Unit {0}
-NamesParts s (instr.Add to a b) = Unit {0}
-NamesParts s (instr.Sub to a b) = Unit {0}
-NamesParts s (instr.Mul to a b) = Unit {0}
-NamesParts s (instr.If a cmp b count) = Unit {0}
-NamesParts s (instr.Skip count) = Unit {0}
-NamesParts s (instr.Throw a) = Unit {0}
-NamesParts s (instr.Log text args) = text.0 < length s.texts
-NamesParts s (instr.Send target msg args) = IsTarget s target × (msg.0 < length s.messages)
-NamesParts s instr.Stop = Unit {0}
-NamesParts s (instr.End body) = Unit {0}
-NamesParts s other = ⊥
+NamesParts s i = NamesWithin (length s.agents) (length s.messages) (length s.texts) i
 
 -- the one cooperation, of all agents
 pub record IsCoop (s : SceneParts) (c : CoopDef) : Type 0 where
@@ -104,9 +108,13 @@ pub record IsCoop (s : SceneParts) (c : CoopDef) : Type 0 where
   pub first : c.first.0 ≡ 0
   pub count : c.count ≡ length s.agents
 
--- the numbers of n rows
-unfoldable pub row_numbers : ℕ → List RowId
-row_numbers n = each_below row_number n
+-- the numbers of n rows, from k on
+abbrev pub numbers_from : ℕ → ℕ → List RowId
+numbers_from k zero = []
+numbers_from k (suc n) = row_number k ∷ numbers_from (suc k) n
+
+abbrev pub row_numbers : ℕ → List RowId
+row_numbers n = numbers_from 0 n
 
 -- an agent of the one cooperation: its rows are of different types of the scene, its code is made of its start, its
 -- finish and the body of each row, and names what is in the scene

@@ -18,4 +18,4 @@ pub use parts::{AgentDef, CoopDef, MessageDef, RowDef, SceneParts};
 pub use place::{Field, PlaceStep, ScenePlace};
 pub use print::{put_fault, put_place};
 pub use scene::{Scene, direct_mbox};
-pub use words::{Name, Text};
+pub use words::{Name, Text, is_name, is_text};

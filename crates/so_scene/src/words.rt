@@ -49,6 +49,17 @@ impl Name {
         }
     }
 
+    /// The same name.
+    pub fn copy(&self) -> Name
+        ensures { result ≡ self.now }
+    {
+        let mut held = ArrayVec::new();
+        match held.try_extend_from_slice(self.held.as_slice()) {
+            Ok(()) => Name { held },
+            Err(_) => unreachable!(),
+        }
+    }
+
     /// Its bytes.
     pub fn bytes(&self) -> &[u8]
         ensures value { result.now ≡ self.now }
@@ -100,7 +111,8 @@ impl Text {
     }
 }
 
-fn is_name(bytes: &[u8]) -> bool
+/// Tells whether bytes are a name.
+pub fn is_name(bytes: &[u8]) -> bool
     ensures { result ≡ is_name bytes.now }
 {
     if bytes.is_empty() || bytes.len() > 32 {
@@ -121,7 +133,8 @@ fn is_name_byte(byte: u8) -> bool
     matches!(byte, b'0'..=b'9' | b'A'..=b'Z' | b'a'..=b'z' | b'_')
 }
 
-fn is_text(bytes: &[u8]) -> bool
+/// Tells whether bytes are a text.
+pub fn is_text(bytes: &[u8]) -> bool
     ensures { result ≡ is_text bytes.now }
 {
     if bytes.len() > 64 {

@@ -1,3 +1,3 @@
-pub mod Lists
-pub mod Codes
-pub mod Distinct
+pub mod Runs
+pub mod Shapes
+pub mod Written
