@@ -1,3 +1,6 @@
+pub mod Codes
+pub mod Ends
+pub mod Passed
 pub mod Runs
 pub mod Shapes
 pub mod Written

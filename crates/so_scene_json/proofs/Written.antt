@@ -11,6 +11,8 @@ use Rattle.so_scene.specs.declared.fault.SceneFault.{SceneFault}
 use Rattle.so_scene.specs.declared.parts.RowDef.{RowDef}
 use Rattle.so_scene_json.specs.declared.declare.Declared.{Declared}
 use Rattle.so_scene_json.specs.declared.write.Writer.{Writer}
+use Rattle.so_code.specs.declared.instr.Body.TheVariants.{Row}
+use Rattle.so_scene_json.specs.Visits.{narrow}
 use Rattle.so_scene_json.specs.Build.{row_body, body_written, rows_written, rows_from, row_of}
 use Rattle.so_scene_json.specs.Writer.{act_written, acts_written}
 
@@ -48,10 +50,12 @@ rows_here : (names : Declared) (w : Writer) (vs : List Value) (i : ℕ) (v : Val
 unfolding rows_written
 rows_here names w vs i v h = rw (add-one, drop-cons vs i v)
 
-pub rows_go : (all : Writer) (names : Declared) (w next : Writer) (vs : List Value) (i : ℕ) (v x : Value) (found : Option Data) → i < length vs → x ≡ get_or vs i v
-    → all ≡ rows_written names i w (items_view (drop i vs)) → found ≡ get (codes "do") (view x) → ok (body_written names (row_body i) w found) ≡ Ok next → all ≡ rows_written names (i + 1) next (items_view (drop (i + 1) vs))
-rows_go all names w next vs i v x found h y a f e =
-    a ∙ rows_here names w vs i v h ∙ ap (λ q. rows_written names (i + 1) q (items_view (drop (i + 1) vs))) (ap (λ q. body_written names (row_body i) w (get (codes "do") (view q))) (sym y) ∙ ap (body_written names (row_body i) w) (sym f) ∙ ok_same _ _ e)
+pub rows_go : (all : Writer) (names : Declared) (w next : Writer) (vs : List Value) (i k : ℕ) (v x : Value) (found : Option Data) → i < length vs → x ≡ get_or vs i v
+    → all ≡ rows_written names i w (items_view (drop i vs)) → found ≡ get (codes "do") (view x) → k ≡ narrow i → ok (body_written names (Row (record { 0 = k })) w found) ≡ Ok next → all ≡ rows_written names (i + 1) next (items_view (drop (i + 1) vs))
+rows_go all names w next vs i k v x found h y a f n e =
+    a ∙ rows_here names w vs i v h ∙ ap (λ q. rows_written names (i + 1) q (items_view (drop (i + 1) vs)))
+    (ap (λ q. body_written names (row_body i) w (get (codes "do") (view q))) (sym y) ∙ ap (body_written names (row_body i) w) (sym f)
+    ∙ ap (λ q. body_written names (Row (record { 0 = q })) w found) (sym n) ∙ ok_same _ _ e)
 
 pub rows_end : (all : Writer) (names : Declared) (w : Writer) (vs : List Value) (i : ℕ) → length vs ≤ i → all ≡ rows_written names i w (items_view (drop i vs)) → ok all ≡ Ok w
 unfolding rows_written
