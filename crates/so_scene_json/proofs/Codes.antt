@@ -262,7 +262,7 @@ wrote_act names rest w d = wrote_parts names rest w (act_parts d)
 
 -- ---- a list of acts
 
-names_grow : (agents messages t u : ℕ) (i : Instr) → t ≤ u → NamesWithin agents messages t i → NamesWithin agents messages u i
+pub names_grow : (agents messages t u : ℕ) (i : Instr) → t ≤ u → NamesWithin agents messages t i → NamesWithin agents messages u i
 names_grow agents messages t u (instr.Log text args) l h = omega (arith, l, h)
 names_grow agents messages t u other l h = h
 
@@ -445,9 +445,6 @@ agent_grows names w d = (wrote_agent names w d).grows
 
 pub agent_texts : (names : Declared) (w : Writer) (d : Data) → AllByRecursion (λ t. is_text t ≡ true) w.texts → AllByRecursion (λ t. is_text t ≡ true) (agent_written names w d).texts
 agent_texts names w d = (wrote_agent names w d).texts
-
-pub names_grow_in : (agents messages t u : ℕ) (is : List Instr) → t ≤ u → AllByRecursion (NamesWithin agents messages t) is → AllByRecursion (NamesWithin agents messages u) is
-names_grow_in = names_grow_all
 
 abbrev ok : {S : Type 0} → S → Result S SceneFault
 ok x = Ok x

@@ -20,7 +20,7 @@ use Rattle.so_scene_json.specs.declared.table.Form.TheVariants as form
 use Rattle.so_scene_json.specs.declared.table.Rule.{Rule}
 use Rattle.so_scene_json.specs.declared.values.Trouble.{Trouble}
 use Rattle.so_scene_json.specs.declared.values.Trouble.TheVariants.{WrongShape, UnknownName, OutOfRange}
-use Rattle.so_scene_json.specs.Table.{required, optional}
+use Rattle.so_scene_json.specs.Table.{required, optional, later}
 use Rattle.so_scene_json.specs.Values.{checked, name_of, trouble, text_or_empty, string_in, ◌else◌}
 use Rattle.so_scene_json.specs.Visits.{Visit, enters, tries, leaves, Place, visits, fields_of, field_visits, items_from, at_item, list_of, run, ◌>>=◌}
 use Rattle.so_scene_json.specs.Shape.{shape_step, shape_fault, unless_faulty, field_fault, form_fault, trouble_at, list_trouble, first_of, object_trouble}
@@ -184,3 +184,86 @@ unfolding visits fields_of field_visits
 coop_fine names place d a =
     let agents = start_of (IsFine names) (items_from (visits 2 object.Agent) (place ++ Key field.Agents ∷ []) 0 (list_of (get (codes "agents") d))) (leaves object.Coop place d ∷ []) a.1.1.1.1.1.1 in
     (tt, (tt, (tt, (tt, (tt, (tt, at_end names (items_from (visits 2 object.Agent) (place ++ Key field.Agents ∷ []) 0 (list_of (get (codes "agents") d))) object.Coop place d (items_fine names (visits 2 object.Agent) (agent_fine names) (place ++ Key field.Agents ∷ []) 0 (list_of (get (codes "agents") d)) agents)))))))
+
+pub scene_fine : (names : Declared) (d : Data) → AllByRecursion (IsFine names) (visits 4 object.Scene [] d) → AllByRecursion (EntersFine names) (visits 4 object.Scene [] d)
+unfolding visits fields_of field_visits
+scene_fine names d a =
+    let ms = items_from (visits 3 object.Message) (Key field.Messages ∷ []) 0 (list_of (get (codes "messages") d)) in
+    let cs = items_from (visits 3 object.Coop) (Key field.Coops ∷ []) 0 (list_of (get (codes "coops") d)) in
+    let threads = tries (later field.Threads) (Key field.Threads ∷ []) (get (codes "threads") d) ∷ [] in
+    let tail = tries (later field.Mboxes) (Key field.Mboxes ∷ []) (get (codes "mboxes") d) ∷ tries (later field.Chains) (Key field.Chains ∷ []) (get (codes "chains") d) ∷ tries (later field.Dispatchers) (Key field.Dispatchers ∷ []) (get (codes "dispatchers") d) ∷ tries (optional field.Coops (form.Objects object.Coop (Some 1024))) (Key field.Coops ∷ []) (get (codes "coops") d) ∷ (cs ++ threads) in
+    let rest = back (IsFine names) ms tail (front (IsFine names) (ms ++ tail) (leaves object.Scene [] d ∷ []) a.1.1.1.1.1) in
+    let coops = front (IsFine names) cs threads rest.1.1.1.1 in
+    (tt, (tt, (tt, (tt, (tt,
+    each-append (EntersFine names) (ms ++ tail) (leaves object.Scene [] d ∷ [])
+    (each-append (EntersFine names) ms tail (units_items names (visits 3 object.Message) (message_units names) (Key field.Messages ∷ []) 0 (list_of (get (codes "messages") d)))
+    (tt, (tt, (tt, (tt, each-append (EntersFine names) cs threads (items_fine names (visits 3 object.Coop) (coop_fine names) (Key field.Coops ∷ []) 0 (list_of (get (codes "coops") d)) coops) (tt, tt))))))
+    (tt, tt))))))
+
+-- ---- how many messages there are
+
+abbrev pub is_message : Visit → ℕ
+is_message (enters object.Message place d) = 1
+is_message (enters other place d) = 0
+is_message (tries rule place found) = 0
+is_message (leaves kind place d) = 0
+
+abbrev pub messages_in : List Visit → ℕ
+messages_in [] = 0
+messages_in (v ∷ vs) = is_message v + messages_in vs
+
+messages-append : (vs us : List Visit) → messages_in (vs ++ us) ≡ messages_in vs + messages_in us
+messages-append [] us = omega arith
+messages-append (v ∷ vs) us = omega (arith, messages-append vs us)
+
+none_in_items : (inside : Place → Data → List Visit) → ((place : Place) (d : Data) → messages_in (inside place d) ≡ 0) → (place : Place) (i : ℕ) (ds : Items) → messages_in (items_from inside place i ds) ≡ 0
+unfolding items_from
+none_in_items inside h place i no_items = refl
+none_in_items inside h place i (item d ds) = omega (arith, messages-append (inside (at_item place i) d) (items_from inside place (suc i) ds), h (at_item place i) d, none_in_items inside h place (suc i) ds)
+
+one_in_items : (inside : Place → Data → List Visit) → ((place : Place) (d : Data) → messages_in (inside place d) ≡ 1) → (place : Place) (i : ℕ) (ds : Items) → messages_in (items_from inside place i ds) ≡ items_len ds
+unfolding items_from
+one_in_items inside h place i no_items = refl
+one_in_items inside h place i (item d ds) = omega (arith, messages-append (inside (at_item place i) d) (items_from inside place (suc i) ds), h (at_item place i) d, one_in_items inside h place (suc i) ds)
+
+one_in_message : (place : Place) (d : Data) → messages_in (visits 3 object.Message place d) ≡ 1
+unfolding visits fields_of field_visits
+one_in_message place d = refl
+
+none_in_row : (place : Place) (d : Data) → messages_in (visits 1 object.Row place d) ≡ 0
+unfolding visits fields_of field_visits
+none_in_row place d = refl
+
+none_at_end : (vs : List Visit) (kind : ObjectKind) (place : Place) (d : Data) → messages_in vs ≡ 0 → messages_in ((vs ++ []) ++ leaves kind place d ∷ []) ≡ 0
+none_at_end vs kind place d e = omega (arith, e, messages-append (vs ++ []) (leaves kind place d ∷ []), messages-append vs [])
+
+none_in_agent : (place : Place) (d : Data) → messages_in (visits 2 object.Agent place d) ≡ 0
+unfolding visits fields_of field_visits
+none_in_agent place d =
+    let none = none_at_end (items_from (visits 1 object.Row) (place ++ Key field.On ∷ []) 0 (rows_in d)) object.Agent place d (none_in_items (visits 1 object.Row) none_in_row (place ++ Key field.On ∷ []) 0 (rows_in d)) in
+    omega (arith, none)
+
+none_in_coop : (place : Place) (d : Data) → messages_in (visits 3 object.Coop place d) ≡ 0
+unfolding visits fields_of field_visits
+none_in_coop place d =
+    let agents = list_of (get (codes "agents") d) in
+    let none = none_at_end (items_from (visits 2 object.Agent) (place ++ Key field.Agents ∷ []) 0 agents) object.Coop place d (none_in_items (visits 2 object.Agent) none_in_agent (place ++ Key field.Agents ∷ []) 0 agents) in
+    omega (arith, none)
+
+messages_of_scene : (d : Data) → messages_in (visits 4 object.Scene [] d) ≡ items_len (list_of (get (codes "messages") d))
+unfolding visits fields_of field_visits
+messages_of_scene d =
+    let ms = items_from (visits 3 object.Message) (Key field.Messages ∷ []) 0 (list_of (get (codes "messages") d)) in
+    let cs = items_from (visits 3 object.Coop) (Key field.Coops ∷ []) 0 (list_of (get (codes "coops") d)) in
+    let threads = tries (later field.Threads) (Key field.Threads ∷ []) (get (codes "threads") d) ∷ [] in
+    let tail = tries (later field.Mboxes) (Key field.Mboxes ∷ []) (get (codes "mboxes") d) ∷ tries (later field.Chains) (Key field.Chains ∷ []) (get (codes "chains") d) ∷ tries (later field.Dispatchers) (Key field.Dispatchers ∷ []) (get (codes "dispatchers") d) ∷ tries (optional field.Coops (form.Objects object.Coop (Some 1024))) (Key field.Coops ∷ []) (get (codes "coops") d) ∷ (cs ++ threads) in
+    omega (arith, messages-append (ms ++ tail) (leaves object.Scene [] d ∷ []), messages-append ms tail, messages-append cs threads,
+    one_in_items (visits 3 object.Message) one_in_message (Key field.Messages ∷ []) 0 (list_of (get (codes "messages") d)),
+    none_in_items (visits 3 object.Coop) none_in_coop (Key field.Coops ∷ []) 0 (list_of (get (codes "coops") d)))
+
+limited_messages : (names : Declared) (d : Data) → AllByRecursion (IsFine names) (visits 4 object.Scene [] d) → items_len (list_of (get (codes "messages") d)) ≤ 256
+unfolding visits fields_of field_visits
+limited_messages names d a = limit_field (optional field.Messages (form.Objects object.Message (Some 256))) object.Message 256 (Key field.Messages ∷ []) (get (codes "messages") d) refl a.1.1.1.1.0.0
+
+pub few_messages : (names : Declared) (d : Data) → AllByRecursion (IsFine names) (visits 4 object.Scene [] d) → messages_in (visits 4 object.Scene [] d) ≤ 256
+few_messages names d a = omega (arith, messages_of_scene d, limited_messages names d a)

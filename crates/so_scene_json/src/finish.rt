@@ -1,7 +1,7 @@
 //! What is tried after the fourth pass, and the scene of the parts.
 
-ghost use Rattle.std.specs.Prelude.{◌≡◌, ◌<◌, ◌+◌, drop, ◌∷◌, [], map, string_bytes, length, true, false, Ok, nat_eq};
-ghost use Rattle.std.specs.List.{All, list_all, list_any};
+ghost use Rattle.std.specs.Prelude.{◌≡◌, ◌<◌, ◌≤◌, ◌+◌, drop, ◌∷◌, [], map, string_bytes, length, bytes_eq, true, false, Ok};
+ghost use Rattle.std.specs.List.{All, IsDistinct, list_all};
 ghost use Rattle.so_scene.specs.Parts.{msg_number};
 ghost use Rattle.so_scene.specs.Words.{is_text};
 ghost use Rattle.so_scene_json.specs.Kept.{IsBuilt};
@@ -90,14 +90,17 @@ fn text_list(alloc: Global, names: &[String]) -> Result<Items<Text>, SceneRefusa
 /// The texts as texts of a scene.
 fn texts_of(alloc: Global, names: &Names) -> Result<Items<Text>, SceneRefusal>
     requires { All (λ t. is_text t ≡ true) names.now }
-    ensures { Returns names.now result }
+    ensures texts { Returns names.now result }
+    ensures distinct { IsDistinct bytes_eq names.now }
 {
     text_list(alloc, names.as_slice())
 }
 
 fn coops_of(alloc: Global, name: Name, count: usize) -> Result<Items<CoopDef>, SceneRefusal>
-    ensures { Returns (record { name = name; first = record { 0 = 0 }; count = narrow count } ∷ []) result }
+    ensures coops { Returns (record { name = name; first = record { 0 = 0 }; count = narrow count } ∷ []) result }
+    ensures named { length name ≤ 32 }
 {
+    let _bytes = name.bytes();
     let mut coops = Items::new(alloc);
     match coops.push(CoopDef {
         name,
