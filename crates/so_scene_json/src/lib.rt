@@ -20,3 +20,6 @@ mod walk;
 mod write;
 
 pub use read::read_scene;
+
+#[cfg(test)]
+mod tests;
