@@ -1,6 +1,6 @@
 -- A turn begins with the first act of the body that its opening names.
-use Rattle.std.proofs.Common.{◌≡◌, ℕ, suc, ◌+◌, ◌<◌, Bool, true, false, List, [], ◌∷◌, ◌++◌, length, drop, Option, Some, None, arith, refl, sym, ap, ◌∙◌, subst, length-append, append_assoc}
-use Rattle.std.specs.Prelude.{map, replicate, nat_eq, if◌then◌else◌}
+use Rattle.std.proofs.Common.{◌≡◌, ℕ, suc, ◌+◌, Bool, true, false, List, [], ◌∷◌, ◌++◌, length, drop, Some, arith, refl, sym, ap, ◌∙◌, length-append, append_assoc, zero, ◌<◌, Option, subst}
+use Rattle.std.specs.Prelude.{replicate, IsSome, slice_index_or, if◌then◌else◌}
 use Rattle.std.specs.List.{AllByRecursion}
 use Rattle.std.proofs.lemmas.Bool.{eq-eqb}
 use Rattle.std.proofs.Math.Seq.{drop-append_seam}
@@ -8,18 +8,18 @@ use Rattle.so_code.specs.declared.instr.Body.{Body}
 use Rattle.so_code.specs.declared.instr.Body.TheVariants.{Start, Finish, Enter, Exit, Row, Thread}
 use Rattle.so_code.specs.declared.instr.Instr.{Instr}
 use Rattle.so_code.specs.declared.instr.Instr.TheVariants as instr
-use Rattle.so_code.specs.declared.effect.Effect.{Effect}
 use Rattle.so_code.specs.declared.effect.Answer.{Answer}
 use Rattle.so_code.specs.declared.effect.Answer.TheVariants.{Okay}
 use Rattle.so_code.specs.declared.frame.Frame.{Frame}
 use Rattle.so_code.specs.declared.frame.Todo.TheVariants as todo
-use Rattle.so_code.specs.Bodies.{same_body, is_end, ends, body_from, body_at}
+use Rattle.so_code.specs.Bodies.{same_body, is_end, ends, body_from, body_at, bodies_in}
 use Rattle.so_code.specs.Receives.{is_receive}
 use Rattle.so_code.specs.Valid.{is_act}
-use Rattle.so_code.specs.Shape.{Handler, Act, Part, plain, receiving, handlers_code, act_code, acts_code, flatten, cases_of, AreActsBefore, IsHandler, AreActs, IsPart, IsCode}
-use Rattle.so_code.specs.Machine.{goes_on, open_step, step_of, step, after}
+use Rattle.so_code.specs.Shape.{Handler, Act, Part, plain, receiving, handlers_code, acts_code, flatten, plain_part, cases_of, AreActsBefore, IsHandler, AreActs, IsPart}
+use Rattle.so_code.specs.Machine.{open_step, step_of, after}
 use Rattle.so_code.specs.Places.{HasPlaces}
 use Rattle.so_code.specs.Running.{IsFrame}
+use Rattle.so_code.specs.Openings.{HasBody}
 use Rattle.so_code.specs.Turns.{effects_by, is_straight, effects_in, is_log, lines_of, at_place, BeginsWith, first_place}
 use Rattle.so_code.proofs.MoveLaws.{after_silent}
 use Rattle.so_code.proofs.ShapeLaws.{places-code}
@@ -104,6 +104,23 @@ body_stands front p rest =
     ap (λ (l : List Instr). drop (length (flatten front)) l) (flatten-append front (p ∷ rest))
     ∙ drop-append_seam (flatten front) (flatten (p ∷ rest))
 
+-- a body that the code has is found
+found_here : (body b : Body) (start k : ℕ) (bodies : List Body) (further : Option ℕ) (t : Bool) → same_body b body ≡ t → k < suc (length bodies) → slice_index_or (b ∷ bodies) k body ≡ body → ((n : ℕ) → n < length bodies → slice_index_or bodies n body ≡ body → IsSome further) → IsSome (if t then Some start else further)
+found_here body b start k bodies further true e l is more = refl
+found_here body b start zero bodies further false e l is more =
+    let same : same_body body body ≡ false = subst (λ (x : Body). same_body x body ≡ false) is e in
+    let self : same_body body body ≡ true = same_self body in
+    absurd cc
+found_here body b start (suc k) bodies further false e l is more = more k (omega arith) is
+
+found_in : (code : List Instr) (body : Body) (start place k : ℕ) → k < length (bodies_in code) → slice_index_or (bodies_in code) k body ≡ body → IsSome (body_from body start place code)
+found_in [] body start place k l is = absurd (omega arith)
+found_in (instr.End b ∷ code) body start place k l is = found_here body b start k (bodies_in code) (body_from body (place + 1) (place + 1) code) (same_body b body) refl l is (λ n ln isn. found_in code body (place + 1) (place + 1) n ln isn)
+found_in (other ∷ code) body start place k l is = found_in code body start (place + 1) k l is
+
+pub has_body_at : (code : List Instr) (body : Body) → HasBody code body → IsSome (body_at code body)
+has_body_at code body has = found_in code body 0 0 has.0 has.1 has.2
+
 -- ---- a turn from its beginning
 
 -- a turn that opens a body moves as from the body's first act
@@ -118,14 +135,14 @@ open_effects code f g (a ∷ answers) same = rw same refl
 -- where the acts of the body that a turn begins with stand
 begun_stands : (code acts : List Instr) (f : Frame) (begins : BeginsWith code acts f) → drop (first_place begins) code ≡ acts ++ instr.End begins.body ∷ flatten begins.rest
 begun_stands code acts f begins =
-    let p : Part = record { body = begins.body; acts = map plain acts } in
+    let p : Part = plain_part begins.body acts in
     ap (λ (l : List Instr). drop (length (flatten begins.front)) l) begins.made
     ∙ (body_stands begins.front p begins.rest
     ∙ ap (λ (l : List Instr). l ++ instr.End begins.body ∷ flatten begins.rest) (plain_code acts))
 
 begun_moves : (code acts : List Instr) (f : Frame) (begins : BeginsWith code acts f) → after code f ≡ after code (at_place (first_place begins) f)
 begun_moves code acts f begins =
-    let p : Part = record { body = begins.body; acts = map plain acts } in
+    let p : Part = plain_part begins.body acts in
     let found : body_at code begins.body ≡ Some (length (flatten begins.front)) =
     ap (λ (l : List Instr). body_at l begins.body) begins.made ∙ body_found begins.front p begins.rest begins.each begins.are begins.first in
     opens_body code f begins.body (length (flatten begins.front)) (places-code code begins.is_code) begins.frame begins.opens found

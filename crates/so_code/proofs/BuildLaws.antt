@@ -1,5 +1,5 @@
 -- How a code is made: from its parts, and a list of acts act by act.
-use Rattle.std.proofs.Common.{◌≡◌, ℕ, zero, suc, ◌+◌, ◌<◌, ◌≤◌, Bool, true, false, List, [], ◌∷◌, ◌++◌, length, take, arith, refl, sym, ap, ◌∙◌, subst, length-append, append_assoc}
+use Rattle.std.proofs.Common.{◌≡◌, ℕ, zero, suc, ◌≤◌, Bool, true, false, List, [], ◌∷◌, ◌++◌, length, take, arith, refl, sym, ap, ◌∙◌, subst, length-append, append_assoc}
 use Rattle.std.specs.Prelude.{map}
 use Rattle.std.specs.List.{AllByRecursion}
 use Rattle.so_code.specs.declared.instr.Body.{Body}
@@ -7,8 +7,8 @@ use Rattle.so_code.specs.declared.instr.Instr.{Instr}
 use Rattle.so_code.specs.declared.instr.Instr.TheVariants as instr
 use Rattle.so_code.specs.Bodies.{with_end, bodies_in}
 use Rattle.so_code.specs.Receives.{is_receive}
-use Rattle.so_code.specs.Valid.{HasParts, jump, is_act, is_switch}
-use Rattle.so_code.specs.Shape.{Handler, Act, Part, plain, receiving, handlers_code, act_code, acts_code, flatten, cases_of, IsActBefore, AreActsBefore, IsHandler, PassesOver, may_switch, IsPlainAct, IsReceiving, IsAct, AreActs, IsPart, AreInOrder, body_of, IsCode}
+use Rattle.so_code.specs.Valid.{jump, is_act}
+use Rattle.so_code.specs.Shape.{Handler, Act, Part, plain, receiving, handlers_code, acts_code, flatten, plain_part, cases_of, IsActBefore, AreActsBefore, IsHandler, PassesOver, may_switch, AreActs, IsPart, AreInOrder, body_of, IsCode}
 
 -- fine parts in order are a code
 pub structured : (parts : List Part) → length (flatten parts) ≤ 1024 → AreInOrder (map body_of parts) → AllByRecursion IsPart parts → IsCode (flatten parts)
@@ -41,16 +41,21 @@ plain_passes count acts l = record {
 pub acts_before-add : (switches : Bool) (more : ℕ) (acts : List Instr) (i : Instr) → AreActsBefore switches (suc more) acts → IsActBefore switches i more → AreActsBefore switches more (acts ++ i ∷ [])
 acts_before-add switches more [] i are one =
     (record { act = one.act; switch = one.switch; parts = one.parts; jumps = omega (arith, one.jumps) }, tt)
-acts_before-add switches more (j ∷ rest) i are one =
-    (record { act = are.0.act; switch = are.0.switch; parts = are.0.parts; jumps = omega (arith, are.0.jumps, length-append rest (i ∷ [])) },
-    acts_before-add switches more rest i are.1 one)
+acts_before-add switches more (j ∷ rest) i are one = (
+  record { act = are.0.act; switch = are.0.switch; parts = are.0.parts; jumps = omega (arith, are.0.jumps, length-append rest (i ∷ [])) },
+  acts_before-add switches more rest i are.1 one,
+)
 
 -- acts of one instruction each, after which none follows, are a body's acts
 pub plain_acts : (body : Body) (acts : List Instr) → AreActsBefore (may_switch body) 0 acts → AreActs body (map plain acts)
 plain_acts body [] are = tt
-plain_acts body (i ∷ rest) are =
-    (record { act = are.0.act; switch = are.0.switch; parts = are.0.parts; jumps = plain_passes (jump i) rest (omega (arith, are.0.jumps)) },
-    plain_acts body rest are.1)
+plain_acts body (i ∷ rest) are = (
+  record { act = are.0.act; switch = are.0.switch; parts = are.0.parts; jumps = plain_passes (jump i) rest (omega (arith, are.0.jumps)) },
+  plain_acts body rest are.1,
+)
+
+pub plain_part_code : (body : Body) (acts : List Instr) (rest : List Part) → flatten (plain_part body acts ∷ rest) ≡ acts ++ instr.End body ∷ flatten rest
+plain_part_code body acts rest = ap (λ (l : List Instr). l ++ instr.End body ∷ flatten rest) (plain_code acts)
 
 -- ---- the bodies of a code
 

@@ -1,5 +1,5 @@
 -- A turn of a code without switch and receive asks only for the effects of its own acts.
-use Rattle.std.proofs.Common.{◌≡◌, ℕ, zero, suc, ◌+◌, ◌-◌, ℤ, Bool, true, false, List, [], ◌∷◌, Option, Some, None, arith, refl, sym, ap, ◌∙◌, subst}
+use Rattle.std.proofs.Common.{◌≡◌, ℕ, zero, suc, ℤ, Bool, true, false, List, [], ◌∷◌, Option, Some, None, arith, refl, sym, ap, ◌∙◌, subst}
 use Rattle.std.specs.Prelude.{slice_get, nat_lt, if◌then◌else◌, ◌+ℤ◌, ◌-ℤ◌, ◌*ℤ◌}
 use Rattle.std.specs.List.{AllByRecursion}
 use Rattle.std.proofs.lemmas.Bool.{ltb-true}
@@ -9,10 +9,9 @@ use Rattle.so_ids.specs.declared.Put.{Put}
 use Rattle.so_ids.specs.declared.Put.TheVariants as put_is
 use Rattle.so_ids.specs.declared.Opening.{Opening}
 use Rattle.so_ids.specs.declared.Opening.TheVariants as opening
-use Rattle.so_ids.specs.declared.Chosen.{Chosen}
 use Rattle.so_ids.specs.declared.Chosen.TheVariants as chosen
 use Rattle.so_code.specs.declared.instr.Body.{Body}
-use Rattle.so_code.specs.declared.instr.Body.TheVariants.{Start, Finish, Enter, Exit, Row, Thread}
+use Rattle.so_code.specs.declared.instr.Body.TheVariants.{Enter, Exit}
 use Rattle.so_code.specs.declared.instr.Dest.{Dest}
 use Rattle.so_code.specs.declared.instr.Dest.TheVariants.{Var as ToVar, Temp as ToTemp}
 use Rattle.so_code.specs.declared.instr.Instr.{Instr}
@@ -22,17 +21,17 @@ use Rattle.so_code.specs.declared.effect.Effect.TheVariants as effect
 use Rattle.so_code.specs.declared.effect.Answer.{Answer}
 use Rattle.so_code.specs.declared.effect.Answer.TheVariants as answer
 use Rattle.so_code.specs.declared.effect.Move.{Move}
-use Rattle.so_code.specs.declared.effect.Move.TheVariants.{Do, Done, Fail}
+use Rattle.so_code.specs.declared.effect.Move.TheVariants.{Do}
 use Rattle.so_code.specs.declared.frame.Frame.{Frame}
 use Rattle.so_code.specs.declared.frame.Todo.{Todo}
 use Rattle.so_code.specs.declared.frame.Todo.TheVariants as todo
-use Rattle.so_code.specs.Values.{in_range, holds, value, put}
+use Rattle.so_code.specs.Values.{in_range, value, put}
 use Rattle.so_code.specs.Bodies.{body_at}
 use Rattle.so_code.specs.Receives.{is_receive}
 use Rattle.so_code.specs.Machine.{Step, goes_on, next_by, put_if, plan_left, with_todo, ran_one, is_done, ended, act, act_at, open_step, step_of, step, go_on, first_move, steps, after}
-use Rattle.so_code.specs.Answers.{acted, acted_with, said, armed, put_done, sent, subscribed, registered, answered_to, answered_in, answered}
+use Rattle.so_code.specs.Answers.{acted_with, said, armed, put_done, sent, subscribed, registered, answered_to, answered_in, answered}
 use Rattle.so_code.specs.Openings.{begun}
-use Rattle.so_code.specs.Places.{HasPlaces, IsAt, IsReceiveAt}
+use Rattle.so_code.specs.Places.{HasPlaces, IsAt}
 use Rattle.so_code.specs.Running.{IsFrame}
 use Rattle.so_code.specs.Origins.{Origin}
 use Rattle.so_code.specs.Origins as origin

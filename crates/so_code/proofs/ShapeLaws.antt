@@ -1,36 +1,19 @@
 -- What the structure of a code says of its places.
-use Rattle.std.proofs.Common.{◌≡◌, ℕ, zero, suc, ◌+◌, ◌<◌, ◌≤◌, ⊎_elim, inl, inr, Bool, true, false, List, [], ◌∷◌, ◌++◌, length, drop, take, Some, None, arith, refl, sym, ap, ◌∙◌, subst, length-append, append_assoc}
+use Rattle.std.proofs.Common.{◌≡◌, ℕ, zero, suc, ◌+◌, ◌<◌, ◌≤◌, ⊎_elim, Bool, true, false, List, [], ◌∷◌, ◌++◌, length, drop, take, Some, arith, refl, sym, ap, ◌∙◌, subst, length-append, append_assoc}
 use Rattle.std.proofs.Math.Seq.{drop-append-add}
 use Rattle.std.proofs.lemmas.Bool.{cases_lt}
-use Rattle.std.proofs.lemmas.Option.{slice_get_within}
 use Rattle.std.specs.Prelude.{slice_get}
 use Rattle.std.specs.List.{AllByRecursion}
+use Rattle.so_code.proofs.TwoLists.{get_left, IsFurther, get_right}
 use Rattle.so_code.specs.declared.instr.Body.{Body}
 use Rattle.so_code.specs.declared.instr.Instr.{Instr}
 use Rattle.so_code.specs.declared.instr.Instr.TheVariants as instr
 use Rattle.so_code.specs.Receives.{is_receive, is_case, is_back, handlers, past}
 use Rattle.so_code.specs.Valid.{HasParts, jump, is_act, is_switch}
-use Rattle.so_code.specs.Shape.{Handler, Act, Part, plain, receiving, handlers_code, act_code, acts_code, flatten, cases_of, IsActBefore, AreActsBefore, IsHandler, PassesOver, IsPlainAct, IsReceiving, IsAct, AreActs, IsPart, IsCode}
-use Rattle.so_code.specs.Places.{reach, is_plain, IsAt, IsReceiveAt, IsIn, HasReceive, HasPlaces}
+use Rattle.so_code.specs.Shape.{Handler, Act, Part, plain, receiving, handlers_code, act_code, acts_code, flatten, cases_of, AreActsBefore, IsHandler, PassesOver, IsPlainAct, IsReceiving, IsAct, AreActs, IsPart, IsCode}
+use Rattle.so_code.specs.Places.{reach, is_plain, IsAt, HasReceive, HasPlaces}
 
--- ---- two lists, one after the other
-
-pub get_left : (xs ys : List Instr) (k : ℕ) → k < length xs → slice_get (xs ++ ys) k ≡ slice_get xs k
-get_left [] ys k l = absurd (omega arith)
-get_left (x ∷ xs) ys zero l = refl
-get_left (x ∷ xs) ys (suc k) l = get_left xs ys k (omega arith)
-
-pub record IsFurther (xs ys : List Instr) (k : ℕ) (i : Instr) : Type 0 where
-  pub rest : ℕ
-  pub sum : k ≡ length xs + rest
-  pub here : slice_get ys rest ≡ Some i
-
-pub get_right : (xs ys : List Instr) (k : ℕ) (i : Instr) → length xs ≤ k → slice_get (xs ++ ys) k ≡ Some i → IsFurther xs ys k i
-get_right [] ys k i l e = record { rest = k; sum = omega arith; here = e }
-get_right (x ∷ xs) ys zero i l e = absurd (omega arith)
-get_right (x ∷ xs) ys (suc k) i l e =
-    let more = get_right xs ys k i (omega arith) e in
-    record { rest = more.rest; sum = omega (arith, more.sum); here = more.here }
+-- ---- the place after a receive
 
 past_shift : (xs code : List Instr) (r : ℕ) → past (xs ++ code) (length xs + r) ≡ length xs + past code r
 past_shift xs code r =

@@ -1,12 +1,12 @@
 -- A body without a jump asks for the effects of its acts in their order, and a conditional passes over its acts.
-use Rattle.std.proofs.Common.{◌≡◌, ℕ, zero, suc, ◌+◌, ◌*◌, ◌<◌, ◌≤◌, ℤ, ⊎_elim, inl, inr, Bool, true, false, List, [], ◌∷◌, ◌++◌, length, drop, Option, Some, None, arith, refl, sym, ap, ◌∙◌, subst, length-append}
+use Rattle.std.proofs.Common.{◌≡◌, ℕ, zero, suc, ◌+◌, ◌*◌, ◌<◌, ◌≤◌, ℤ, Bool, true, false, List, [], ◌∷◌, ◌++◌, length, drop, Option, Some, None, arith, refl, sym, ap, ◌∙◌, length-append}
 use Rattle.std.specs.Prelude.{slice_get, unwrap_or, if◌then◌else◌, replicate, ◌+ℤ◌, ◌-ℤ◌, ◌*ℤ◌}
 use Rattle.std.specs.List.{AllByRecursion}
 use Rattle.std.proofs.Math.Seq.{drop-append_seam}
 use Rattle.so_ids.specs.declared.Put.{Put}
 use Rattle.so_ids.specs.declared.Put.TheVariants as put_is
 use Rattle.so_code.specs.declared.instr.Body.{Body}
-use Rattle.so_code.specs.declared.instr.Body.TheVariants.{Start, Finish, Enter, Exit, Row, Thread}
+use Rattle.so_code.specs.declared.instr.Body.TheVariants.{Enter, Exit}
 use Rattle.so_code.specs.declared.instr.Cmp.{Cmp}
 use Rattle.so_code.specs.declared.instr.Dest.{Dest}
 use Rattle.so_code.specs.declared.instr.Dest.TheVariants.{Var as ToVar, Temp as ToTemp}
@@ -25,8 +25,8 @@ use Rattle.so_code.specs.declared.frame.Frame.{Frame}
 use Rattle.so_code.specs.declared.frame.Todo.{Todo}
 use Rattle.so_code.specs.declared.frame.Todo.TheVariants as todo
 use Rattle.so_code.specs.Values.{in_range, holds, value, put, payload}
-use Rattle.so_code.specs.Machine.{Step, goes_on, next_by, put_if, with_todo, does, fails, is_done, act, act_at, ended, step_of, step, go_on, first_move, steps, after}
-use Rattle.so_code.specs.Answers.{said, armed, put_done, sent, subscribed, registered, answered_to, answered}
+use Rattle.so_code.specs.Machine.{Step, goes_on, next_by, put_if, with_todo, fails, is_done, act, act_at, ended, step_of, step, go_on, first_move, after}
+use Rattle.so_code.specs.Answers.{said, armed, put_done, sent, subscribed, registered, answered}
 use Rattle.so_code.specs.Shape.{IsCode}
 use Rattle.so_code.specs.Running.{IsFrame}
 use Rattle.so_code.specs.Turns.{with_effect, effects_by, is_straight, ends_turn, is_acting, and_further, effects_in, is_log, and_line, lines_of, at_place, IsIf, GoesOnWith}

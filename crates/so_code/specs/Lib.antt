@@ -11,4 +11,6 @@ pub mod Openings
 pub mod Origins
 pub mod Own
 pub mod Turns
+pub mod Plans
 pub mod Differs
+pub mod Echo

@@ -1,5 +1,5 @@
 -- Where an effect comes from: which act of the code made it, or which part of a switch or a receive.
-use Rattle.std.specs.Prelude.{◌≡◌, ℕ, ◌+◌, ◌<◌, Bool, List, Option, Some}
+use Rattle.std.specs.Prelude.{◌≡◌, ℕ, ◌<◌, Bool, List}
 use Rattle.so_ids.specs.declared.ChainId.{ChainId}
 use Rattle.so_ids.specs.declared.CoopId.{CoopId}
 use Rattle.so_ids.specs.declared.FilterId.{FilterId}

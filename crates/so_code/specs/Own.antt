@@ -1,8 +1,7 @@
 -- Turns that run acts alone: without a switch, a transfer or a receive.
-use Rattle.std.specs.Prelude.{◌≡◌, ℕ, Bool, true, false, List, Option, Some, None}
+use Rattle.std.specs.Prelude.{◌≡◌, Bool, true, false, List, Option, Some, None}
 use Rattle.so_ids.specs.declared.Opening.{Opening}
 use Rattle.so_ids.specs.declared.Opening.TheVariants as opening
-use Rattle.so_ids.specs.declared.Chosen.{Chosen}
 use Rattle.so_ids.specs.declared.Chosen.TheVariants as chosen
 use Rattle.so_code.specs.declared.instr.Instr.{Instr}
 use Rattle.so_code.specs.declared.instr.Instr.TheVariants as instr

@@ -45,6 +45,10 @@ abbrev pub flatten : List Part → List Instr
 flatten [] = []
 flatten (p ∷ rest) = acts_code p.acts ++ End p.body ∷ flatten rest
 
+-- a body whose acts are one instruction each
+abbrev pub plain_part : Body → List Instr → Part
+plain_part body acts = record { body = body; acts = map plain acts }
+
 -- ---- what may stand where
 
 abbrev pub cases_of : Instr → ℕ

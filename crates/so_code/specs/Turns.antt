@@ -1,5 +1,5 @@
 -- What a turn does, told by its acts alone: no places, no look-ups and no count of steps.
-use Rattle.std.specs.Prelude.{◌≡◌, ℕ, ◌+◌, Bool, true, false, List, [], ◌∷◌, ◌++◌, length, drop, map, Option, Some, None, if◌then◌else◌}
+use Rattle.std.specs.Prelude.{◌≡◌, ℕ, Bool, true, false, List, [], ◌∷◌, ◌++◌, length, drop, Some, None, if◌then◌else◌}
 use Rattle.std.specs.List.{AllByRecursion}
 use Rattle.so_code.specs.declared.instr.Body.{Body}
 use Rattle.so_code.specs.declared.instr.Body.TheVariants.{Enter, Exit}
@@ -11,13 +11,13 @@ use Rattle.so_code.specs.declared.effect.Effect.{Effect}
 use Rattle.so_code.specs.declared.effect.Effect.TheVariants.{Log as LogEffect}
 use Rattle.so_code.specs.declared.effect.Answer.{Answer}
 use Rattle.so_code.specs.declared.effect.Move.{Move}
-use Rattle.so_code.specs.declared.effect.Move.TheVariants.{Do, Done, Fail}
+use Rattle.so_code.specs.declared.effect.Move.TheVariants.{Do}
 use Rattle.so_code.specs.declared.frame.Frame.{Frame}
 use Rattle.so_code.specs.declared.frame.Todo.{Todo}
 use Rattle.so_code.specs.declared.frame.Todo.TheVariants as todo
-use Rattle.so_code.specs.Values.{holds, value, payload}
+use Rattle.so_code.specs.Values.{payload}
 use Rattle.so_code.specs.Bodies.{same_body}
-use Rattle.so_code.specs.Shape.{Part, plain, flatten, AreActs, IsPart, IsCode}
+use Rattle.so_code.specs.Shape.{Part, plain_part, flatten, IsPart, IsCode}
 use Rattle.so_code.specs.Machine.{Step, act, after}
 use Rattle.so_code.specs.Answers.{answered}
 use Rattle.so_code.specs.Running.{IsFrame}
@@ -93,10 +93,10 @@ pub record BeginsWith (code : List Instr) (acts : List Instr) (f : Frame) : Type
   pub front : List Part
   pub body : Body
   pub rest : List Part
-  pub made : code ≡ flatten (front ++ record { body = body; acts = map plain acts } ∷ rest)
+  pub made : code ≡ flatten (front ++ plain_part body acts ∷ rest)
   pub is_code : IsCode code
   pub each : AllByRecursion IsPart front
-  pub are : AreActs body (map plain acts)
+  pub are : IsPart (plain_part body acts)
   pub first : AllByRecursion (λ (p : Part). same_body p.body body ≡ false) front
   pub last : ends_turn body ≡ true
   pub frame : IsFrame code f

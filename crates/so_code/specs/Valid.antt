@@ -1,5 +1,5 @@
 -- The ranges of an instruction's numbers, and how far it may lead.
-use Rattle.std.specs.Prelude.{◌≡◌, ℕ, ◌+◌, ◌<◌, ◌≤◌, Bool, true, false, Some, slice_get}
+use Rattle.std.specs.Prelude.{◌≡◌, ℕ, ◌<◌, ◌≤◌, Bool, true, false, Some, slice_get}
 use Rattle.so_code.specs.declared.instr.Operand.{Operand}
 use Rattle.so_code.specs.declared.instr.Operand.TheVariants.{Num, Var, Msg, Temp, Ans}
 use Rattle.so_code.specs.declared.instr.Dest.{Dest}

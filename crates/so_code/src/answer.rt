@@ -208,7 +208,8 @@ impl Frame {
         }
     }
 
-    /// Goes on with the answer to the effect for which the frame waits.
+    /// Goes on with the answer to the effect for which the frame waits. The number of the answer, where
+    /// it has one, is then the operand `Ans`.
     pub fn answer(&mut self, answer: Answer)
         requires fits { IsAnswerTo self.old.todo answer }
         requires running { IsRunning self.old }

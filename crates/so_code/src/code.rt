@@ -8,6 +8,12 @@ use crate::instr::Instr;
 use std::marker::Model;
 
 /// The code of an agent or a plain thread, as the list of its instructions.
+///
+/// It has at most 1,024 instructions, with numbers in range. It is made of bodies, each closed by the
+/// `End` that names it: those of an agent in the order start, finish, enter and exit of each declared
+/// state, rows; or the one of a thread. A receive is followed by its handlers, each from its `Case` to
+/// its `Back`, with no receive and no switch in them, and no switch is in an enter or exit body. A
+/// jump goes forward over whole acts of its own list.
 #[derive(Debug, Drop)]
 pub struct Code {
     instrs: Vec<Instr>,
@@ -44,8 +50,9 @@ impl Code {
 
     /// The number of the first instruction that differs, or the shorter length where one code begins
     /// the other; None exactly where they are equal.
+    #[tactic(auto, using(crate::proofs::SameCodes::differences))]
     pub fn differs(&self, other: &Code) -> Option<u32>
-        ensures same { IsNone result → self.now ≡ other.now }
+        ensures same { IsNone result ↔ (self.now ≡ other.now) }
         ensures differs { IfSome result (IsFirstDifference self.now other.now) }
     {
         difference(&self.instrs, &other.instrs)

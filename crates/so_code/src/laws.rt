@@ -1,7 +1,8 @@
 //! What holds of the turns of a code. Each law is the contract of a function that does nothing.
 
-ghost use Rattle.std.specs.Prelude.{◌≡◌, ◌+◌, ◌++◌, List, true, false, length, replicate};
+ghost use Rattle.std.specs.Prelude.{◌≡◌, ◌+◌, ◌++◌, ◌≤◌, List, true, false, length, replicate, slice_get};
 ghost use Rattle.std.specs.List.{AllByRecursion};
+ghost use Rattle.so_ids.specs.declared.StateId.{StateId as StateNumber};
 ghost use Rattle.so_code.specs.declared.effect.Answer.{Answer as AnyAnswer};
 ghost use Rattle.so_code.specs.declared.effect.Answer.TheVariants.{Okay};
 ghost use Rattle.so_code.specs.declared.effect.Effect.{Effect as AnyEffect};
@@ -12,11 +13,12 @@ ghost use Rattle.so_code.specs.declared.instr.Operand.{Operand as AnyOperand};
 ghost use Rattle.so_code.specs.declared.instr.Instr.{Instr as AnyInstr};
 ghost use Rattle.so_code.specs.Values.{holds, value};
 ghost use Rattle.so_code.specs.Shape.{IsCode};
-ghost use Rattle.so_code.specs.Machine.{after};
+ghost use Rattle.so_code.specs.Machine.{plan_step, after};
 ghost use Rattle.so_code.specs.Running.{IsFrame};
 ghost use Rattle.so_code.specs.Origins.{Origin};
 ghost use Rattle.so_code.specs.Own.{RunsActs, IsOwnAct, is_own};
 ghost use Rattle.so_code.specs.Turns.{effects_by, effects_in, is_straight, lines_of, is_log, at_place, BeginsWith, first_place, IsIf, GoesOnWith};
+ghost use Rattle.so_code.specs.Plans.{plan_parts, do_part, TransfersOnce};
 
 /// A turn whose body has no jump asks for the effects of the body's acts, in their order, until an
 /// act or an answer raises an exception.
@@ -46,6 +48,18 @@ pub fn if_passes_over()
     ensures { (code : List AnyInstr) (f : AnyFrame) (a : AnyOperand) (cmp : AnyCmp) (b : AnyOperand) (passed rest : List AnyInstr) →
         IsCode code → IsFrame code f → IsIf code f a cmp b passed rest → holds cmp (value f a) (value f b) ≡ false →
         GoesOnWith code f (f.place + (length passed + 1)) rest }
+{}
+
+/// A plan does its parts in order: the exits, the entry of its leaf, the enters.
+pub fn plan_in_order()
+    ensures { (code : List AnyInstr) (f : AnyFrame) →
+        f.plan.n_exits ≤ length f.plan.exits → f.plan.n_enters ≤ length f.plan.enters →
+        plan_step code f ≡ do_part code (slice_get (plan_parts f.plan) f.ran) f }
+{}
+
+/// A state transfers an event once: its second transfer is an exception.
+pub fn transfers_once()
+    ensures { (f : AnyFrame) (from to : StateNumber) → TransfersOnce f from to }
 {}
 
 /// Each effect comes from an act of the code, or from a switch, a transfer or a receive.

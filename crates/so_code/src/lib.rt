@@ -1,7 +1,9 @@
 //! What the handlers of an agent and the body of a plain thread do: their acts, flattened into one
 //! code, and the frame of a turn that runs it.
 //!
-//! A turn computes by itself up to its next effect, which the core carries out and answers.
+//! A turn computes by itself up to its next effect, which the core carries out and answers: its frame
+//! is made by `Frame::begin`, moved by `next`, and told each effect's answer by `Frame::answer`, until
+//! `next` gives `Done` or `Fail`.
 #![tactic(auto)]
 
 mod act;
@@ -10,6 +12,8 @@ mod begin;
 mod behaviour;
 mod bodies;
 mod code;
+#[cfg(test)]
+mod echo;
 mod effect;
 mod frame;
 mod instr;
@@ -17,6 +21,8 @@ pub mod laws;
 mod receives;
 mod run;
 mod step;
+#[cfg(test)]
+mod tests;
 mod values;
 
 pub use behaviour::{Behaviour, Script};

@@ -5,10 +5,10 @@ ghost use Rattle.so_code.specs.Machine.{act_at, enter_body, landed, plan_step, l
 ghost use Rattle.so_code.specs.Places.{HasPlaces, IsAt};
 ghost use Rattle.so_code.specs.Running.{IsFrame};
 
+use crate::bodies::body_at;
 use crate::effect::{Effect, Move};
 use crate::frame::{Frame, Todo};
 use crate::instr::{Body, Instr};
-use crate::bodies::body_at;
 use crate::receives::{handler_at, past};
 use so_ids::{Chosen, Opening, StateId};
 

@@ -1,4 +1,3 @@
-use Rattle.std.proofs.Common.{refl}
 use Rattle.so_code.specs.Own.{is_own}
 use Rattle.so_code.proofs.ShapeLaws.{places-code}
 use Rattle.so_code.proofs.OwnLaws.{own_act, all_at}

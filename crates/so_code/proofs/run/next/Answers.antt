@@ -1,4 +1,3 @@
-use Rattle.std.proofs.Common.{sym, subst}
 use Rattle.so_code.proofs.ShapeLaws.{places-code}
 use Rattle.so_code.proofs.run.next.Goals as goal
 

@@ -1,4 +1,4 @@
-use Rattle.std.proofs.Common.{◌≡◌, Some, ap, refl, sym}
+use Rattle.std.proofs.Common.{◌≡◌, Some, ap}
 use Rattle.so_code.specs.Machine.{step}
 use Rattle.so_code.proofs.StepOrigins.{Told, step_told}
 use Rattle.so_code.proofs.MoveLaws.{starts, goes_on_way, ends_way}
