@@ -1,10 +1,10 @@
 -- What the four passes leave is what a scene keeps.
-use Rattle.std.proofs.Common.{◌≡◌, ℕ, zero, suc, ◌+◌, ◌-◌, ◌<◌, ◌≤◌, ◌^◌, get_or, List, [], ◌∷◌, ◌++◌, length, map, Bool, true, false, not, ◌&&◌, ◌||◌, Option, Some, None, Result, Ok, Err, refl, sym, ap, ◌∙◌, subst, arith, codes, if◌then◌else◌, nat_le, nat_lt, is_some, length-append, bytes_eq}
+use Rattle.std.proofs.Common.{◌≡◌, ℕ, ◌+◌, ◌-◌, ◌<◌, ◌≤◌, ◌^◌, get_or, List, [], ◌∷◌, ◌++◌, length, map, Bool, true, false, not, ◌&&◌, ◌||◌, Option, Some, None, Result, Ok, Err, refl, sym, ap, ◌∙◌, subst, arith, codes, if◌then◌else◌, nat_le, nat_lt, is_some, length-append, bytes_eq}
 use Rattle.std.proofs.Math.Nat.{min-le_left}
 use Rattle.std.proofs.lemmas.Bool.{true≢false, leb-true, ltb-false}
 use Rattle.std.proofs.lemmas.List.{map_push}
 use Rattle.std.proofs.lemmas.List.Quantifiers.{position-Some}
-use Rattle.std.specs.Prelude.{position, nat_eq}
+use Rattle.std.specs.Prelude.{nat_eq}
 use Rattle.std.specs.List.{All, AllByRecursion, IsDistinct, list_all}
 use Rattle.serde_json.specs.Data.{Data, Items, no_items, item}
 use Rattle.serde_json.specs.Events.{items_len}
@@ -13,11 +13,10 @@ use Rattle.so_lists.specs.Lists.{is_empty}
 use Rattle.so_lists.proofs.Filters.{each-append, each-weaker}
 use Rattle.so_scene.specs.Names.{has_name, number_in}
 use Rattle.so_scene.specs.Words.{is_name, is_name_byte, is_text, is_text_byte}
-use Rattle.so_scene.specs.Parts.{IsAgent, IsCoop, IsScene, NamesWithin, msg_number, row_numbers, message_name, agent_name}
+use Rattle.so_scene.specs.Parts.{IsAgent, IsCoop, IsScene, msg_number, row_numbers, message_name, agent_name}
 use Rattle.so_scene.proofs.Positions.{added_distinct, no_names as no_distinct}
 use Rattle.so_scene.specs.declared.fault.SceneFault.{SceneFault}
 use Rattle.so_scene.specs.declared.parts.AgentDef.{AgentDef}
-use Rattle.so_scene.specs.declared.parts.MessageDef.{MessageDef}
 use Rattle.so_scene.specs.declared.parts.RowDef.{RowDef}
 use Rattle.so_scene_json.specs.declared.build.Build.{Build}
 use Rattle.so_scene_json.specs.declared.declare.Declared.{Declared}
@@ -27,17 +26,17 @@ use Rattle.so_scene_json.specs.declared.write.Writer.{Writer}
 use Rattle.so_scene_json.specs.declared.table.ObjectKind.TheVariants as object
 use Rattle.so_scene_json.specs.declared.table.Space.TheVariants as space
 use Rattle.so_scene_json.specs.Values.{name_in, string_in, text_or_empty}
-use Rattle.so_scene_json.specs.Visits.{Visit, enters, tries, leaves, Place, visits, run, ◌>>=◌, narrow}
+use Rattle.so_scene_json.specs.Visits.{Visit, enters, tries, leaves, run, ◌>>=◌, narrow}
 use Rattle.so_scene_json.specs.Shape.{shape_step}
 use Rattle.so_scene_json.specs.Twice.{twice_step, no_names, with_name, with_signal}
 use Rattle.so_scene_json.specs.Known.{known_step, knows}
-use Rattle.so_scene_json.specs.Build.{build_step, no_parts, with_message, with_coop, with_agent, message_of, agent_of, agent_written, fresh, row_of, rows_from, narrow_or_zero}
+use Rattle.so_scene_json.specs.Build.{build_step, no_parts, with_message, with_coop, message_of, agent_of, agent_written, fresh, row_of, rows_from, narrow_or_zero}
 use Rattle.so_scene_json.specs.Scene.{fields, no_state, exceeds, rows_differ, is_admitted, coop_of, parts_of}
 use Rattle.so_scene.specs.declared.parts.CoopDef.{CoopDef}
 use Rattle.so_scene.specs.declared.parts.SceneParts.{SceneParts}
 use Rattle.so_scene_json.specs.Kept.{IsBuiltAgent, IsBuilt}
-use Rattle.so_scene_json.proofs.Codes.{rows_in, IsWritten, agent_is_written, agent_grows, agent_texts, names_grow}
-use Rattle.so_scene_json.proofs.Passed.{IsFine, fine_each, HasRow, HaveRows, IsFineAgent, EntersFine, scene_fine, is_message, messages_in, few_messages}
+use Rattle.so_scene_json.proofs.Codes.{rows_in, agent_is_written, agent_grows, agent_texts, names_grow}
+use Rattle.so_scene_json.proofs.Passed.{fine_each, HaveRows, IsFineAgent, EntersFine, scene_fine, is_message, messages_in, few_messages}
 use Rattle.so_scene_json.proofs.Ends.{all_of, distinct_rows}
 
 abbrev ok : {S : Type 0} → S → Result S SceneFault
@@ -199,13 +198,13 @@ agent_kept : (names : Declared) (s : Build) (d : Data) → IsFineAgent names d �
 unfolding agent_added
 agent_kept names s d fine k l =
     let new : IsBuiltAgent (length names.parties) (length names.messages) (length (agent_written s.names (fresh s) d).texts) (agent_of s.names d (agent_written s.names (fresh s) d)) =
-      subst (λ n. IsBuiltAgent (length names.parties) (length names.messages) (length (agent_written n (fresh s) d).texts) (agent_of n d (agent_written n (fresh s) d))) (sym k.known)
-      (built_agent names (fresh s) d fine refl (subst (λ n. length (agent_written n (fresh s) d).code ≤ 1024) k.known l)) in
+    subst (λ n. IsBuiltAgent (length names.parties) (length names.messages) (length (agent_written n (fresh s) d).texts) (agent_of n d (agent_written n (fresh s) d))) (sym k.known)
+    (built_agent names (fresh s) d fine refl (subst (λ n. length (agent_written n (fresh s) d).code ≤ 1024) k.known l)) in
     record {
       known = k.known;
       agents = each-append (IsBuiltAgent (length names.parties) (length names.messages) (length (agent_written s.names (fresh s) d).texts)) s.agents (agent_of s.names d (agent_written s.names (fresh s) d) ∷ [])
-        (each-weaker (IsBuiltAgent (length names.parties) (length names.messages) (length s.texts)) (IsBuiltAgent (length names.parties) (length names.messages) (length (agent_written s.names (fresh s) d).texts)) (λ a h. grown _ _ _ _ a (agent_grows s.names (fresh s) d) h) s.agents k.agents)
-        (new, tt);
+          (each-weaker (IsBuiltAgent (length names.parties) (length names.messages) (length s.texts)) (IsBuiltAgent (length names.parties) (length names.messages) (length (agent_written s.names (fresh s) d).texts)) (λ a h. grown _ _ _ _ a (agent_grows s.names (fresh s) d) h) s.agents k.agents)
+          (new, tt);
       texts = agent_texts s.names (fresh s) d k.texts;
     }
 
@@ -258,7 +257,7 @@ built_from names s k h a l =
       few_messages = l;
       message_names = subst (IsDistinct bytes_eq) (sym h.messages) a.messages;
       agents = subst (λ n. All (IsBuiltAgent n (length s.messages) (length s.texts)) s.agents) agents
-        (subst (λ n. All (IsBuiltAgent (length names.parties) n (length s.texts)) s.agents) messages (all_of _ s.agents k.agents));
+          (subst (λ n. All (IsBuiltAgent (length names.parties) n (length s.texts)) s.agents) messages (all_of _ s.agents k.agents));
       agent_names = subst (IsDistinct bytes_eq) (sym h.parties) a.parties;
       texts = all_of (λ t. is_text t ≡ true) s.texts k.texts;
     }

@@ -1,9 +1,9 @@
 -- What the building writes is the code of an agent.
-use Rattle.std.proofs.Common.{◌≡◌, ℕ, zero, suc, ◌+◌, ◌-◌, ◌<◌, ◌≤◌, ◌^◌, min, ℤ, pos, negsuc, List, [], ◌∷◌, ◌++◌, length, Bool, true, false, Option, Some, None, Result, Ok, Err, refl, sym, ap, ◌∙◌, subst, arith, inl, length-append, append_assoc, if◌then◌else◌, nat_le, nat_lt}
+use Rattle.std.proofs.Common.{◌≡◌, ℕ, zero, suc, ◌+◌, ◌-◌, ◌<◌, ◌≤◌, ◌^◌, ℤ, pos, negsuc, List, [], ◌∷◌, ◌++◌, length, Bool, true, false, Option, Some, None, Result, Ok, Err, refl, sym, ap, ◌∙◌, subst, arith, inl, length-append, append_assoc, if◌then◌else◌, nat_le, nat_lt}
 use Rattle.std.proofs.Math.Nat.{min-le_left, min-le_right}
-use Rattle.std.proofs.lemmas.Bool.{true≢false, leb-true, ltb-true}
+use Rattle.std.proofs.lemmas.Bool.{leb-true, ltb-true}
 use Rattle.std.proofs.lemmas.List.Quantifiers.{position-Some}
-use Rattle.std.specs.Prelude.{slice_get, slice_index, position, bytes_eq, map, codes}
+use Rattle.std.specs.Prelude.{slice_get, slice_index, bytes_eq, map, codes}
 use Rattle.std.specs.List.Sorted.{IsStrictlyIncreasing}
 use Rattle.so_scene.specs.declared.fault.SceneFault.{SceneFault}
 use Rattle.std.specs.List.{AllByRecursion}
@@ -11,20 +11,17 @@ use Rattle.std.specs.Option.{option_map, option_and_then}
 use Rattle.serde_json.specs.Data.{Num, Data, Items, no_items, item}
 use Rattle.serde_json.specs.Events.{items_len}
 use Rattle.serde_json.specs.Find.{as_number, as_i64, as_str, get, get_item}
-use Rattle.so_code.specs.declared.instr.Operand.{Operand}
 use Rattle.so_code.specs.declared.instr.Operand.TheVariants as operand
-use Rattle.so_code.specs.declared.instr.Dest.{Dest}
 use Rattle.so_code.specs.declared.instr.Dest.TheVariants as dest
 use Rattle.so_code.specs.declared.instr.Instr.{Instr}
 use Rattle.so_code.specs.declared.instr.Instr.TheVariants as instr
-use Rattle.so_code.specs.Valid.{IsOperand, IsDest, AreArgs, HasParts, jump, is_act, is_switch}
+use Rattle.so_code.specs.Valid.{IsOperand, IsDest, AreArgs}
 use Rattle.so_code.specs.declared.instr.Args.{Args}
 use Rattle.so_code.specs.declared.instr.Body.{Body}
 use Rattle.so_code.specs.declared.instr.Body.TheVariants as body
 use Rattle.so_code.specs.Bodies.{bodies_in}
 use Rattle.so_code.specs.Shape.{IsActBefore, AreActsBefore, Part, plain, acts_code, flatten, may_switch, IsPart, IsCode, AreInOrder, AreAgentBodies, body_of, agent_bodies, row_number}
-use Rattle.so_code.proofs.BuildLaws.{structured, plain_code, plain_acts, code_order, bodies_in-flatten}
-use Rattle.so_ids.specs.declared.RowId.{RowId}
+use Rattle.so_code.proofs.BuildLaws.{structured, plain_code, plain_acts, bodies_in-flatten}
 use Rattle.so_lists.proofs.Filters.{each-append}
 use Rattle.so_scene.specs.Words.{is_text}
 use Rattle.so_scene_json.specs.Acts.{act_parts}
@@ -38,9 +35,9 @@ use Rattle.so_scene_json.specs.declared.values.Trouble.{Trouble}
 use Rattle.so_scene_json.specs.declared.values.Trouble.TheVariants.{OutOfRange}
 use Rattle.so_scene_json.specs.declared.declare.Declared.{Declared}
 use Rattle.so_scene_json.specs.declared.write.Writer.{Writer}
-use Rattle.so_scene_json.specs.Values.{◌or◌, ◌else◌, ◌then◌, numbered, small_number, operand_named, operand_or_number, operand_of, dest_named, dest_of, named, integer_of, natural_up_to, count_of, checked, text_or_empty}
+use Rattle.so_scene_json.specs.Values.{◌or◌, ◌else◌, ◌then◌, numbered, small_number, operand_named, operand_or_number, operand_of, dest_named, dest_of, named, integer_of, natural_up_to, count_of, text_or_empty}
 use Rattle.so_scene_json.specs.Visits.{narrow, list_of}
-use Rattle.so_scene_json.specs.Writer.{ok_or, read_or, operand_at, dest_at, count_at, args_from, send_instr, send_at, word_instr, text_at, text_number, string_at, texts_with, number_or_next, with_text, with_instr, log_written, word_written, parts_written, act_written, acts_written, idle}
+use Rattle.so_scene_json.specs.Writer.{ok_or, read_or, operand_at, dest_at, count_at, args_from, send_instr, text_at, string_at, texts_with, number_or_next, with_instr, word_written, parts_written, act_written, acts_written, idle}
 
 -- ---- operands
 
@@ -310,7 +307,7 @@ ended names b w u n e wrote = record {
   each = (plain_acts b wrote.acts (subst (λ s. AreActsBefore s 0 wrote.acts) (sym e) wrote.fine), tt);
   grows = wrote.grows;
   named = subst (λ c. AllByRecursion (NamesWithin (length names.parties) (length names.messages) (length u.texts)) (c ++ instr.End b ∷ [])) (sym (plain_code wrote.acts))
-    (each-append (NamesWithin (length names.parties) (length names.messages) (length u.texts)) wrote.acts (instr.End b ∷ []) wrote.named (tt, tt));
+      (each-append (NamesWithin (length names.parties) (length names.messages) (length u.texts)) wrote.acts (instr.End b ∷ []) wrote.named (tt, tt));
   texts = wrote.texts;
 }
 
@@ -337,7 +334,7 @@ joined names w u v bs cs a b = record {
   each = each-append IsPart a.parts b.parts a.each b.each;
   grows = omega (arith, a.grows, b.grows);
   named = subst (AllByRecursion (NamesWithin (length names.parties) (length names.messages) (length v.texts))) (sym (flatten-append a.parts b.parts))
-    (each-append (NamesWithin (length names.parties) (length names.messages) (length v.texts)) (flatten a.parts) (flatten b.parts) (names_grow_all _ _ _ _ (flatten a.parts) b.grows a.named) b.named);
+      (each-append (NamesWithin (length names.parties) (length names.messages) (length v.texts)) (flatten a.parts) (flatten b.parts) (names_grow_all _ _ _ _ (flatten a.parts) b.grows a.named) b.named);
   texts = λ t. b.texts (a.texts t);
 }
 

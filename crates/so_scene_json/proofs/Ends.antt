@@ -3,13 +3,12 @@ use Rattle.std.proofs.Common.{◌≡◌, ℕ, zero, ◌+◌, ◌<◌, ◌≤◌,
 use Rattle.std.proofs.Math.ListN.{drop_of_length-le}
 use Rattle.std.proofs.lemmas.Bool.{true≢false}
 use Rattle.std.specs.Prelude.{nat_eq, String}
-use Rattle.std.specs.List.{All, AllByRecursion, IsDistinct, list_any, list_all}
+use Rattle.std.specs.List.{All, AllByRecursion, IsDistinct}
 use Rattle.std.specs.declared.alloc.Global.{Global}
 use Rattle.so_scene.specs.Parts.{msg_number}
 use Rattle.so_scene.specs.Words.{is_text}
-use Rattle.so_scene.specs.declared.parts.AgentDef.{AgentDef}
 use Rattle.so_scene.specs.declared.parts.RowDef.{RowDef}
-use Rattle.so_scene_json.specs.Scene.{has_row, differ, rows_differ}
+use Rattle.so_scene_json.specs.Scene.{has_row, differ}
 
 -- ---- the loop over rows
 

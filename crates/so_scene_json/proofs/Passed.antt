@@ -1,12 +1,12 @@
 -- What the first and the third pass make sure of, at each visit.
-use Rattle.std.proofs.Common.{◌≡◌, ℕ, zero, suc, ◌+◌, ◌<◌, ◌≤◌, List, [], ◌∷◌, ◌++◌, length, Bool, true, false, Option, Some, None, Result, Ok, Err, refl, sym, ap, ◌∙◌, subst, arith, codes, if◌then◌else◌, nat_le, is_some}
-use Rattle.std.proofs.lemmas.Bool.{true≢false, leb-true}
+use Rattle.std.proofs.Common.{◌≡◌, ℕ, suc, ◌+◌, ◌≤◌, List, [], ◌∷◌, ◌++◌, Bool, true, false, Option, Some, None, Result, Ok, refl, sym, ap, subst, arith, codes, if◌then◌else◌, nat_le}
+use Rattle.std.proofs.lemmas.Bool.{leb-true}
 use Rattle.std.specs.List.{AllByRecursion}
-use Rattle.std.specs.Option.{option_map, option_and_then}
+use Rattle.std.specs.Option.{option_and_then}
 use Rattle.serde_json.specs.Data.{Data, Items, no_items, item, null, boolean, number, string, array, object as object_data}
 use Rattle.serde_json.specs.Events.{items_len}
-use Rattle.serde_json.specs.Find.{as_str, as_array, get}
-use Rattle.so_scene.specs.Names.{has_name, number_in}
+use Rattle.serde_json.specs.Find.{as_str, get}
+use Rattle.so_scene.specs.Names.{has_name}
 use Rattle.so_scene.specs.Words.{is_name}
 use Rattle.so_scene.specs.declared.place.Field.TheVariants as field
 use Rattle.so_scene.specs.declared.fault.SceneFault.{SceneFault}
@@ -18,12 +18,11 @@ use Rattle.so_scene_json.specs.declared.table.ObjectKind.TheVariants as object
 use Rattle.so_scene_json.specs.declared.table.Space.TheVariants as space
 use Rattle.so_scene_json.specs.declared.table.Form.TheVariants as form
 use Rattle.so_scene_json.specs.declared.table.Rule.{Rule}
-use Rattle.so_scene_json.specs.declared.values.Trouble.{Trouble}
 use Rattle.so_scene_json.specs.declared.values.Trouble.TheVariants.{WrongShape, UnknownName, OutOfRange}
 use Rattle.so_scene_json.specs.Table.{required, optional, later}
-use Rattle.so_scene_json.specs.Values.{checked, name_of, trouble, text_or_empty, string_in, ◌else◌}
+use Rattle.so_scene_json.specs.Values.{checked, trouble, text_or_empty, string_in, ◌else◌}
 use Rattle.so_scene_json.specs.Visits.{Visit, enters, tries, leaves, Place, visits, fields_of, field_visits, items_from, at_item, list_of, run, ◌>>=◌}
-use Rattle.so_scene_json.specs.Shape.{shape_step, shape_fault, unless_faulty, field_fault, form_fault, trouble_at, list_trouble, first_of, object_trouble}
+use Rattle.so_scene_json.specs.Shape.{shape_step, shape_fault, unless_faulty, field_fault, form_fault, trouble_at, first_of, object_trouble}
 use Rattle.so_scene_json.specs.Known.{known_step, known_fault, knows, field_unknown, name_trouble}
 use Rattle.so_lists.proofs.Filters.{each-append}
 use Rattle.so_scene.specs.declared.place.PlaceStep.TheVariants.{Key}
@@ -117,9 +116,10 @@ back P (x ∷ xs) ys a = back P xs ys a.1
 fine_rows : (names : Declared) (place : Place) (i : ℕ) (ds : Items) → AllByRecursion (IsFine names) (items_from (visits 1 object.Row) place i ds) → HaveRows names ds
 unfolding items_from
 fine_rows names place i no_items a = tt
-fine_rows names place i (item d ds) a =
-    (fine_row names (at_item place i) d (front (IsFine names) (visits 1 object.Row (at_item place i) d) (items_from (visits 1 object.Row) place (suc i) ds) a),
-    fine_rows names place (suc i) ds (back (IsFine names) (visits 1 object.Row (at_item place i) d) (items_from (visits 1 object.Row) place (suc i) ds) a))
+fine_rows names place i (item d ds) a = (
+  fine_row names (at_item place i) d (front (IsFine names) (visits 1 object.Row (at_item place i) d) (items_from (visits 1 object.Row) place (suc i) ds) a),
+  fine_rows names place (suc i) ds (back (IsFine names) (visits 1 object.Row (at_item place i) d) (items_from (visits 1 object.Row) place (suc i) ds) a),
+)
 
 -- ---- the limit of a list of objects
 
@@ -173,11 +173,13 @@ agent_fine : (names : Declared) (place : Place) (d : Data) → AllByRecursion (I
 unfolding visits fields_of field_visits
 agent_fine names place d a =
     let on = a.1.1.1.1.1.1.1.1.1.1.1.1.1.0.0 in
-    let rows = start_of (IsFine names) (items_from (visits 1 object.Row) (place ++ Key field.On ∷ []) 0 (rows_in d)) (leaves object.Agent place d ∷ []) a.1.1.1.1.1.1.1.1.1.1.1.1.1.1 in
-    (record {
-      few = limit_field (optional field.On (form.Objects object.Row (Some 128))) object.Row 128 (place ++ Key field.On ∷ []) (get (codes "on") d) refl on;
-      rows = fine_rows names (place ++ Key field.On ∷ []) 0 (rows_in d) rows;
-    }, (tt, (tt, (tt, (tt, (tt, (tt, (tt, (tt, (tt, (tt, (tt, (tt, (tt, at_end names (items_from (visits 1 object.Row) (place ++ Key field.On ∷ []) 0 (rows_in d)) object.Agent place d (units_items names (visits 1 object.Row) (row_units names) (place ++ Key field.On ∷ []) 0 (rows_in d))))))))))))))))
+    let rows = start_of (IsFine names) (items_from (visits 1 object.Row) (place ++ Key field.On ∷ []) 0 (rows_in d)) (leaves object.Agent place d ∷ []) a.1.1.1.1.1.1.1.1.1.1.1.1.1.1 in (
+      record {
+        few = limit_field (optional field.On (form.Objects object.Row (Some 128))) object.Row 128 (place ++ Key field.On ∷ []) (get (codes "on") d) refl on;
+        rows = fine_rows names (place ++ Key field.On ∷ []) 0 (rows_in d) rows;
+      },
+      (tt, (tt, (tt, (tt, (tt, (tt, (tt, (tt, (tt, (tt, (tt, (tt, (tt, at_end names (items_from (visits 1 object.Row) (place ++ Key field.On ∷ []) 0 (rows_in d)) object.Agent place d (units_items names (visits 1 object.Row) (row_units names) (place ++ Key field.On ∷ []) 0 (rows_in d))))))))))))))),
+    )
 
 coop_fine : (names : Declared) (place : Place) (d : Data) → AllByRecursion (IsFine names) (visits 3 object.Coop place d) → AllByRecursion (EntersFine names) (visits 3 object.Coop place d)
 unfolding visits fields_of field_visits
@@ -193,12 +195,25 @@ scene_fine names d a =
     let threads = tries (later field.Threads) (Key field.Threads ∷ []) (get (codes "threads") d) ∷ [] in
     let tail = tries (later field.Mboxes) (Key field.Mboxes ∷ []) (get (codes "mboxes") d) ∷ tries (later field.Chains) (Key field.Chains ∷ []) (get (codes "chains") d) ∷ tries (later field.Dispatchers) (Key field.Dispatchers ∷ []) (get (codes "dispatchers") d) ∷ tries (optional field.Coops (form.Objects object.Coop (Some 1024))) (Key field.Coops ∷ []) (get (codes "coops") d) ∷ (cs ++ threads) in
     let rest = back (IsFine names) ms tail (front (IsFine names) (ms ++ tail) (leaves object.Scene [] d ∷ []) a.1.1.1.1.1) in
-    let coops = front (IsFine names) cs threads rest.1.1.1.1 in
-    (tt, (tt, (tt, (tt, (tt,
-    each-append (EntersFine names) (ms ++ tail) (leaves object.Scene [] d ∷ [])
-    (each-append (EntersFine names) ms tail (units_items names (visits 3 object.Message) (message_units names) (Key field.Messages ∷ []) 0 (list_of (get (codes "messages") d)))
-    (tt, (tt, (tt, (tt, each-append (EntersFine names) cs threads (items_fine names (visits 3 object.Coop) (coop_fine names) (Key field.Coops ∷ []) 0 (list_of (get (codes "coops") d)) coops) (tt, tt))))))
-    (tt, tt))))))
+    let coops = front (IsFine names) cs threads rest.1.1.1.1 in (
+      tt,
+      (
+        tt,
+        (
+          tt,
+          (
+            tt,
+            (
+              tt,
+              each-append (EntersFine names) (ms ++ tail) (leaves object.Scene [] d ∷ [])
+                  (each-append (EntersFine names) ms tail (units_items names (visits 3 object.Message) (message_units names) (Key field.Messages ∷ []) 0 (list_of (get (codes "messages") d)))
+                  (tt, (tt, (tt, (tt, each-append (EntersFine names) cs threads (items_fine names (visits 3 object.Coop) (coop_fine names) (Key field.Coops ∷ []) 0 (list_of (get (codes "coops") d)) coops) (tt, tt))))))
+                  (tt, tt),
+            ),
+          ),
+        ),
+      ),
+    )
 
 -- ---- how many messages there are
 
@@ -257,9 +272,14 @@ messages_of_scene d =
     let cs = items_from (visits 3 object.Coop) (Key field.Coops ∷ []) 0 (list_of (get (codes "coops") d)) in
     let threads = tries (later field.Threads) (Key field.Threads ∷ []) (get (codes "threads") d) ∷ [] in
     let tail = tries (later field.Mboxes) (Key field.Mboxes ∷ []) (get (codes "mboxes") d) ∷ tries (later field.Chains) (Key field.Chains ∷ []) (get (codes "chains") d) ∷ tries (later field.Dispatchers) (Key field.Dispatchers ∷ []) (get (codes "dispatchers") d) ∷ tries (optional field.Coops (form.Objects object.Coop (Some 1024))) (Key field.Coops ∷ []) (get (codes "coops") d) ∷ (cs ++ threads) in
-    omega (arith, messages-append (ms ++ tail) (leaves object.Scene [] d ∷ []), messages-append ms tail, messages-append cs threads,
-    one_in_items (visits 3 object.Message) one_in_message (Key field.Messages ∷ []) 0 (list_of (get (codes "messages") d)),
-    none_in_items (visits 3 object.Coop) none_in_coop (Key field.Coops ∷ []) 0 (list_of (get (codes "coops") d)))
+    omega (
+      arith,
+      messages-append (ms ++ tail) (leaves object.Scene [] d ∷ []),
+      messages-append ms tail,
+      messages-append cs threads,
+      one_in_items (visits 3 object.Message) one_in_message (Key field.Messages ∷ []) 0 (list_of (get (codes "messages") d)),
+      none_in_items (visits 3 object.Coop) none_in_coop (Key field.Coops ∷ []) 0 (list_of (get (codes "coops") d)),
+    )
 
 limited_messages : (names : Declared) (d : Data) → AllByRecursion (IsFine names) (visits 4 object.Scene [] d) → items_len (list_of (get (codes "messages") d)) ≤ 256
 unfolding visits fields_of field_visits

@@ -1,5 +1,5 @@
 -- The loops of the first pass.
-use Rattle.std.proofs.Common.{◌≡◌, ℕ, ◌+◌, ◌-◌, ◌<◌, ◌≤◌, suc, List, [], ◌∷◌, length, drop, get_or, Option, Some, None, Bool, true, false, ◌&&◌, refl, sym, ap, ◌∙◌, add-one, drop-cons, arith, subst, length-drop, nat_le, if◌then◌else◌}
+use Rattle.std.proofs.Common.{◌≡◌, ℕ, ◌+◌, ◌-◌, ◌<◌, ◌≤◌, suc, List, [], ◌∷◌, length, drop, get_or, Option, Some, None, Bool, true, false, ◌&&◌, refl, sym, ap, ◌∙◌, add-one, drop-cons, arith, length-drop, nat_le, if◌then◌else◌}
 use Rattle.std.proofs.Math.ListN.{drop_of_length-le}
 use Rattle.std.proofs.lemmas.Bool.{lt-leb, le-leb}
 use Rattle.serde_json.proofs.Views.{items_len-items_view}
@@ -7,7 +7,6 @@ use Rattle.serde_json.specs.Data.{Data, no_items}
 use Rattle.serde_json.specs.View.{view, items_view}
 use Rattle.serde_json.specs.declared.value.Value.{Value}
 use Rattle.so_scene_json.specs.declared.act_table.Arg.{Arg}
-use Rattle.so_scene_json.specs.declared.act_table.Word.{Word}
 use Rattle.so_scene_json.specs.declared.values.Trouble.{Trouble}
 use Rattle.so_scene_json.specs.declared.values.Trouble.TheVariants.{WrongShape, OutOfRange}
 use Rattle.std.specs.Prelude.{String, string_bytes, bytes_eq}

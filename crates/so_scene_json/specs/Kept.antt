@@ -1,5 +1,5 @@
 -- What the four passes leave of a scene's parts, apart from what is tried after them.
-use Rattle.std.specs.Prelude.{◌≡◌, ℕ, ◌<◌, ◌≤◌, List, length, map, bytes_eq, true}
+use Rattle.std.specs.Prelude.{◌≡◌, ℕ, ◌<◌, ◌≤◌, length, map, bytes_eq, true}
 use Rattle.std.specs.List.{All, IsDistinct}
 use Rattle.so_code.specs.Bodies.{bodies_in}
 use Rattle.so_code.specs.Shape.{IsCode, agent_bodies}

@@ -1,6 +1,6 @@
 -- The fields of each kind of object, in their order. A field that is `later` isn't built: it is known, and refused where
--- it is given.
-use Rattle.std.specs.Prelude.{ℕ, Option, Some, None, List, [], ◌∷◌, true, false}
+-- it is given. Where an optional field is absent, a list is empty and a message's kind is `message`.
+use Rattle.std.specs.Prelude.{Option, Some, None, List, [], ◌∷◌, true, false}
 use Rattle.so_scene.specs.declared.place.Field.{Field}
 use Rattle.so_scene.specs.declared.place.Field.TheVariants as field
 use Rattle.so_scene_json.specs.declared.table.ObjectKind.{ObjectKind}

@@ -1,5 +1,5 @@
 -- What a value stands for, or what is wrong with it.
-use Rattle.std.specs.Prelude.{◌≡◌, ℕ, ◌-◌, ℤ, pos, negsuc, List, [], ◌∷◌, length, codes, Bool, ◌==◌, ◌&&◌, ◌||◌, nat_lt, nat_le, if◌then◌else◌, Option, Some, None, option_map, option_and_then, Result, Ok, Err, bytes_eq}
+use Rattle.std.specs.Prelude.{◌≡◌, ℕ, ◌-◌, ℤ, pos, negsuc, List, [], ◌∷◌, codes, Bool, ◌==◌, ◌&&◌, nat_lt, nat_le, if◌then◌else◌, Option, Some, None, option_map, option_and_then, Result, Ok, Err, bytes_eq}
 use denote.Bor.{Bor}
 use Rattle.serde_json.specs.Data.{Num, Data}
 use Rattle.serde_json.specs.Find.{as_number, as_i64, as_str, get}
@@ -25,7 +25,6 @@ None or o = o
 
 infixl 10 ◌or◌
 infixl 9 ◌else◌
-
 abbrev pub trouble : {A : Type 0} → Result A Trouble → Option Trouble
 trouble (Ok x) = None
 trouble (Err t) = Some t

@@ -17,7 +17,9 @@ use crate::write::{Writer, item};
 use serde_json::Value;
 use so_code::{Body, Code, Instr};
 use so_ids::{CoopId, MsgId, RowId, Vars};
-use so_scene::{AgentDef, Items, MessageDef, Name, Names, RowDef, SceneFault, ScenePlace, SceneRefusal};
+use so_scene::{
+    AgentDef, Items, MessageDef, Name, Names, RowDef, SceneFault, ScenePlace, SceneRefusal,
+};
 use std::alloc::Global;
 use std::mem;
 
@@ -79,11 +81,7 @@ fn row_of(names: &Declared, value: &Value) -> RowDef
     }
 }
 
-fn rows_in(
-    alloc: Global,
-    names: &Declared,
-    list: &[Value],
-) -> Result<Items<RowDef>, SceneRefusal>
+fn rows_in(alloc: Global, names: &Declared, list: &[Value]) -> Result<Items<RowDef>, SceneRefusal>
     ensures { Returns (rows_from names.now [] (items_view list.now)) result }
 {
     let mut rows = Items::new(alloc);

@@ -62,19 +62,14 @@ impl Declared {
         }
     }
 
-    fn declare(
-        &mut self,
-        place: &ScenePlace,
-        space: Space,
-        name: &str,
-    ) -> Result<(), SceneRefusal>
+    fn declare(&mut self, place: &ScenePlace, space: Space, name: &str) -> Result<(), SceneRefusal>
         requires { length place.now < 16 }
         ensures { Leaves (declared_in place.now space name.now self.old) result self.new }
     {
         if self.number(space, name).is_some() {
-            return Err(SceneRefusal::Fault(SceneFault::Twice(
-                place.step(PlaceStep::Key(Field::Name)),
-            )));
+            return Err(SceneRefusal::Fault(SceneFault::Twice(place.step(PlaceStep::Key(
+                Field::Name,
+            )))));
         }
         let added = match space {
             Space::Messages => self.messages.add(name),

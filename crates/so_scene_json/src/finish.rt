@@ -12,7 +12,10 @@ ghost use Rattle.so_scene_json.specs.Scene.{exceeds, has_row, differ, rows_diffe
 use crate::build::Build;
 use crate::walk::position;
 use so_ids::AgentId;
-use so_scene::{AgentDef, CoopDef, Field, Items, Name, Names, PlaceStep, RowDef, Scene, SceneFault, SceneParts, ScenePlace, SceneRefusal, Text};
+use so_scene::{
+    AgentDef, CoopDef, Field, Items, Name, Names, PlaceStep, RowDef, Scene, SceneFault, SceneParts,
+    ScenePlace, SceneRefusal, Text,
+};
 use std::alloc::Global;
 
 /// The place of the list of cooperations.
@@ -57,7 +60,9 @@ fn rows_differ(rows: &[RowDef]) -> bool
 fn agents_differ(agents: &[AgentDef]) -> bool
     ensures { result ≡ list_all rows_differ agents.now }
 {
-    agents.iter().all(|agent| rows_differ(agent.rows.as_slice()))
+    agents
+        .iter()
+        .all(|agent| rows_differ(agent.rows.as_slice()))
 }
 
 fn is_admitted(build: &Build) -> bool

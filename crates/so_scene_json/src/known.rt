@@ -7,8 +7,8 @@ ghost use Rattle.so_scene_json.specs.Shape.{acts_from};
 ghost use Rattle.so_scene_json.specs.Visits.{list_of};
 ghost use Rattle.so_scene_json.specs.Known.{name_trouble, has_signal, signal_trouble, send_trouble, act_unknown, form_unknown, field_unknown};
 
-use crate::acts::parts;
 use crate::act_table::Word;
+use crate::acts::parts;
 use crate::declare::Declared;
 use crate::shape::{at, fault_at};
 use crate::table::{Form, ObjectKind, Rule, Space};

@@ -228,7 +228,11 @@ fn unknown(kind: ObjectKind, value: &Value) -> bool
 fn has(field: Field, value: &Value) -> u8
     ensures { result ≡ has field (view value.now) }
 {
-    if value.get(field.key()).is_some() { 1 } else { 0 }
+    if value.get(field.key()).is_some() {
+        1
+    } else {
+        0
+    }
 }
 
 fn breach(kind: ObjectKind, value: &Value) -> bool
@@ -236,7 +240,8 @@ fn breach(kind: ObjectKind, value: &Value) -> bool
 {
     match kind {
         ObjectKind::Row => {
-            let effects = has(Field::Do, value) + has(Field::Switch, value)
+            let effects = has(Field::Do, value)
+                + has(Field::Switch, value)
                 + has(Field::Transfer, value)
                 + has(Field::Suppress, value);
             effects != 1

@@ -1,7 +1,7 @@
 //! Faulty scenes with the fault that each has, and scenes that are read.
 use crate::read_scene;
 use so_code::{Args, Body, Cmp, Dest, Instr, Operand};
-use so_ids::{AgentId, MboxId, MsgId, RowId, Target, TextId};
+use so_ids::{AgentId, CoopId, MboxId, MsgId, RowId, Target, TextId};
 use so_lines::LineBuf;
 use so_scene::{Scene, SceneFault, SceneRefusal, direct_mbox, put_fault};
 use std::alloc::Global;
@@ -10,18 +10,12 @@ use std::test::*;
 
 /// Each scene, and how its fault is printed.
 static FAULTS: [(&str, &str); 71] = [
-    (
-        "",
-        "not_json",
-    ),
+    ("", "not_json"),
     (
         "{\"version\":1,\"coops\":[{\"name\":\"main\",\"ag",
         "not_json",
     ),
-    (
-        "{\"version\":1e999}",
-        "not_json",
-    ),
+    ("{\"version\":1e999}", "not_json"),
     (
         "[[[[[[[[[[[[[[[[[[[[[[[[[[[[[[[[[[[[[[[[[[[[[[[[[[[[[[[[[[[[[[[[[[[[[[[[[[[[[[[[[[[[[[[[[[[[[[[[[[[[[[[[[[[[[[[[[[[[[[[[[[[[[[[[]]]]]]]]]]]]]]]]]]]]]]]]]]]]]]]]]]]]]]]]]]]]]]]]]]]]]]]]]]]]]]]]]]]]]]]]]]]]]]]]]]]]]]]]]]]]]]]]]]]]]]]]]]]]]]]]]]]]]]]]]]]]]]]]",
         "not_json",
@@ -30,54 +24,24 @@ static FAULTS: [(&str, &str); 71] = [
         "{\"version\":1,\"coops\":[{\"name\":\"a\tb\",\"agents\":[]}]}",
         "not_json",
     ),
-    (
-        "[]",
-        "wrong_shape at /",
-    ),
-    (
-        "{}",
-        "missing at /version",
-    ),
-    (
-        "{\"version\":9}",
-        "bad_version at /version",
-    ),
-    (
-        "{\"version\":1.0}",
-        "out_of_range at /version",
-    ),
-    (
-        "{\"version\":-0}",
-        "out_of_range at /version",
-    ),
+    ("[]", "wrong_shape at /"),
+    ("{}", "missing at /version"),
+    ("{\"version\":9}", "bad_version at /version"),
+    ("{\"version\":1.0}", "out_of_range at /version"),
+    ("{\"version\":-0}", "out_of_range at /version"),
     (
         "{\"version\":9223372036854775808}",
         "out_of_range at /version",
     ),
-    (
-        "{\"version\":\"1\"}",
-        "wrong_shape at /version",
-    ),
-    (
-        "{\"version\":1,\"x\":0}",
-        "wrong_shape at /",
-    ),
-    (
-        "{\"version\":9,\"version\":1}",
-        "not_built at /coops",
-    ),
+    ("{\"version\":\"1\"}", "wrong_shape at /version"),
+    ("{\"version\":1,\"x\":0}", "wrong_shape at /"),
+    ("{\"version\":9,\"version\":1}", "not_built at /coops"),
     (
         "{\"version\":1,\"autoshutdown\":true}",
         "not_built at /autoshutdown",
     ),
-    (
-        "{\"version\":1,\"mboxes\":7}",
-        "not_built at /mboxes",
-    ),
-    (
-        "{\"version\":1,\"mboxes\":7,\"y\":0}",
-        "wrong_shape at /",
-    ),
+    ("{\"version\":1,\"mboxes\":7}", "not_built at /mboxes"),
+    ("{\"version\":1,\"mboxes\":7,\"y\":0}", "wrong_shape at /"),
     (
         "{\"version\":1,\"threads\":[],\"messages\":0}",
         "wrong_shape at /messages",
@@ -122,14 +86,8 @@ static FAULTS: [(&str, &str); 71] = [
         "{\"version\":1,\"messages\":[{\"name\":\"x\"},{\"name\":\"x\"}]}",
         "twice at /messages/1/name",
     ),
-    (
-        "{\"version\":1}",
-        "not_built at /coops",
-    ),
-    (
-        "{\"version\":1,\"coops\":[]}",
-        "not_built at /coops",
-    ),
+    ("{\"version\":1}", "not_built at /coops"),
+    ("{\"version\":1,\"coops\":[]}", "not_built at /coops"),
     (
         "{\"version\":1,\"coops\":[{\"name\":\"c\",\"agents\":[{\"name\":\"a\"}]},{\"name\":\"d\",\"agents\":[{\"name\":\"b\"}]}]}",
         "not_built at /coops",
@@ -343,19 +301,59 @@ fn repeated(
 
 #[test]
 fn a_list_over_its_limit_is_out_of_range(rt: HostRuntime) -> Result<(), Fail> {
-    let messages = repeated(rt.alloc(), "{\"version\":1,\"messages\":[", "{},", 256, "{}]}")?;
+    let messages = repeated(
+        rt.alloc(),
+        "{\"version\":1,\"messages\":[",
+        "{},",
+        256,
+        "{}]}",
+    )?;
     assert!(rt; has_fault(rt.alloc(), messages.as_bytes(), "out_of_range at /messages"));
-    let acts = repeated(rt.alloc(), "{\"version\":1,\"coops\":[{\"name\":\"c\",\"agents\":[{\"name\":\"a\",\"start\":[", "7,", 256, "7]}]}]}")?;
-    assert!(rt; has_fault(rt.alloc(), acts.as_bytes(), "out_of_range at /coops/0/agents/0/start"));
-    let rows = repeated(rt.alloc(), "{\"version\":1,\"coops\":[{\"name\":\"c\",\"agents\":[{\"name\":\"a\",\"on\":[", "{},", 128, "{}]}]}]}")?;
-    assert!(rt; has_fault(rt.alloc(), rows.as_bytes(), "out_of_range at /coops/0/agents/0/on"));
+    let acts = repeated(
+        rt.alloc(),
+        "{\"version\":1,\"coops\":[{\"name\":\"c\",\"agents\":[{\"name\":\"a\",\"start\":[",
+        "7,",
+        256,
+        "7]}]}]}",
+    )?;
+    assert!(rt;
+        has_fault(
+            rt.alloc(),
+            acts.as_bytes(),
+            "out_of_range at /coops/0/agents/0/start"
+        )
+    );
+    let rows = repeated(
+        rt.alloc(),
+        "{\"version\":1,\"coops\":[{\"name\":\"c\",\"agents\":[{\"name\":\"a\",\"on\":[",
+        "{},",
+        128,
+        "{}]}]}]}",
+    )?;
+    assert!(rt;
+        has_fault(
+            rt.alloc(),
+            rows.as_bytes(),
+            "out_of_range at /coops/0/agents/0/on"
+        )
+    );
     Ok(())
 }
 
 #[test]
 fn a_code_over_1024_instructions_is_out_of_range(rt: HostRuntime) -> Result<(), Fail> {
-    let mut text = repeated(rt.alloc(), "{\"version\":1,\"messages\":[{\"name\":\"x\"},{\"name\":\"y\"}],\"coops\":[{\"name\":\"c\",\"agents\":[{\"name\":\"a\",\"start\":[", "[\"stop\"],", 255, "[\"stop\"]],\"finish\":[")?;
-    for (next, count) in [("]],\"on\":[{\"msg\":\"x\",\"do\":[", 255), ("]]},{\"msg\":\"y\",\"do\":[", 255), ("]]}]}]}]}", 252)] {
+    let mut text = repeated(
+        rt.alloc(),
+        "{\"version\":1,\"messages\":[{\"name\":\"x\"},{\"name\":\"y\"}],\"coops\":[{\"name\":\"c\",\"agents\":[{\"name\":\"a\",\"start\":[",
+        "[\"stop\"],",
+        255,
+        "[\"stop\"]],\"finish\":[",
+    )?;
+    for (next, count) in [
+        ("]],\"on\":[{\"msg\":\"x\",\"do\":[", 255),
+        ("]]},{\"msg\":\"y\",\"do\":[", 255),
+        ("]]}]}]}]}", 252),
+    ] {
         for _ in 0..count {
             text.push_str("[\"stop\"],")?;
         }
@@ -363,13 +361,20 @@ fn a_code_over_1024_instructions_is_out_of_range(rt: HostRuntime) -> Result<(), 
         text.push_str(next)?;
     }
     // 256 + 256 + 256 + 253 acts and four ends: one too many
-    assert!(rt; has_fault(rt.alloc(), text.as_bytes(), "out_of_range at /coops/0/agents/0"));
+    assert!(rt;
+        has_fault(
+            rt.alloc(),
+            text.as_bytes(),
+            "out_of_range at /coops/0/agents/0"
+        )
+    );
     Ok(())
 }
 
 #[test]
 fn one_agent_logs_its_text(rt: HostRuntime) {
-    let text = "{\"version\":1,\"coops\":[{\"name\":\"main\",\"agents\":[{\"name\":\"hello\",\"start\":[[\"log\",\"hello\"]]}]}]}";
+    let text =
+        "{\"version\":1,\"coops\":[{\"name\":\"main\",\"agents\":[{\"name\":\"hello\",\"start\":[[\"log\",\"hello\"]]}]}]}";
     let scene = scene(&rt, rt.alloc(), text);
     assert_eq!(rt; scene.messages(), 0);
     assert_eq!(rt; scene.coops(), 1);
@@ -397,7 +402,11 @@ const ZERO: Operand = Operand::Num(0);
 
 #[test]
 fn each_act_is_its_instruction(rt: HostRuntime) {
-    let scene = scene(&rt, rt.alloc(), "{\"version\":1,\"messages\":[{\"name\":\"ping\"},{\"name\":\"halt\",\"kind\":\"signal\"},{\"name\":\"pong\",\"kind\":\"message\"}],\"coops\":[{\"name\":\"c\",\"agents\":[{\"name\":\"a\",\"vars\":[7,-8],\"start\":[[\"log\",\"up\",1,\"v0\"],[\"send\",\"b\",\"ping\",\"t3\",-1],[\"log\",\"down\"],[\"log\",\"up\"]],\"finish\":[[\"throw\",\"ans\"]],\"on\":[{\"msg\":\"pong\",\"do\":[[\"set\",\"v15\",\"m3\"],[\"add\",\"t0\",\"v1\",2],[\"sub\",\"t1\",\"t0\",\"m0\"],[\"mul\",\"v2\",\"t1\",\"t1\"],[\"if\",\"m0\",\"<=\",10,2],[\"skip\",1],[\"stop\"]]},{\"msg\":\"halt\",\"do\":[]}]},{\"name\":\"b\"}]}]}");
+    let scene = scene(
+        &rt,
+        rt.alloc(),
+        "{\"version\":1,\"messages\":[{\"name\":\"ping\"},{\"name\":\"halt\",\"kind\":\"signal\"},{\"name\":\"pong\",\"kind\":\"message\"}],\"coops\":[{\"name\":\"c\",\"agents\":[{\"name\":\"a\",\"vars\":[7,-8],\"start\":[[\"log\",\"up\",1,\"v0\"],[\"send\",\"b\",\"ping\",\"t3\",-1],[\"log\",\"down\"],[\"log\",\"up\"]],\"finish\":[[\"throw\",\"ans\"]],\"on\":[{\"msg\":\"pong\",\"do\":[[\"set\",\"v15\",\"m3\"],[\"add\",\"t0\",\"v1\",2],[\"sub\",\"t1\",\"t0\",\"m0\"],[\"mul\",\"v2\",\"t1\",\"t1\"],[\"if\",\"m0\",\"<=\",10,2],[\"skip\",1],[\"stop\"]]},{\"msg\":\"halt\",\"do\":[]}]},{\"name\":\"b\"}]}]}",
+    );
     let up = Instr::Log {
         text: TextId(0),
         args: args([Operand::Num(1), Operand::Var(0), ZERO, ZERO], 2),
@@ -469,10 +478,24 @@ fn each_act_is_its_instruction(rt: HostRuntime) {
 
 #[test]
 fn parts_are_found_by_number(rt: HostRuntime) {
-    let scene = scene(&rt, rt.alloc(), "{\"version\":1,\"messages\":[{\"name\":\"ping\"},{\"name\":\"halt\",\"kind\":\"signal\"},{\"name\":\"pong\",\"kind\":\"message\"}],\"coops\":[{\"name\":\"c\",\"agents\":[{\"name\":\"a\",\"vars\":[7,-8],\"start\":[[\"log\",\"up\",1,\"v0\"],[\"send\",\"b\",\"ping\",\"t3\",-1],[\"log\",\"down\"],[\"log\",\"up\"]],\"finish\":[[\"throw\",\"ans\"]],\"on\":[{\"msg\":\"pong\",\"do\":[[\"set\",\"v15\",\"m3\"],[\"add\",\"t0\",\"v1\",2],[\"sub\",\"t1\",\"t0\",\"m0\"],[\"mul\",\"v2\",\"t1\",\"t1\"],[\"if\",\"m0\",\"<=\",10,2],[\"skip\",1],[\"stop\"]]},{\"msg\":\"halt\",\"do\":[]}]},{\"name\":\"b\"}]}]}");
+    let scene = scene(
+        &rt,
+        rt.alloc(),
+        "{\"version\":1,\"messages\":[{\"name\":\"ping\"},{\"name\":\"halt\",\"kind\":\"signal\"},{\"name\":\"pong\",\"kind\":\"message\"}],\"coops\":[{\"name\":\"c\",\"agents\":[{\"name\":\"a\",\"vars\":[7,-8],\"start\":[[\"log\",\"up\",1,\"v0\"],[\"send\",\"b\",\"ping\",\"t3\",-1],[\"log\",\"down\"],[\"log\",\"up\"]],\"finish\":[[\"throw\",\"ans\"]],\"on\":[{\"msg\":\"pong\",\"do\":[[\"set\",\"v15\",\"m3\"],[\"add\",\"t0\",\"v1\",2],[\"sub\",\"t1\",\"t0\",\"m0\"],[\"mul\",\"v2\",\"t1\",\"t1\"],[\"if\",\"m0\",\"<=\",10,2],[\"skip\",1],[\"stop\"]]},{\"msg\":\"halt\",\"do\":[]}]},{\"name\":\"b\"}]}]}",
+    );
     assert_eq!(rt; scene.messages(), 3);
     for (n, message) in scene.parts().messages.as_slice().iter().enumerate() {
         assert_eq!(rt; message.signal, n == 1);
+    }
+    if scene.messages() == 3 {
+        assert!(rt; scene.message(MsgId(1)).name.bytes() == b"halt".as_slice());
+        assert!(rt; scene.message(MsgId(1)).signal);
+    }
+    if scene.coops() == 1 {
+        assert!(rt; scene.coop(CoopId(0)).count == 2);
+    }
+    if scene.texts() == 2 {
+        assert!(rt; scene.text(TextId(1)) == b"down".as_slice());
     }
     if scene.agents() == 2 {
         let mbox = direct_mbox(AgentId(0));

@@ -244,12 +244,7 @@ impl Writer {
         }
     }
 
-    fn act(
-        &mut self,
-        names: &Declared,
-        rest: usize,
-        value: &Value,
-    ) -> Result<(), SceneRefusal>
+    fn act(&mut self, names: &Declared, rest: usize, value: &Value) -> Result<(), SceneRefusal>
         ensures { Leaves (Ok (act_written names.now rest self.old (view value.now))) result self.new }
     {
         match parts(value) {

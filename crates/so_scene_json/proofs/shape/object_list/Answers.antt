@@ -1,4 +1,3 @@
-use Rattle.std.proofs.Common.{Some}
 use Rattle.so_scene_json.specs.Shape.{object_trouble}
 use Rattle.so_scene_json.proofs.Shapes.{within, past}
 use Rattle.so_scene_json.proofs.shape.object_list.Goals as goal

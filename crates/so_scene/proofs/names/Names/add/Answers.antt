@@ -1,4 +1,4 @@
-use Rattle.std.proofs.Common.{◌≡◌, sym, subst, bytes_eq}
+use Rattle.std.proofs.Common.{subst, bytes_eq}
 use Rattle.std.specs.List.{IsDistinct}
 use Rattle.so_scene.proofs.Positions.{added, added_distinct}
 use Rattle.so_scene.proofs.names.Names.add.Goals as goal

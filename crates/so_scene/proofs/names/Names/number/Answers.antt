@@ -1,4 +1,4 @@
-use Rattle.std.proofs.Common.{◌≡◌, ◌∙◌, sym, ap, bytes_eq}
+use Rattle.std.proofs.Common.{◌∙◌, sym, ap, bytes_eq}
 use Rattle.std.specs.List.{position}
 use Rattle.so_scene.proofs.Positions.{position-map}
 use Rattle.so_scene.proofs.names.Names.number.Goals as goal
