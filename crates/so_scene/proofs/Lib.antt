@@ -1,2 +1,3 @@
 pub mod AgentLaws
 pub mod LaneLaws
+pub mod Positions

@@ -1,3 +1,5 @@
-pub mod Words
-pub mod Parts
+pub mod Faults
 pub mod Lanes
+pub mod Names
+pub mod Parts
+pub mod Words

@@ -1,26 +1,32 @@
 -- The parts of a scene by number, and what a checked scene keeps.
-use Rattle.std.specs.Prelude.{◌≡◌, ℕ, ◌+◌, ◌<◌, ◌≤◌, pos, false, true, List, [], length, replicate, slice_index_or}
-use Rattle.std.specs.List.{All, AllByRecursion}
+use Rattle.std.specs.Prelude.{◌≡◌, ℕ, zero, suc, ◌+◌, ◌<◌, ◌≤◌, ◌==◌, pos, List, [], ◌∷◌, length, map, replicate, slice_index_or, bytes_eq, nat_eq, false, Option, None, option_map, if◌then◌else◌}
+use Rattle.std.specs.List.{All, IsDistinct, position}
 use Rattle.so_lists.specs.Lists.{each_below}
 use Rattle.so_ids.specs.declared.AgentId.{AgentId}
 use Rattle.so_ids.specs.declared.CoopId.{CoopId}
-use Rattle.so_ids.specs.declared.TextId.{TextId}
-use Rattle.so_code.specs.declared.instr.Instr.{Instr}
-use Rattle.so_code.specs.declared.instr.Instr.TheVariants.{Set, Add, Sub, Mul, If, Skip, Throw, Log, Send, Stop, End}
-use Rattle.so_code.specs.Shape.{IsCode}
 use Rattle.so_ids.specs.declared.MboxId.{MboxId}
 use Rattle.so_ids.specs.declared.MsgId.{MsgId}
-use Rattle.so_ids.specs.declared.Vars.{Vars}
+use Rattle.so_ids.specs.declared.RowId.{RowId}
+use Rattle.so_ids.specs.declared.TextId.{TextId}
 use Rattle.so_ids.specs.declared.Target.{Target}
 use Rattle.so_ids.specs.declared.Target.TheVariants.{Mbox, Chain}
-use Rattle.so_state.specs.declared.states.State.{State}
-use Rattle.so_state.specs.declared.choice.Row.{Row}
-use Rattle.so_state.specs.declared.choice.RowKind.TheVariants.{Run}
-use Rattle.so_state.specs.States.{default_state}
+use Rattle.so_code.specs.declared.instr.Instr.{Instr}
+use Rattle.so_code.specs.declared.instr.Instr.TheVariants as instr
+use Rattle.so_code.specs.Bodies.{bodies_in}
+use Rattle.so_code.specs.Shape.{IsCode, agent_bodies}
 use Rattle.so_scene.specs.declared.parts.MessageDef.{MessageDef}
 use Rattle.so_scene.specs.declared.parts.CoopDef.{CoopDef}
+use Rattle.so_scene.specs.declared.parts.RowDef.{RowDef}
 use Rattle.so_scene.specs.declared.parts.AgentDef.{AgentDef}
 use Rattle.so_scene.specs.declared.parts.SceneParts.{SceneParts}
+
+-- ---- parts by number
+
+abbrev pub no_message : MessageDef
+no_message = record { name = []; signal = false }
+
+abbrev pub message_of : SceneParts → MsgId → MessageDef
+message_of s m = slice_index_or s.messages m.0 no_message
 
 abbrev pub no_agent : AgentDef
 no_agent = record { name = []; coop = record { 0 = 0 }; vars = record { 0 = replicate 16 (pos 0) }; rows = []; code = [] }
@@ -46,29 +52,55 @@ agents_of s c = agents_from (coop_of s c).first (coop_of s c).count
 abbrev pub code_of : SceneParts → AgentId → List Instr
 code_of s a = (agent_of s a).code
 
--- the variables with which an agent begins, its subscriptions and its declared states, of which it has none
-abbrev pub vars_of : SceneParts → AgentId → Vars
-vars_of s a = (agent_of s a).vars
-
-abbrev pub rows_of : SceneParts → AgentId → List Row
-rows_of s a = (agent_of s a).rows
-
-abbrev pub states_of : SceneParts → AgentId → List State
-states_of s a = []
-
--- an agent's own mbox has the agent's number
-abbrev pub direct_mbox : AgentId → MboxId
-direct_mbox a = record { 0 = a.0 }
-
-abbrev pub no_message : MessageDef
-no_message = record { name = []; signal = false }
-
-abbrev pub message_of : SceneParts → MsgId → MessageDef
-message_of s m = slice_index_or s.messages m.0 no_message
-
 -- the bytes of a text
 abbrev pub text_of : SceneParts → TextId → List ℕ
 text_of s t = slice_index_or s.texts t.0 []
+
+-- ---- mboxes and rows
+
+-- the direct mbox of an agent has the agent's number
+abbrev pub direct_mbox : AgentId → MboxId
+direct_mbox a = record { 0 = a.0 }
+
+abbrev pub row_number : ℕ → RowId
+row_number k = record { 0 = k }
+
+abbrev pub msg_number : RowDef → ℕ
+msg_number row = row.msg.0
+
+-- the first row for a type
+abbrev pub row_for : List RowDef → MsgId → Option RowId
+row_for rows msg = option_map row_number (position (λ row. msg_number row == msg.0) rows)
+
+-- the row of an agent for a type at a mbox: agents subscribe to their direct mboxes alone
+abbrev pub row_of : SceneParts → AgentId → MboxId → MsgId → Option RowId
+row_of s a mbox msg = if mbox.0 == a.0 then row_for (agent_of s a).rows msg else None
+
+-- ---- what a checked scene keeps
+
+-- in a scene of so many agents, a delivery goes to the direct mbox of one of them
+abbrev pub IsTarget : ℕ → Target → Type 0
+IsTarget agents (Mbox mbox) = mbox.0 < agents
+IsTarget agents (Chain chain) = ⊥
+
+-- what an instruction names is in a scene of so many agents, messages and texts. Instructions that don't stand here come
+-- in no scene yet
+abbrev pub NamesWithin : ℕ → ℕ → ℕ → Instr → Type 0
+NamesWithin agents messages texts (instr.Set to a) = Unit {0}
+NamesWithin agents messages texts (instr.Add to a b) = Unit {0}
+NamesWithin agents messages texts (instr.Sub to a b) = Unit {0}
+NamesWithin agents messages texts (instr.Mul to a b) = Unit {0}
+NamesWithin agents messages texts (instr.If a cmp b count) = Unit {0}
+NamesWithin agents messages texts (instr.Skip count) = Unit {0}
+NamesWithin agents messages texts (instr.Throw a) = Unit {0}
+NamesWithin agents messages texts (instr.Log text args) = text.0 < texts
+NamesWithin agents messages texts (instr.Send target msg args) = IsTarget agents target × (msg.0 < messages)
+NamesWithin agents messages texts instr.Stop = Unit {0}
+NamesWithin agents messages texts (instr.End body) = Unit {0}
+NamesWithin agents messages texts other = ⊥
+
+abbrev pub NamesParts : SceneParts → Instr → Type 0
+NamesParts s i = NamesWithin (length s.agents) (length s.messages) (length s.texts) i
 
 -- the one cooperation, of all agents
 pub record IsCoop (s : SceneParts) (c : CoopDef) : Type 0 where
@@ -76,55 +108,43 @@ pub record IsCoop (s : SceneParts) (c : CoopDef) : Type 0 where
   pub first : c.first.0 ≡ 0
   pub count : c.count ≡ length s.agents
 
--- ---- what an instruction names
+-- the numbers of n rows, from k on
+abbrev pub numbers_from : ℕ → ℕ → List RowId
+numbers_from k zero = []
+numbers_from k (suc n) = row_number k ∷ numbers_from (suc k) n
 
-abbrev pub NamesTarget : SceneParts → Target → Type 0
-NamesTarget s (Mbox mbox) = mbox.0 < length s.agents
-NamesTarget s (Chain chain) = ⊥
+abbrev pub row_numbers : ℕ → List RowId
+row_numbers n = numbers_from 0 n
 
--- what the instruction names is there; it is one of those that are built
-abbrev pub NamesParts : SceneParts → Instr → Type 0
-NamesParts s (Log text args) = text.0 < length s.texts
-NamesParts s (Send target msg args) = NamesTarget s target × (msg.0 < length s.messages)
-NamesParts s (Set to a) = Unit {0}
-NamesParts s (Add to a b) = Unit {0}
-NamesParts s (Sub to a b) = Unit {0}
-NamesParts s (Mul to a b) = Unit {0}
-NamesParts s (If a cmp b count) = Unit {0}
-NamesParts s (Skip count) = Unit {0}
-NamesParts s (Throw a) = Unit {0}
-NamesParts s Stop = Unit {0}
-NamesParts s (End body) = Unit {0}
-NamesParts s other = ⊥
-
--- a subscription that runs its handler in the default state
-pub record IsRow (s : SceneParts) (row : Row) : Type 0 where
-  pub msg : row.msg.0 < length s.messages
-  pub state : row.state ≡ default_state
-  pub runs : row.kind ≡ Run
-  pub active : row.active ≡ true
-
+-- an agent of the one cooperation: its rows are of different types of the scene, its code is made of its start, its
+-- finish and the body of each row, and names what is in the scene
 pub record IsAgent (s : SceneParts) (a : AgentDef) : Type 0 where
   pub named : length a.name ≤ 32
   pub coop : a.coop.0 ≡ 0
+  pub vars : length a.vars.0 ≡ 16
   pub few_rows : length a.rows ≤ 128
-  pub rows : All (IsRow s) a.rows
+  pub rows : All (λ row. msg_number row < length s.messages) a.rows
+  pub no_twice : IsDistinct nat_eq (map msg_number a.rows)
   pub code : IsCode a.code
-  pub parts : AllByRecursion (NamesParts s) a.code
+  pub bodies : bodies_in a.code ≡ agent_bodies 0 (row_numbers (length a.rows))
+  pub parts : All (NamesParts s) a.code
 
--- all its rows are for events from its own mbox
-abbrev pub HasOwnRows : SceneParts → AgentId → Type 0
-HasOwnRows s a = AllByRecursion (λ row. row.mbox ≡ direct_mbox a) (rows_of s a)
+abbrev pub message_name : MessageDef → List ℕ
+message_name m = m.name
+
+abbrev pub agent_name : AgentDef → List ℕ
+agent_name a = a.name
 
 -- the parts are those of a scene
 pub record IsScene (s : SceneParts) : Type 0 where
   pub few_messages : length s.messages ≤ 256
-  pub messages : All (λ m. length m.name ≤ 32) s.messages
+  pub message_names : IsDistinct bytes_eq (map message_name s.messages)
   pub one_coop : length s.coops ≡ 1
   pub coops : All (IsCoop s) s.coops
   pub some_agent : 0 < length s.agents
   pub few_agents : length s.agents ≤ 4096
   pub agents : All (IsAgent s) s.agents
-  pub own_rows : (a : AgentId) → HasOwnRows s a
+  pub agent_names : IsDistinct bytes_eq (map agent_name s.agents)
   pub few_texts : length s.texts ≤ 4096
   pub texts : All (λ t. length t ≤ 64) s.texts
+  pub each_text_once : IsDistinct bytes_eq s.texts

@@ -4,12 +4,18 @@
 mod fault;
 mod items;
 mod lanes;
+mod names;
 mod parts;
+mod place;
+mod print;
 mod scene;
 mod words;
 
 pub use fault::{SceneFault, SceneRefusal};
 pub use items::Items;
-pub use parts::{AgentDef, CoopDef, MessageDef, SceneParts};
-pub use scene::Scene;
-pub use words::{Name, Text};
+pub use names::Names;
+pub use parts::{AgentDef, CoopDef, MessageDef, RowDef, SceneParts};
+pub use place::{Field, PlaceStep, ScenePlace};
+pub use print::{put_fault, put_place};
+pub use scene::{Scene, direct_mbox};
+pub use words::{Name, Text, is_name, is_text};

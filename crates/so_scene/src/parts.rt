@@ -3,10 +3,9 @@
 use crate::items::Items;
 use crate::words::{Name, Text};
 use so_code::Code;
-use so_ids::{AgentId, CoopId, Vars};
-use so_state::Row;
+use so_ids::{AgentId, CoopId, MsgId, Vars};
 
-/// A type of messages. A signal carries nothing.
+/// A type of messages. A signal carries no values.
 #[derive(Debug, Drop)]
 pub struct MessageDef {
     pub name: Name,
@@ -21,14 +20,21 @@ pub struct CoopDef {
     pub count: u32,
 }
 
-/// An agent: its cooperation, the variables with which it begins, its subscriptions, and the code of its
+/// A subscription of an agent to a type at its own direct mbox. Row k runs the body `Row(k)` of the
+/// agent's code.
+#[derive(Clone, Copy, Debug, PartialEq, Eq)]
+pub struct RowDef {
+    pub msg: MsgId,
+}
+
+/// An agent: its cooperation, the variables with which it begins, its subscriptions and the code of its
 /// handlers.
 #[derive(Debug, Drop)]
 pub struct AgentDef {
     pub name: Name,
     pub coop: CoopId,
     pub vars: Vars,
-    pub rows: Items<Row>,
+    pub rows: Items<RowDef>,
     pub code: Code,
 }
 

@@ -1,10 +1,10 @@
 //! A scene whose parts were checked.
 
-ghost use Rattle.std.specs.Prelude.{◌≡◌, ◌<◌, ◌≤◌, ◌+◌, length};
-ghost use Rattle.so_scene.specs.Parts.{agent_of, coop_of, text_of, IsScene};
+ghost use Rattle.std.specs.Prelude.{◌≡◌, ◌<◌, ◌≤◌, ◌+◌, length, option_map, position, ◌==◌, IfSome};
+ghost use Rattle.so_scene.specs.Parts.{message_of, agent_of, coop_of, text_of, direct_mbox, row_for, row_of, msg_number, IsScene};
 
-use crate::parts::{AgentDef, CoopDef, SceneParts};
-use so_ids::{AgentId, CoopId, TextId};
+use crate::parts::{AgentDef, CoopDef, MessageDef, RowDef, SceneParts};
+use so_ids::{AgentId, CoopId, MboxId, MsgId, RowId, TextId};
 use std::marker::Model;
 
 /// A scene: agents of one cooperation, and the texts that they log.
@@ -41,6 +41,13 @@ impl Scene {
         &self.parts
     }
 
+    /// How many types of messages there are.
+    pub fn messages(&self) -> u32
+        ensures { result ≡ length self.now.messages }
+    {
+        self.parts.messages.len() as u32
+    }
+
     /// How many agents there are.
     pub fn agents(&self) -> u32
         ensures { result ≡ length self.now.agents }
@@ -62,11 +69,18 @@ impl Scene {
         self.parts.texts.len() as u32
     }
 
+    /// A type of messages by its number.
+    pub fn message(&self, msg: MsgId) -> &MessageDef
+        requires { msg.0 < length self.now.messages }
+        ensures { result.now ≡ message_of self.now msg }
+    {
+        &self.parts.messages.as_slice()[msg.0 as usize]
+    }
+
     /// An agent by its number.
     pub fn agent(&self, agent: AgentId) -> &AgentDef
         requires { agent.0 < length self.now.agents }
-        ensures value { result.now ≡ agent_of self.now agent }
-        ensures few { length result.now.rows ≤ 128 }
+        ensures { result.now ≡ agent_of self.now agent }
     {
         &self.parts.agents.as_slice()[agent.0 as usize]
     }
@@ -87,5 +101,52 @@ impl Scene {
         ensures short { length result.now ≤ 64 }
     {
         self.parts.texts.as_slice()[text.0 as usize].bytes()
+    }
+
+    /// The rows of an agent.
+    fn rows(&self, agent: AgentId) -> &[RowDef]
+        requires { agent.0 < length self.now.agents }
+        ensures value { result.now ≡ (agent_of self.now agent).rows }
+        ensures few { length result.now ≤ 128 }
+    {
+        self.parts.agents.as_slice()[agent.0 as usize]
+            .rows
+            .as_slice()
+    }
+
+    /// The row of an agent that handles a type at a mbox: the first for the type where the mbox is the
+    /// agent's direct one, and no row elsewhere.
+    pub fn row(&self, agent: AgentId, mbox: MboxId, msg: MsgId) -> Option<RowId>
+        requires { agent.0 < length self.now.agents }
+        ensures value { result ≡ row_of self.now agent mbox msg }
+    {
+        if mbox.0 != agent.0 {
+            return None;
+        }
+        first_for(self.rows(agent), msg)
+    }
+}
+
+/// The direct mbox of an agent, which has the agent's number. Only the agent subscribes to it.
+pub fn direct_mbox(agent: AgentId) -> MboxId
+    ensures { result ≡ direct_mbox agent }
+{
+    MboxId(agent.0)
+}
+
+fn place_for(rows: &[RowDef], msg: MsgId) -> Option<usize>
+    ensures value { result ≡ position (λ row. msg_number row == msg.0) rows.now }
+    ensures range { IfSome result (λ place. place < length rows.now) }
+{
+    rows.iter().position(|row| row.msg.0 == msg.0)
+}
+
+fn first_for(rows: &[RowDef], msg: MsgId) -> Option<RowId>
+    requires { length rows.now ≤ 128 }
+    ensures { result ≡ row_for rows.now msg }
+{
+    match place_for(rows, msg) {
+        Some(place) => Some(RowId(place as u32)),
+        None => None,
     }
 }

@@ -1,6 +1,6 @@
 //! Names and texts, in place.
 
-ghost use Rattle.std.specs.Prelude.{◌≡◌, ◌≤◌, length, true, IfSome, IfNone, false};
+ghost use Rattle.std.specs.Prelude.{◌≡◌, ◌≤◌, [], length, true, IfSome, IfNone, false};
 ghost use Rattle.std.specs.List.{list_all};
 ghost use Rattle.so_scene.specs.Words.{is_name, is_text, is_name_byte, is_text_byte};
 
@@ -36,6 +36,26 @@ impl Name {
         let mut held = ArrayVec::new();
         match held.try_extend_from_slice(bytes) {
             Ok(()) => Some(Name { held }),
+            Err(_) => unreachable!(),
+        }
+    }
+
+    /// No bytes, for what has no name.
+    pub fn none() -> Name
+        ensures { result ≡ [] }
+    {
+        Name {
+            held: ArrayVec::new(),
+        }
+    }
+
+    /// The same name.
+    pub fn copy(&self) -> Name
+        ensures { result ≡ self.now }
+    {
+        let mut held = ArrayVec::new();
+        match held.try_extend_from_slice(self.held.as_slice()) {
+            Ok(()) => Name { held },
             Err(_) => unreachable!(),
         }
     }
@@ -91,7 +111,8 @@ impl Text {
     }
 }
 
-fn is_name(bytes: &[u8]) -> bool
+/// Tells whether bytes are a name.
+pub fn is_name(bytes: &[u8]) -> bool
     ensures { result ≡ is_name bytes.now }
 {
     if bytes.is_empty() || bytes.len() > 32 {
@@ -112,7 +133,8 @@ fn is_name_byte(byte: u8) -> bool
     matches!(byte, b'0'..=b'9' | b'A'..=b'Z' | b'a'..=b'z' | b'_')
 }
 
-fn is_text(bytes: &[u8]) -> bool
+/// Tells whether bytes are a text.
+pub fn is_text(bytes: &[u8]) -> bool
     ensures { result ≡ is_text bytes.now }
 {
     if bytes.len() > 64 {

@@ -1,45 +1,456 @@
--- Log acts between the ends of two bodies are a code.
-use Rattle.std.proofs.Common.{◌≡◌, ℕ, ◌≤◌, List, [], ◌∷◌, ◌++◌, length, true, refl, arith, sym, ap, ◌∙◌, subst, length-append, append_assoc}
-use Rattle.std.specs.List.{All, AllByRecursion}
-use Rattle.std.proofs.lemmas.List.Elements.{recursion_from_All, All-from_recursion}
+-- What the building writes is the code of an agent.
+use Rattle.std.proofs.Common.{◌≡◌, ℕ, zero, suc, ◌+◌, ◌-◌, ◌<◌, ◌≤◌, ◌^◌, ℤ, pos, negsuc, List, [], ◌∷◌, ◌++◌, length, Bool, true, false, Option, Some, None, Result, Ok, Err, refl, sym, ap, ◌∙◌, subst, arith, inl, length-append, append_assoc, if◌then◌else◌, nat_le, nat_lt}
+use Rattle.std.proofs.Math.Nat.{min-le_left, min-le_right}
+use Rattle.std.proofs.lemmas.Bool.{leb-true, ltb-true}
+use Rattle.std.proofs.lemmas.List.Quantifiers.{position-Some}
+use Rattle.std.specs.Prelude.{slice_get, slice_index, bytes_eq, map, codes}
+use Rattle.std.specs.List.Sorted.{IsStrictlyIncreasing}
+use Rattle.so_scene.specs.declared.fault.SceneFault.{SceneFault}
+use Rattle.std.specs.List.{AllByRecursion}
+use Rattle.std.specs.Option.{option_map, option_and_then}
+use Rattle.serde_json.specs.Data.{Num, Data, Items, no_items, item}
+use Rattle.serde_json.specs.Events.{items_len}
+use Rattle.serde_json.specs.Find.{as_number, as_i64, as_str, get, get_item}
+use Rattle.so_code.specs.declared.instr.Operand.TheVariants as operand
+use Rattle.so_code.specs.declared.instr.Dest.TheVariants as dest
 use Rattle.so_code.specs.declared.instr.Instr.{Instr}
-use Rattle.so_code.specs.declared.instr.Instr.TheVariants.{Log, End}
-use Rattle.so_code.specs.declared.instr.Body.TheVariants.{Start, Finish}
-use Rattle.so_code.specs.Bodies.{are_bodies}
-use Rattle.so_code.specs.Valid.{HasParts, IsCode}
-use Rattle.so_scene.specs.Parts.{NamesTexts}
-use Rattle.so_scene_json.specs.Acts.{IsLog}
-use Rattle.so_scene_json.specs.Agents.{only_texts}
+use Rattle.so_code.specs.declared.instr.Instr.TheVariants as instr
+use Rattle.so_code.specs.Valid.{IsOperand, IsDest, AreArgs}
+use Rattle.so_code.specs.declared.instr.Args.{Args}
+use Rattle.so_code.specs.declared.instr.Body.{Body}
+use Rattle.so_code.specs.declared.instr.Body.TheVariants as body
+use Rattle.so_code.specs.Bodies.{bodies_in}
+use Rattle.so_code.specs.Shape.{IsActBefore, AreActsBefore, Part, plain, acts_code, flatten, may_switch, IsPart, IsCode, AreInOrder, AreAgentBodies, body_of, agent_bodies, row_number}
+use Rattle.so_code.proofs.BuildLaws.{structured, plain_code, plain_acts, bodies_in-flatten}
+use Rattle.so_lists.proofs.Filters.{each-append}
+use Rattle.so_scene.specs.Words.{is_text}
+use Rattle.so_scene_json.specs.Acts.{act_parts}
+use Rattle.so_scene_json.specs.Build.{body_written, row_body, rows_written, agent_written}
+use Rattle.std.proofs.lemmas.List.{append-nil}
+use Rattle.so_scene.specs.Names.{number_in}
+use Rattle.so_scene.specs.Parts.{NamesWithin, numbers_from, row_numbers}
+use Rattle.so_scene_json.specs.declared.act_table.Word.{Word}
+use Rattle.so_scene_json.specs.declared.act_table.Word.TheVariants as word
+use Rattle.so_scene_json.specs.declared.values.Trouble.{Trouble}
+use Rattle.so_scene_json.specs.declared.values.Trouble.TheVariants.{OutOfRange}
+use Rattle.so_scene_json.specs.declared.declare.Declared.{Declared}
+use Rattle.so_scene_json.specs.declared.write.Writer.{Writer}
+use Rattle.so_scene_json.specs.Values.{◌or◌, ◌else◌, ◌then◌, numbered, small_number, operand_named, operand_or_number, operand_of, dest_named, dest_of, named, integer_of, natural_up_to, count_of, text_or_empty}
+use Rattle.so_scene_json.specs.Visits.{narrow, list_of}
+use Rattle.so_scene_json.specs.Writer.{ok_or, read_or, operand_at, dest_at, count_at, args_from, send_instr, text_at, string_at, texts_with, number_or_next, with_instr, word_written, parts_written, act_written, acts_written, idle}
 
-abbrev ends : List Instr
-ends = End Start ∷ End Finish ∷ []
+-- ---- operands
 
-bodies : (n : ℕ) (xs : List Instr) → AllByRecursion (IsLog n) xs → are_bodies (Start ∷ Finish ∷ []) (xs ++ ends) ≡ true
-bodies n [] h = refl
-bodies n (Log text args ∷ xs) h = bodies n xs h.1
-bodies n (End body ∷ xs) h = absurd h.0
+OnSome : {X : Type 0} (P : X → Type 0) → Option X → Type 0
+OnSome P None = Unit {0}
+OnSome P (Some x) = P x
 
-parts : (n : ℕ) (xs : List Instr) → AllByRecursion (IsLog n) xs → AllByRecursion HasParts (xs ++ ends)
-parts n [] h = (tt, (tt, tt))
-parts n (Log text args ∷ xs) h = (h.0.1, parts n xs h.1)
-parts n (End body ∷ xs) h = absurd h.0
+OnOk : {X : Type 0} (P : X → Type 0) → Result X Trouble → Type 0
+OnOk P (Err t) = Unit {0}
+OnOk P (Ok x) = P x
 
-named : (texts : List (List ℕ)) (xs : List Instr) → AllByRecursion (IsLog (length texts)) xs → AllByRecursion (NamesTexts (only_texts texts)) (xs ++ ends)
-named texts [] h = (tt, (tt, tt))
-named texts (Log text args ∷ xs) h = (h.0.0, named texts xs h.1)
-named texts (End body ∷ xs) h = absurd h.0
+below : (b : Bool) (n limit : ℕ) → nat_lt n limit ≡ b → OnSome (λ k. k < limit) (if b then Some n else None)
+unfolding OnSome
+below true n limit e = ltb-true n limit e
+below false n limit e = tt
 
-both : (xs ys zs : List Instr) → ys ≡ xs ++ End Start ∷ [] → zs ≡ ys ++ End Finish ∷ [] → xs ++ ends ≡ zs
-both xs ys zs e f = sym (f ∙ ap (λ l. l ++ End Finish ∷ []) e ∙ append_assoc xs (End Start ∷ []) (End Finish ∷ []))
+and_below : (limit : ℕ) (o : Option ℕ) → OnSome (λ k. k < limit) (option_and_then (λ n. if nat_lt n limit then Some n else None) o)
+unfolding OnSome
+and_below limit None = tt
+and_below limit (Some n) = below (nat_lt n limit) n limit refl
 
-few : (xs : List Instr) → length xs ≤ 256 → length (xs ++ ends) ≤ 1024
-few xs h = let len = length-append xs ends in omega (arith, len)
+where_letter : (b : Bool) (limit : ℕ) (o : Option ℕ) → OnSome (λ k. k < limit) o → OnSome (λ k. k < limit) (if b then o else None)
+unfolding OnSome
+where_letter true limit o h = h
+where_letter false limit o h = tt
 
-pub is_code : (n : ℕ) (xs ys zs : List Instr) → All (IsLog n) xs → length xs ≤ 256 → ys ≡ xs ++ End Start ∷ [] → zs ≡ ys ++ End Finish ∷ [] → IsCode zs
-is_code n xs ys zs h l e f =
-    let logs = recursion_from_All (IsLog n) xs h in
-    subst IsCode (both xs ys zs e f) (record { few = few xs l; parts = All-from_recursion HasParts (xs ++ ends) (parts n xs logs); bodies = bodies n xs logs })
+numbered_below : (letter limit : ℕ) (text : List ℕ) → OnSome (λ k. k < limit) (numbered letter limit text)
+unfolding numbered OnSome
+numbered_below letter limit [] = tt
+numbered_below letter limit (c ∷ digits) = where_letter _ limit _ (and_below limit (small_number digits))
 
-pub names_texts : (texts : List (List ℕ)) (xs ys zs : List Instr) → All (IsLog (length texts)) xs → ys ≡ xs ++ End Start ∷ [] → zs ≡ ys ++ End Finish ∷ [] → All (NamesTexts (only_texts texts)) zs
-names_texts texts xs ys zs h e f =
-    subst (All (NamesTexts (only_texts texts))) (both xs ys zs e f) (All-from_recursion (NamesTexts (only_texts texts)) (xs ++ ends) (named texts xs (recursion_from_All (IsLog (length texts)) xs h)))
+mapped : {X Y : Type 0} (P : X → Type 0) (Q : Y → Type 0) (f : X → Y) (o : Option X) → ((x : X) → P x → Q (f x)) → OnSome P o → OnSome Q (option_map f o)
+unfolding OnSome
+mapped P Q f None h k = tt
+mapped P Q f (Some x) h k = h x k
+
+either : {X : Type 0} (P : X → Type 0) (a b : Option X) → OnSome P a → OnSome P b → OnSome P (a or b)
+unfolding OnSome
+either P None b h k = k
+either P (Some x) b h k = h
+
+is_ans : (b : Bool) → OnSome IsOperand (if b then Some operand.Ans else None)
+unfolding OnSome
+is_ans true = tt
+is_ans false = tt
+
+operand_named_fine : (text : List ℕ) → OnSome IsOperand (operand_named text)
+operand_named_fine text =
+    either IsOperand _ _
+    (either IsOperand _ _
+    (either IsOperand _ _
+    (mapped (λ k. k < 16) IsOperand operand.Var (numbered 118 16 text) (λ k h. h) (numbered_below 118 16 text))
+    (mapped (λ k. k < 4) IsOperand operand.Msg (numbered 109 4 text) (λ k h. h) (numbered_below 109 4 text)))
+    (mapped (λ k. k < 4) IsOperand operand.Temp (numbered 116 4 text) (λ k h. h) (numbered_below 116 4 text)))
+    (is_ans (bytes_eq text _))
+
+dest_named_fine : (text : List ℕ) → OnSome IsDest (dest_named text)
+dest_named_fine text =
+    either IsDest _ _
+    (mapped (λ k. k < 16) IsDest dest.Var (numbered 118 16 text) (λ k h. h) (numbered_below 118 16 text))
+    (mapped (λ k. k < 4) IsDest dest.Temp (numbered 116 4 text) (λ k h. h) (numbered_below 116 4 text))
+
+or_trouble : {X : Type 0} (P : X → Type 0) (o : Option X) (t : Trouble) → OnSome P o → OnOk P (o else t)
+unfolding OnSome OnOk
+or_trouble P None t h = tt
+or_trouble P (Some x) t h = h
+
+after_string : {X : Type 0} (P : X → Type 0) (f : List ℕ → Option X) (o : Option (List ℕ)) → ((text : List ℕ) → OnSome P (f text)) → OnSome P (option_and_then f o)
+unfolding OnSome
+after_string P f None h = tt
+after_string P f (Some text) h = h text
+
+named_fine : {X : Type 0} (P : X → Type 0) (f : List ℕ → Option X) (d : Data) → ((text : List ℕ) → OnSome P (f text)) → OnOk P (named f d)
+named_fine P f d h = or_trouble P _ _ (after_string P f (as_str d) h)
+
+num_fine : (o : Option ℤ) → OnSome IsOperand (option_map operand.Num o)
+unfolding OnSome
+num_fine None = tt
+num_fine (Some z) = tt
+
+operand_in_fine : (n : Option Num) (d : Data) → OnOk IsOperand (operand_or_number n d)
+operand_in_fine None d = named_fine IsOperand operand_named d operand_named_fine
+operand_in_fine (Some n) d = or_trouble IsOperand _ _ (num_fine (as_i64 n))
+
+ok_fine : {X : Type 0} (P : X → Type 0) (x : X) (r : Result X Trouble) → P x → OnOk P r → P (ok_or x r)
+unfolding OnOk
+ok_fine P x (Err t) h k = h
+ok_fine P x (Ok y) h k = k
+
+read_fine : {X : Type 0} (P : X → Type 0) (x : X) (f : Data → Result X Trouble) (o : Option Data) → P x → ((d : Data) → OnOk P (f d)) → P (read_or x f o)
+read_fine P x f None h k = h
+read_fine P x f (Some d) h k = ok_fine P x (f d) h (k d)
+
+operand_fine : (i : ℕ) (ds : Items) → IsOperand (operand_at i ds)
+operand_fine i ds = read_fine IsOperand (operand.Num (pos 0)) operand_of (get_item i ds) tt (λ d. operand_in_fine (as_number d) d)
+
+dest_fine : (i : ℕ) (ds : Items) → IsDest (dest_at i ds)
+dest_fine i ds = read_fine IsDest (dest.Var 0) dest_of (get_item i ds) (omega arith) (λ d. named_fine IsDest dest_named d dest_named_fine)
+
+get_each : {X : Type 0} (P : X → Type 0) (xs : List X) → AllByRecursion P xs → (k : ℕ) (x : X) → slice_get xs k ≡ Some x → P x
+get_each P [] a zero x e = absurd cc
+get_each P [] a (suc k) x e = absurd cc
+get_each P (y ∷ ys) a zero x e = let same : y ≡ x = cc in subst P same a.0
+get_each P (y ∷ ys) a (suc k) x e = get_each P ys a.1 k x e
+
+args_fine : (i : ℕ) (ds : Items) → AreArgs (args_from i ds)
+args_fine i ds = record {
+  each = get_each IsOperand (args_from i ds).list (operand_fine i ds, (operand_fine (i + 1) ds, (operand_fine (i + 2) ds, (operand_fine (i + 3) ds, tt))));
+  few = min-le_right (items_len ds - i) 4;
+}
+
+nothing : {X : Type 0} (P : X → Type 0) → OnOk P (Err OutOfRange)
+unfolding OnOk
+nothing P = tt
+
+up_to : (b : Bool) (n limit : ℕ) → nat_le n limit ≡ b → OnOk (λ k. k ≤ limit) (if b then Ok n else Err OutOfRange)
+unfolding OnOk
+up_to true n limit e = leb-true n limit e
+up_to false n limit e = tt
+
+natural_fine : (limit : ℕ) (z : ℤ) → OnOk (λ k. k ≤ limit) (natural_up_to limit z)
+natural_fine limit (pos n) = up_to (nat_le n limit) n limit refl
+natural_fine limit (negsuc n) = nothing (λ k. k ≤ limit)
+
+then_fine : {X Y : Type 0} (P : Y → Type 0) (r : Result X Trouble) (f : X → Result Y Trouble) → ((x : X) → OnOk P (f x)) → OnOk P (r then f)
+unfolding OnOk
+then_fine P (Ok x) f h = h x
+then_fine P (Err t) f h = tt
+
+count_fine : (rest i : ℕ) (ds : Items) → count_at rest i ds ≤ rest
+count_fine rest i ds =
+    let read : read_or 0 (count_of rest) (get_item i ds) ≤ rest = read_fine (λ k. k ≤ rest) 0 (count_of rest) (get_item i ds) (omega arith) (λ d. then_fine (λ k. k ≤ rest) (integer_of d) (natural_up_to rest) (natural_fine rest)) in
+    omega (arith, read, min-le_left (read_or 0 (count_of rest) (get_item i ds)) (2 ^ 32 - 1))
+
+-- ---- one act
+
+-- an act writes one instruction, which may stand before so many others, and names what there is
+record Wrote (names : Declared) (rest : ℕ) (w v : Writer) : Type 0 where
+  one : Instr
+  same : v.code ≡ w.code ++ one ∷ []
+  fine : IsActBefore true one rest
+  grows : length w.texts ≤ length v.texts
+  named : NamesWithin (length names.parties) (length names.messages) (length v.texts) one
+  texts : AllByRecursion (λ t. is_text t ≡ true) w.texts → AllByRecursion (λ t. is_text t ≡ true) v.texts
+
+simple : (names : Declared) (rest : ℕ) (w : Writer) (i : Instr) → IsActBefore true i rest → NamesWithin (length names.parties) (length names.messages) (length w.texts) i → Wrote names rest w (with_instr i w)
+simple names rest w i f n = record { one = i; same = refl; fine = f; grows = omega arith; named = n; texts = λ a. a }
+
+idle_fine : (rest : ℕ) → IsActBefore true idle rest
+idle_fine rest = record { act = refl; switch = λ e. refl; parts = tt; jumps = omega arith }
+
+send_fine : (rest : ℕ) (a m : Option ℕ) (args : Args) → AreArgs args → IsActBefore true (send_instr a m args) rest
+send_fine rest (Some a) (Some m) args h = record { act = refl; switch = λ e. refl; parts = h; jumps = omega arith }
+send_fine rest (Some a) None args h = idle_fine rest
+send_fine rest None m args h = idle_fine rest
+
+send_named : (agents messages texts : ℕ) (a m : Option ℕ) (args : Args) → OnSome (λ k. k < agents) a → OnSome (λ k. k < messages) m → NamesWithin agents messages texts (send_instr a m args)
+unfolding OnSome
+send_named agents messages texts (Some a) (Some m) args h k = (omega (arith, h, min-le_left a (2 ^ 32 - 1)), omega (arith, k, min-le_left m (2 ^ 32 - 1)))
+send_named agents messages texts (Some a) None args h k = tt
+send_named agents messages texts None m args h k = tt
+
+on_some : {X : Type 0} (P : X → Type 0) (o : Option X) → ((x : X) → o ≡ Some x → P x) → OnSome P o
+unfolding OnSome
+on_some P None f = tt
+on_some P (Some x) f = f x refl
+
+number_below : (names : List (List ℕ)) (name : List ℕ) → OnSome (λ k. k < length names) (number_in names name)
+number_below names name = on_some (λ k. k < length names) (number_in names name) (λ i e. (position-Some (bytes_eq name) names i [] e).0)
+
+text_wrote : (names : Declared) (rest : ℕ) (w : Writer) (t : List ℕ) (args : Args) (o : Option ℕ) → OnSome (λ k. k < length w.texts) o → is_text t ≡ true → AreArgs args
+    → Wrote names rest w (with_instr (instr.Log (record { 0 = number_or_next o w.texts }) args) (record w { texts = texts_with o t w.texts }))
+unfolding OnSome
+text_wrote names rest w t args (Some n) h is are = record {
+  one = instr.Log (record { 0 = narrow n }) args;
+  same = refl;
+  fine = record { act = refl; switch = λ e. refl; parts = are; jumps = omega arith };
+  grows = omega arith;
+  named = omega (arith, h, min-le_left n (2 ^ 32 - 1));
+  texts = λ a. a;
+}
+text_wrote names rest w t args None h is are = record {
+  one = instr.Log (record { 0 = narrow (length w.texts) }) args;
+  same = refl;
+  fine = record { act = refl; switch = λ e. refl; parts = are; jumps = omega arith };
+  grows = omega (arith, length-append w.texts (t ∷ []));
+  named = omega (arith, length-append w.texts (t ∷ []), min-le_left (length w.texts) (2 ^ 32 - 1));
+  texts = λ a. each-append (λ t. is_text t ≡ true) w.texts (t ∷ []) a (is, tt);
+}
+
+checked_text : (b : Bool) (s : List ℕ) → is_text s ≡ b → is_text (text_or_empty (if b then Some s else None)) ≡ true
+checked_text true s e = e
+checked_text false s e = refl
+
+text_at_fine : (i : ℕ) (ds : Items) → is_text (text_at i ds) ≡ true
+text_at_fine i ds = checked_text (is_text (string_at i ds)) (string_at i ds) refl
+
+wrote_word : (names : Declared) (rest : ℕ) (w : Writer) (wd : Word) (ds : Items) → Wrote names rest w (word_written names rest w wd ds)
+wrote_word names rest w word.Set ds = simple names rest w _ (record { act = refl; switch = λ e. refl; parts = (dest_fine 0 ds, operand_fine 1 ds); jumps = omega arith }) tt
+wrote_word names rest w word.Add ds = simple names rest w _ (record { act = refl; switch = λ e. refl; parts = (dest_fine 0 ds, operand_fine 1 ds, operand_fine 2 ds); jumps = omega arith }) tt
+wrote_word names rest w word.Sub ds = simple names rest w _ (record { act = refl; switch = λ e. refl; parts = (dest_fine 0 ds, operand_fine 1 ds, operand_fine 2 ds); jumps = omega arith }) tt
+wrote_word names rest w word.Mul ds = simple names rest w _ (record { act = refl; switch = λ e. refl; parts = (dest_fine 0 ds, operand_fine 1 ds, operand_fine 2 ds); jumps = omega arith }) tt
+wrote_word names rest w word.If ds = simple names rest w _ (record { act = refl; switch = λ e. refl; parts = (operand_fine 0 ds, operand_fine 2 ds); jumps = count_fine rest 3 ds }) tt
+wrote_word names rest w word.Skip ds = simple names rest w _ (record { act = refl; switch = λ e. refl; parts = tt; jumps = count_fine rest 0 ds }) tt
+wrote_word names rest w word.Throw ds = simple names rest w _ (record { act = refl; switch = λ e. refl; parts = operand_fine 0 ds; jumps = omega arith }) tt
+wrote_word names rest w word.Log ds = text_wrote names rest w (text_at 0 ds) (args_from 1 ds) (number_in w.texts (text_at 0 ds)) (number_below w.texts (text_at 0 ds)) (text_at_fine 0 ds) (args_fine 1 ds)
+wrote_word names rest w word.Send ds =
+    simple names rest w _ (send_fine rest _ _ (args_from 2 ds) (args_fine 2 ds))
+    (send_named _ _ _ (number_in names.parties (string_at 0 ds)) (number_in names.messages (string_at 1 ds)) (args_from 2 ds) (number_below names.parties (string_at 0 ds)) (number_below names.messages (string_at 1 ds)))
+wrote_word names rest w word.Stop ds = simple names rest w _ (record { act = refl; switch = λ e. refl; parts = tt; jumps = omega arith }) tt
+wrote_word names rest w other ds = simple names rest w _ (idle_fine rest) tt
+
+wrote_parts : (names : Declared) (rest : ℕ) (w : Writer) (o : Option (Word × Items)) → Wrote names rest w (parts_written names rest w o)
+wrote_parts names rest w None = simple names rest w _ (idle_fine rest) tt
+wrote_parts names rest w (Some p) = wrote_word names rest w p.0 p.1
+
+wrote_act : (names : Declared) (rest : ℕ) (w : Writer) (d : Data) → Wrote names rest w (act_written names rest w d)
+wrote_act names rest w d = wrote_parts names rest w (act_parts d)
+
+-- ---- a list of acts
+
+pub names_grow : (agents messages t u : ℕ) (i : Instr) → t ≤ u → NamesWithin agents messages t i → NamesWithin agents messages u i
+names_grow agents messages t u (instr.Log text args) l h = omega (arith, l, h)
+names_grow agents messages t u other l h = h
+
+record WroteActs (names : Declared) (w v : Writer) (n : ℕ) : Type 0 where
+  acts : List Instr
+  same : v.code ≡ w.code ++ acts
+  long : length acts ≡ n
+  fine : AreActsBefore true 0 acts
+  grows : length w.texts ≤ length v.texts
+  named : AllByRecursion (NamesWithin (length names.parties) (length names.messages) (length v.texts)) acts
+  texts : AllByRecursion (λ t. is_text t ≡ true) w.texts → AllByRecursion (λ t. is_text t ≡ true) v.texts
+
+one_more : (names : Declared) (w u v : Writer) (rest n : ℕ) → rest ≡ n → Wrote names rest w u → WroteActs names u v n → WroteActs names w v (suc n)
+one_more names w u v rest n e one more = record {
+  acts = one.one ∷ more.acts;
+  same = more.same ∙ (ap (λ c. c ++ more.acts) one.same ∙ append_assoc w.code (one.one ∷ []) more.acts);
+  long = omega (arith, more.long);
+  fine = (let ahead : rest ≡ length more.acts + 0 = omega (arith, e, more.long) in subst (IsActBefore true one.one) ahead one.fine, more.fine);
+  grows = omega (arith, one.grows, more.grows);
+  named = (names_grow _ _ _ _ one.one more.grows one.named, more.named);
+  texts = λ a. more.texts (one.texts a);
+}
+
+wrote_acts : (names : Declared) (w : Writer) (ds : Items) → WroteActs names w (acts_written names w ds) (items_len ds)
+unfolding acts_written
+wrote_acts names w no_items = record { acts = []; same = sym (append-nil w.code); long = refl; fine = tt; grows = omega arith; named = tt; texts = λ a. a }
+wrote_acts names w (item d ds) = one_more names w _ _ _ _ refl (wrote_act names (items_len ds) w d) (wrote_acts names (act_written names (items_len ds) w d) ds)
+
+-- ---- bodies
+
+record WroteParts (names : Declared) (w v : Writer) (bodies : List Body) : Type 0 where
+  parts : List Part
+  same : v.code ≡ w.code ++ flatten parts
+  made : map body_of parts ≡ bodies
+  each : AllByRecursion IsPart parts
+  grows : length w.texts ≤ length v.texts
+  named : AllByRecursion (NamesWithin (length names.parties) (length names.messages) (length v.texts)) (flatten parts)
+  texts : AllByRecursion (λ t. is_text t ≡ true) w.texts → AllByRecursion (λ t. is_text t ≡ true) v.texts
+
+ended : (names : Declared) (b : Body) (w u : Writer) (n : ℕ) → may_switch b ≡ true → WroteActs names w u n → WroteParts names w (with_instr (instr.End b) u) (b ∷ [])
+ended names b w u n e wrote = record {
+  parts = record { body = b; acts = map plain wrote.acts } ∷ [];
+  same = ap (λ c. c ++ instr.End b ∷ []) wrote.same ∙ (append_assoc w.code wrote.acts (instr.End b ∷ []) ∙ ap (λ c. w.code ++ (c ++ instr.End b ∷ [])) (sym (plain_code wrote.acts)));
+  made = refl;
+  each = (plain_acts b wrote.acts (subst (λ s. AreActsBefore s 0 wrote.acts) (sym e) wrote.fine), tt);
+  grows = wrote.grows;
+  named = subst (λ c. AllByRecursion (NamesWithin (length names.parties) (length names.messages) (length u.texts)) (c ++ instr.End b ∷ [])) (sym (plain_code wrote.acts))
+      (each-append (NamesWithin (length names.parties) (length names.messages) (length u.texts)) wrote.acts (instr.End b ∷ []) wrote.named (tt, tt));
+  texts = wrote.texts;
+}
+
+wrote_body : (names : Declared) (b : Body) (w : Writer) (found : Option Data) → may_switch b ≡ true → WroteParts names w (body_written names b w found) (b ∷ [])
+wrote_body names b w found e = ended names b w (acts_written names w (list_of found)) _ e (wrote_acts names w (list_of found))
+
+flatten-append : (ps qs : List Part) → flatten (ps ++ qs) ≡ flatten ps ++ flatten qs
+flatten-append [] qs = refl
+flatten-append (p ∷ ps) qs = ap (λ c. acts_code p.acts ++ instr.End p.body ∷ c) (flatten-append ps qs) ∙ sym (append_assoc (acts_code p.acts) (instr.End p.body ∷ flatten ps) (flatten qs))
+
+bodies-append : (ps qs : List Part) → map body_of (ps ++ qs) ≡ map body_of ps ++ map body_of qs
+bodies-append [] qs = refl
+bodies-append (p ∷ ps) qs = ap (λ (l : List Body). p.body ∷ l) (bodies-append ps qs)
+
+names_grow_all : (agents messages t u : ℕ) (is : List Instr) → t ≤ u → AllByRecursion (NamesWithin agents messages t) is → AllByRecursion (NamesWithin agents messages u) is
+names_grow_all agents messages t u [] l a = tt
+names_grow_all agents messages t u (i ∷ is) l a = (names_grow agents messages t u i l a.0, names_grow_all agents messages t u is l a.1)
+
+joined : (names : Declared) (w u v : Writer) (bs cs : List Body) → WroteParts names w u bs → WroteParts names u v cs → WroteParts names w v (bs ++ cs)
+joined names w u v bs cs a b = record {
+  parts = a.parts ++ b.parts;
+  same = b.same ∙ (ap (λ c. c ++ flatten b.parts) a.same ∙ (append_assoc w.code (flatten a.parts) (flatten b.parts) ∙ ap (λ c. w.code ++ c) (sym (flatten-append a.parts b.parts))));
+  made = bodies-append a.parts b.parts ∙ (ap (λ l. l ++ map body_of b.parts) a.made ∙ ap (λ l. bs ++ l) b.made);
+  each = each-append IsPart a.parts b.parts a.each b.each;
+  grows = omega (arith, a.grows, b.grows);
+  named = subst (AllByRecursion (NamesWithin (length names.parties) (length names.messages) (length v.texts))) (sym (flatten-append a.parts b.parts))
+      (each-append (NamesWithin (length names.parties) (length names.messages) (length v.texts)) (flatten a.parts) (flatten b.parts) (names_grow_all _ _ _ _ (flatten a.parts) b.grows a.named) b.named);
+  texts = λ t. b.texts (a.texts t);
+}
+
+row_bodies : ℕ → ℕ → List Body
+row_bodies k zero = []
+row_bodies k (suc n) = row_body k ∷ row_bodies (suc k) n
+
+no_rows : (names : Declared) (w : Writer) → WroteParts names w w []
+no_rows names w = record { parts = []; same = sym (append-nil w.code); made = refl; each = tt; grows = omega arith; named = tt; texts = λ a. a }
+
+wrote_rows : (names : Declared) (k : ℕ) (w : Writer) (ds : Items) → WroteParts names w (rows_written names k w ds) (row_bodies k (items_len ds))
+unfolding rows_written row_bodies
+wrote_rows names k w no_items = no_rows names w
+wrote_rows names k w (item d ds) =
+    joined names w _ _ (row_body k ∷ []) (row_bodies (suc k) (items_len ds))
+    (wrote_body names (row_body k) w (get (codes "do") d) refl)
+    (wrote_rows names (suc k) (body_written names (row_body k) w (get (codes "do") d)) ds)
+
+abbrev pub rows_in : Data → Items
+rows_in d = list_of (get (codes "on") d)
+
+wrote_agent : (names : Declared) (w : Writer) (d : Data) → WroteParts names w (agent_written names w d) (body.Start ∷ body.Finish ∷ row_bodies 0 (items_len (rows_in d)))
+wrote_agent names w d =
+    joined names w _ _ (body.Start ∷ []) (body.Finish ∷ row_bodies 0 (items_len (list_of (get (codes "on") d))))
+    (wrote_body names body.Start w (get (codes "start") d) refl)
+    (joined names _ _ _ (body.Finish ∷ []) (row_bodies 0 (items_len (list_of (get (codes "on") d))))
+    (wrote_body names body.Finish (body_written names body.Start w (get (codes "start") d)) (get (codes "finish") d) refl)
+    (wrote_rows names 0 _ (list_of (get (codes "on") d))))
+
+-- ---- the code of an agent
+
+length_parts : (ps : List Part) → length ps ≤ length (flatten ps)
+length_parts [] = omega arith
+length_parts (p ∷ ps) = omega (arith, length_parts ps, length-append (acts_code p.acts) (instr.End p.body ∷ flatten ps))
+
+length_bodies : (ps : List Part) → length (map body_of ps) ≡ length ps
+length_bodies [] = refl
+length_bodies (p ∷ ps) = omega (arith, length_bodies ps)
+
+length_rows : (k n : ℕ) → length (row_bodies k n) ≡ n
+unfolding row_bodies
+length_rows k zero = refl
+length_rows k (suc n) = omega (arith, length_rows (suc k) n)
+
+narrow_small : (k : ℕ) → k ≤ 2 ^ 32 - 1 → narrow k ≡ k
+narrow_small k l = omega arith
+
+rows_are : (k n : ℕ) → k + n ≤ 2 ^ 32 - 1 → row_bodies k n ≡ map body.Row (numbers_from k n)
+unfolding row_bodies
+rows_are k zero l = refl
+rows_are k (suc n) l =
+    ap (λ j. body.Row (record { 0 = j }) ∷ row_bodies (suc k) n) (narrow_small k (omega arith))
+    ∙ ap (λ (bs : List Body). body.Row (record { 0 = k }) ∷ bs) (rows_are (suc k) n (omega arith))
+
+number_at : (k n j : ℕ) → j < n → slice_index (map row_number (numbers_from k n)) j ≡ k + j
+number_at k zero j l = absurd (omega arith)
+number_at k (suc n) zero l = omega arith
+number_at k (suc n) (suc j) l = number_at (suc k) n j (omega arith) ∙ omega arith
+
+length_numbers : (k n : ℕ) → length (map row_number (numbers_from k n)) ≡ n
+length_numbers k zero = refl
+length_numbers k (suc n) = omega (arith, length_numbers (suc k) n)
+
+rising : (k n : ℕ) → IsStrictlyIncreasing (map row_number (numbers_from k n))
+rising k n j l =
+    let m : j + 1 < n = omega (arith, l, length_numbers k n) in
+    omega (arith, number_at k n j (omega (arith, m)), number_at k n (j + 1) m)
+
+agent_order : (n : ℕ) → n ≤ 2 ^ 32 - 1 → AreAgentBodies (body.Start ∷ body.Finish ∷ row_bodies 0 n)
+agent_order n l = record {
+  states = 0;
+  rows = numbers_from 0 n;
+  rising = rising 0 n;
+  same = ap (λ (bs : List Body). body.Start ∷ body.Finish ∷ bs) (rows_are 0 n (omega arith));
+}
+
+-- so many rows leave room for no more instructions than a code may have
+few_rows : (ps : List Part) (n : ℕ) → map body_of ps ≡ body.Start ∷ body.Finish ∷ row_bodies 0 n → length (flatten ps) ≤ 1024 → n ≤ 2 ^ 32 - 1
+few_rows ps n e l =
+    let long : length (map body_of ps) ≡ suc (suc (length (row_bodies 0 n))) = ap length e in
+    omega (arith, l, long, length_parts ps, length_bodies ps, length_rows 0 n)
+
+pub record IsWritten (names : Declared) (d : Data) (instrs : List Instr) (texts : ℕ) : Type 0 where
+  pub code : IsCode instrs
+  pub bodies : bodies_in instrs ≡ agent_bodies 0 (row_numbers (items_len (rows_in d)))
+  pub named : AllByRecursion (NamesWithin (length names.parties) (length names.messages) texts) instrs
+
+written_parts : (names : Declared) (w v : Writer) (d : Data) → WroteParts names w v (body.Start ∷ body.Finish ∷ row_bodies 0 (items_len (rows_in d))) → w.code ≡ [] → length v.code ≤ 1024 → IsWritten names d v.code (length v.texts)
+written_parts names w v d p e l =
+    let same : v.code ≡ flatten p.parts = p.same ∙ ap (λ (c : List Instr). c ++ flatten p.parts) e in
+    let few : length (flatten p.parts) ≤ 1024 = subst (λ (c : List Instr). length c ≤ 1024) same l in
+    let n : items_len (rows_in d) ≤ 2 ^ 32 - 1 = few_rows p.parts (items_len (rows_in d)) p.made few in
+    let order : AreInOrder (map body_of p.parts) = subst AreInOrder (sym p.made) (inl (agent_order (items_len (rows_in d)) n)) in
+    record {
+      code = subst IsCode (sym same) (structured p.parts few order p.each);
+      bodies = ap bodies_in same ∙ (bodies_in-flatten p.parts p.each ∙ (p.made ∙ ap (λ (bs : List Body). body.Start ∷ body.Finish ∷ bs) (rows_are 0 (items_len (rows_in d)) (omega (arith, n)))));
+      named = subst (AllByRecursion (NamesWithin (length names.parties) (length names.messages) (length v.texts))) (sym same) p.named;
+    }
+
+pub agent_is_written : (names : Declared) (w : Writer) (d : Data) → w.code ≡ [] → length (agent_written names w d).code ≤ 1024 → IsWritten names d (agent_written names w d).code (length (agent_written names w d).texts)
+agent_is_written names w d e l = written_parts names w (agent_written names w d) d (wrote_agent names w d) e l
+
+pub agent_grows : (names : Declared) (w : Writer) (d : Data) → length w.texts ≤ length (agent_written names w d).texts
+agent_grows names w d = (wrote_agent names w d).grows
+
+pub agent_texts : (names : Declared) (w : Writer) (d : Data) → AllByRecursion (λ t. is_text t ≡ true) w.texts → AllByRecursion (λ t. is_text t ≡ true) (agent_written names w d).texts
+agent_texts names w d = (wrote_agent names w d).texts
+
+abbrev ok : {S : Type 0} → S → Result S SceneFault
+ok x = Ok x
+
+ok_same : {S : Type 0} (a b : S) → ok a ≡ Ok b → a ≡ b
+ok_same a b e = cc
+
+pub code_of_writer : (names : Declared) (w v : Writer) (d : Data) (code : List Instr) → ok (agent_written names w d) ≡ Ok v → w.code ≡ [] → code ≡ v.code → length v.code ≤ 1024 → IsCode code
+code_of_writer names w v d code e empty same l =
+    let written : agent_written names w d ≡ v = ok_same _ _ e in
+    subst IsCode (ap (λ (x : Writer). x.code) written ∙ sym same)
+    (agent_is_written names w d empty (subst (λ (x : Writer). length x.code ≤ 1024) (sym written) l)).code

@@ -1,3 +1,7 @@
-pub mod Lists
+pub mod Built
 pub mod Codes
-pub mod Distinct
+pub mod Ends
+pub mod Passed
+pub mod Runs
+pub mod Shapes
+pub mod Written

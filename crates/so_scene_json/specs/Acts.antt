@@ -1,59 +1,56 @@
--- A log act: the word, a text, and at most four numbers.
-use Rattle.std.specs.Prelude.{ℕ, ◌<◌, ◌≤◌, pos, List, [], ◌∷◌, length, codes, Bool, false, nat_le, Option, Some, None, option_map, bytes_eq, position, slice_get}
-use Rattle.serde_json.specs.Data.{Data}
-use Rattle.serde_json.specs.Find.{as_str}
-use Rattle.so_code.specs.declared.instr.Operand.{Operand}
-use Rattle.so_code.specs.declared.instr.Operand.TheVariants.{Num}
-use Rattle.so_code.specs.declared.instr.Args.{Args}
-use Rattle.so_code.specs.declared.instr.Instr.{Instr}
-use Rattle.so_code.specs.declared.instr.Instr.TheVariants.{Log, End}
-use Rattle.so_scene.specs.Words.{is_text}
-use Rattle.so_scene_json.specs.Fields.{◌>>=◌, where_true, checked, listed, integer}
+-- The shape of acts.
+use Rattle.std.specs.Prelude.{ℕ, List, [], ◌∷◌, length, Bool, ◌&&◌, nat_le, if◌then◌else◌, Option, Some, None, option_map, option_and_then}
+use Rattle.serde_json.specs.Data.{Data, Items, no_items, item}
+use Rattle.serde_json.specs.Events.{items_len}
+use Rattle.serde_json.specs.Find.{as_str, as_array}
+use Rattle.so_scene_json.specs.declared.act_table.Word.{Word}
+use Rattle.so_scene_json.specs.declared.act_table.Arg.{Arg}
+use Rattle.so_scene_json.specs.declared.act_table.Arg.TheVariants as arg
+use Rattle.so_scene_json.specs.declared.values.Trouble.{Trouble}
+use Rattle.so_scene_json.specs.declared.values.Trouble.TheVariants.{WrongShape, NotBuilt}
+use Rattle.so_scene_json.specs.ActTable.{word_named, args_of, needed_of}
+use Rattle.so_scene_json.specs.Values.{◌or◌, trouble, operand_of, dest_of, cmp_of, name_of, text_of, count_of}
 
-abbrev pub is_log : Option (List ℕ) → Bool
-is_log None = false
-is_log (Some word) = bytes_eq word (codes "log")
+-- what is wrong with an item of an act that so many others follow
+abbrev pub arg_trouble : Arg → ℕ → Data → Option Trouble
+arg_trouble arg.Text rest d = trouble (text_of d)
+arg_trouble arg.Name rest d = trouble (name_of d)
+arg_trouble arg.Dest rest d = trouble (dest_of d)
+arg_trouble arg.Operand rest d = trouble (operand_of d)
+arg_trouble arg.Cmp rest d = trouble (cmp_of d)
+arg_trouble arg.Count rest d = trouble (count_of rest d)
 
-abbrev pub log_parts : List Data → Option (List ℕ × List Data)
-log_parts [] = None
-log_parts (word ∷ []) = None
-log_parts (word ∷ text ∷ rest) = do
-  t ← as_str text
-  where_true (is_log (as_str word)) (t, rest)
+-- each item by what may stand at its place
+unfoldable pub args_trouble : List Arg → ℕ → Items → Option Trouble
+args_trouble [] rest ds = None
+args_trouble (f ∷ fs) rest no_items = None
+args_trouble (f ∷ fs) rest (item d ds) = arg_trouble f rest d or args_trouble fs rest ds
 
--- the string behind the word, and what stands behind that
-abbrev pub log_of : Data → Option (List ℕ × List Data)
-log_of d = listed d >>= log_parts
+-- the word of an act and what stands behind it
+abbrev pub with_args : Items → Option Word → Option (Word × Items)
+with_args ds = option_map (λ w. (w, ds))
 
--- the text of an act
-abbrev pub text_of : Data → Option (List ℕ)
-text_of d = do
-  log ← log_of d
-  checked is_text log.0
+abbrev pub parts_in : Option Items → Option (Word × Items)
+parts_in None = None
+parts_in (Some no_items) = None
+parts_in (Some (item d ds)) = with_args ds (option_and_then word_named (as_str d))
 
--- an operand that isn't there is 0
-abbrev pub operand_of : Option Data → Option Operand
-operand_of None = Some (Num (pos 0))
-operand_of (Some d) = option_map Num (integer d)
+abbrev pub act_parts : Data → Option (Word × Items)
+act_parts d = parts_in (as_array d)
 
-abbrev pub args_of : List Data → Option Args
-args_of ds = do
-  a ← operand_of (slice_get ds 0)
-  b ← operand_of (slice_get ds 1)
-  c ← operand_of (slice_get ds 2)
-  d ← operand_of (slice_get ds 3)
-  where_true (nat_le (length ds) 4) (record { list = a ∷ b ∷ c ∷ d ∷ []; used = length ds })
+-- not too few items and not too many
+abbrev pub fits : ℕ → List Arg → Items → Bool
+fits needed args ds = nat_le needed (items_len ds) && nat_le (items_len ds) (length args)
 
--- the instruction of an act, where texts have these numbers
-abbrev pub instr_of : List (List ℕ) → Data → Option Instr
-instr_of texts d = do
-  log ← log_of d
-  text ← checked is_text log.0
-  args ← args_of log.1
-  number ← position (bytes_eq text) texts
-  Some (Log (record { 0 = number }) args)
+abbrev pub built_trouble : ℕ → ℕ → Items → Option (List Arg) → Option Trouble
+built_trouble rest needed ds None = Some NotBuilt
+built_trouble rest needed ds (Some args) = if fits needed args ds then args_trouble args rest ds else Some WrongShape
 
--- a log act whose text is one of so many
-abbrev pub IsLog : ℕ → Instr → Type 0
-IsLog n (Log text args) = (text.0 < n) × (args.used ≤ 4)
-IsLog n (End body) = ⊥
+abbrev pub parts_trouble : ℕ → Option (Word × Items) → Option Trouble
+parts_trouble rest None = Some WrongShape
+parts_trouble rest (Some p) = built_trouble rest (needed_of p.0) p.1 (args_of p.0)
+
+-- What is wrong with an act that so many others follow: it is no list that begins with a word, it isn't built, it has
+-- too few or too many items, or the first item with a trouble.
+abbrev pub act_trouble : ℕ → Data → Option Trouble
+act_trouble rest d = parts_trouble rest (act_parts d)

@@ -1,7 +1,13 @@
-pub mod Fields
+pub mod Table
+pub mod ActTable
+pub mod Visits
+pub mod Values
 pub mod Acts
-pub mod Texts
-pub mod Adding
-pub mod Agents
+pub mod Shape
+pub mod Twice
+pub mod Known
+pub mod Writer
+pub mod Build
 pub mod Scene
+pub mod Kept
 pub mod Reads

@@ -4,7 +4,7 @@ use Rattle.serde_json.specs.Data.{Data}
 use Rattle.serde_json.specs.View.{view}
 use Rattle.serde_json.specs.declared.value.Value.{Value}
 use Rattle.so_scene.specs.declared.fault.SceneFault.{SceneFault}
-use Rattle.so_scene.specs.declared.fault.SceneFault.TheVariants.{NotJson, NotBuilt}
+use Rattle.so_scene.specs.declared.fault.SceneFault.TheVariants as fault
 use Rattle.so_scene.specs.declared.fault.SceneRefusal.{SceneRefusal}
 use Rattle.so_scene.specs.declared.fault.SceneRefusal.TheVariants.{Fault, NoMemory}
 
@@ -16,25 +16,16 @@ Reads (Err (Fault f)) expected = expected ≡ Err f
 abbrev pub ReadsValue : Result Value SceneRefusal → Option Data → Type 0
 ReadsValue (Ok v) expected = expected ≡ Some (view v)
 ReadsValue (Err NoMemory) expected = Unit {0}
-ReadsValue (Err (Fault f)) expected = (f ≡ NotJson) × (expected ≡ None)
+ReadsValue (Err (Fault f)) expected = (f ≡ fault.NotJson) × (expected ≡ None)
 
--- what was made, as `shown` sees it
-abbrev pub BuildsAs : {T U : Type 0} → (T → U) → Result T SceneRefusal → Option U → Type 0
-BuildsAs shown (Ok x) expected = expected ≡ Some (shown x)
-BuildsAs shown (Err NoMemory) expected = Unit {0}
-BuildsAs shown (Err (Fault f)) expected = (f ≡ NotBuilt) × (expected ≡ None)
+-- what a call returned and left, where it has no fault
+abbrev pub LeavesWith : {S T : Type 0} → S → T → Result T SceneRefusal → S → Type 0
+LeavesWith expected value (Ok x) new = (expected ≡ new) × (value ≡ x)
+LeavesWith expected value (Err NoMemory) new = Unit {0}
+LeavesWith expected value (Err (Fault f)) new = ⊥
 
-abbrev pub Builds : {T : Type 0} → Result T SceneRefusal → Option T → Type 0
-Builds result expected = BuildsAs (λ x. x) result expected
-
--- what was left
-abbrev pub Leaves : {S : Type 0} → Result (Unit {0}) SceneRefusal → S → S → Type 0
-Leaves (Ok x) expected new = expected ≡ new
-Leaves (Err NoMemory) expected new = Unit {0}
-Leaves (Err (Fault f)) expected new = ⊥
-
--- it fails for want of memory alone
-abbrev pub OnNoMemory : {T : Type 0} → Result T SceneRefusal → Type 0
-OnNoMemory (Ok x) = Unit {0}
-OnNoMemory (Err NoMemory) = Unit {0}
-OnNoMemory (Err (Fault f)) = ⊥
+-- what a call returned, where it has no fault
+abbrev pub Returns : {T : Type 0} → T → Result T SceneRefusal → Type 0
+Returns expected (Ok x) = expected ≡ x
+Returns expected (Err NoMemory) = Unit {0}
+Returns expected (Err (Fault f)) = ⊥

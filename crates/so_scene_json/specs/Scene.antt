@@ -1,81 +1,105 @@
--- The scene of bytes, or why there is none.
-use Rattle.std.specs.Prelude.{ℕ, ℤ, pos, negsuc, List, [], ◌∷◌, length, map, codes, Bool, false, ◌==◌, ◌&&◌, nat_le, if◌then◌else◌, Option, Some, None, option_and_then, Result, Ok, Err}
+-- The scene of bytes, or the first fault with its place.
+use Rattle.std.specs.Prelude.{ℕ, List, [], ◌∷◌, length, Bool, true, false, not, ◌&&◌, ◌||◌, nat_lt, nat_eq, is_some, if◌then◌else◌, Option, Some, None, Result, Ok, Err}
+use Rattle.std.specs.List.{list_all, list_any}
 use Rattle.std.specs.Str.{is_utf8}
+use Rattle.so_lists.specs.Lists.{is_empty}
 use Rattle.serde_json.specs.Data.{Data}
 use Rattle.serde_json.specs.Read.{read}
-use Rattle.serde_json.specs.Find.{get}
+use Rattle.serde_json.specs.Find.{as_object}
+use Rattle.so_scene.specs.declared.place.Field.TheVariants.{Coops}
+use Rattle.so_scene.specs.declared.place.PlaceStep.{PlaceStep}
+use Rattle.so_scene.specs.declared.place.PlaceStep.TheVariants.{Key, At}
 use Rattle.so_scene.specs.declared.fault.SceneFault.{SceneFault}
-use Rattle.so_scene.specs.declared.fault.SceneFault.TheVariants.{NotJson, NotBuilt}
+use Rattle.so_scene.specs.declared.fault.SceneFault.TheVariants as fault
 use Rattle.so_scene.specs.declared.parts.AgentDef.{AgentDef}
+use Rattle.so_scene.specs.declared.parts.CoopDef.{CoopDef}
+use Rattle.so_scene.specs.declared.parts.RowDef.{RowDef}
 use Rattle.so_scene.specs.declared.parts.SceneParts.{SceneParts}
-use Rattle.so_scene_json.specs.Fields.{◌>>=◌, where_true, listed, each, has_only, integer, name_of}
-use Rattle.so_scene_json.specs.Texts.{few_texts}
-use Rattle.so_scene_json.specs.Agents.{agent_of, are_distinct}
-
-abbrev pub is_one : Option ℤ → Bool
-is_one None = false
-is_one (Some (pos n)) = n == 1
-is_one (Some (negsuc n)) = false
-
--- its version is the number 1
-abbrev pub is_version_1 : Data → Bool
-is_version_1 d = is_one (option_and_then integer (get (codes "version") d))
-
-abbrev pub single : List Data → Option Data
-single [] = None
-single (d ∷ []) = Some d
-single (d ∷ e ∷ more) = None
-
--- the one cooperation of a file
-abbrev pub coop_of : Data → Option Data
-coop_of d = do
-  found ← get (codes "coops") d
-  coops ← listed found
-  coop ← single coops
-  where_true (has_only (codes "version") (codes "coops") d && is_version_1 d) coop
-
--- the agents of a cooperation: 1 to 4,096
-abbrev pub agents_of : Data → Option (List Data)
-agents_of coop = do
-  found ← get (codes "agents") coop
-  agents ← listed found
-  where_true (has_only (codes "name") (codes "agents") coop && (nat_le 1 (length agents) && nat_le (length agents) 4096)) agents
-
--- the parts of a scene with one cooperation of all agents
-abbrev pub parts : List ℕ → List AgentDef → List (List ℕ) → SceneParts
-parts name agents texts = record {
-  coops = record { name = name; first = record { 0 = 0 }; count = length agents } ∷ [];
-  agents = agents;
-  texts = texts;
-}
-
--- the scene of one cooperation: agents of different names
-abbrev pub with_agents : List ℕ → List Data → Option SceneParts
-with_agents name ds = do
-  texts ← few_texts ds
-  agents ← each (agent_of texts) ds
-  where_true (are_distinct (map (λ (a : AgentDef). a.name) agents)) (parts name agents texts)
-
--- the scene that a JSON value is
-abbrev pub scene_in : Data → Option SceneParts
-scene_in d = do
-  coop ← coop_of d
-  name ← name_of coop
-  agents ← agents_of coop
-  with_agents name agents
+use Rattle.so_scene.specs.Parts.{msg_number}
+use Rattle.so_scene_json.specs.declared.build.Build.{Build}
+use Rattle.so_scene_json.specs.declared.shape.Shape.{Shape}
+use Rattle.so_scene_json.specs.declared.table.ObjectKind.TheVariants as object
+use Rattle.so_scene_json.specs.Visits.{Visit, visits, run, ◌>>=◌, narrow}
+use Rattle.so_scene_json.specs.Shape.{shape_step}
+use Rattle.so_scene_json.specs.Twice.{twice_step, no_names}
+use Rattle.so_scene_json.specs.Known.{known_step, knows}
+use Rattle.so_scene_json.specs.Build.{build_step, no_parts}
 
 -- bytes that are no UTF-8 have no reading
 abbrev pub reading : List ℕ → Option Data
 reading bytes = if is_utf8 bytes then read bytes else None
 
-abbrev pub built : Option SceneParts → Result SceneParts SceneFault
-built None = Err NotBuilt
-built (Some scene) = Ok scene
+-- the visits of a scene: objects stand in it in four levels, the scene, its cooperations, their agents and their rows
+abbrev pub fields : Data → List Visit
+fields d = visits 4 object.Scene [] d
+
+-- ---- after the fourth pass
+
+-- the totals of agents and texts
+abbrev pub exceeds : Build → Bool
+exceeds s = nat_lt 4096 (length s.agents) || nat_lt 4096 (length s.texts)
+
+-- a row of them subscribes to this type
+abbrev pub has_row : ℕ → List RowDef → Bool
+has_row msg rows = list_any (λ row. nat_eq msg (msg_number row)) rows
+
+-- no two subscribe to one type
+unfoldable pub differ : List RowDef → Bool
+differ [] = true
+differ (row ∷ rows) = if has_row (msg_number row) rows then false else differ rows
+
+abbrev pub rows_differ : AgentDef → Bool
+rows_differ a = differ a.rows
+
+-- a cooperation without agents, and one with such an agent, would be refused when it is registered
+abbrev pub is_admitted : Build → Bool
+is_admitted s = not (is_empty s.agents) && list_all rows_differ s.agents
+
+abbrev pub coop_of : List ℕ → Build → CoopDef
+coop_of name s = record { name = name; first = record { 0 = 0 }; count = narrow (length s.agents) }
+
+abbrev pub parts_of : List ℕ → Build → SceneParts
+parts_of name s = record { messages = s.messages; coops = coop_of name s ∷ []; agents = s.agents; texts = s.texts }
+
+abbrev pub coops_place : List PlaceStep
+coops_place = Key Coops ∷ []
+
+abbrev pub first_coop : List PlaceStep
+first_coop = Key Coops ∷ At 0 ∷ []
+
+abbrev pub only : List (List ℕ) → Option (List ℕ)
+only [] = None
+only (name ∷ []) = Some name
+only (name ∷ other ∷ more) = None
+
+-- a scene that hasn't exactly one cooperation, and one that would be refused, aren't built
+abbrev pub with_coop : Option (List ℕ) → Build → Result SceneParts SceneFault
+with_coop None s = Err (fault.NotBuilt coops_place)
+with_coop (Some name) s = if is_admitted s then Ok (parts_of name s) else Err (fault.NotBuilt first_coop)
+
+abbrev pub finished : Build → Result SceneParts SceneFault
+finished s = if exceeds s then Err (fault.OutOfRange []) else with_coop (only s.coops) s
+
+-- ---- the four passes, one after the other
+
+-- the first pass has no state
+abbrev pub no_state : Shape
+no_state = record {}
+
+unfoldable pub passes : Data → Result SceneParts SceneFault
+passes d = do
+  shape ← run shape_step no_state (fields d)
+  names ← run twice_step no_names (fields d)
+  known ← run known_step (knows names) (fields d)
+  parts ← run build_step (no_parts known.names) (fields d)
+  finished parts
+
+abbrev pub of_data : Data → Result SceneParts SceneFault
+of_data d = if is_some (as_object d) then passes d else Err (fault.WrongShape [])
 
 abbrev pub of_reading : Option Data → Result SceneParts SceneFault
-of_reading None = Err NotJson
-of_reading (Some d) = built (scene_in d)
+of_reading None = Err fault.NotJson
+of_reading (Some d) = of_data d
 
--- the scene of bytes, or why there is none
 abbrev pub scene_of : List ℕ → Result SceneParts SceneFault
 scene_of bytes = of_reading (reading bytes)

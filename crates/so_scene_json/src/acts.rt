@@ -1,95 +1,80 @@
-//! Log acts.
-ghost use Rattle.std.specs.Prelude.{◌≡◌, ◌≤◌, ◌<◌, length, option_map, map, slice_get, IfSome};
-ghost use Rattle.serde_json.specs.View.{view};
-ghost use Rattle.so_scene_json.specs.Acts.{log_of, log_parts, text_of, operand_of, args_of, instr_of, IsLog};
+//! The shape of acts.
 
-use crate::fields::{integer, list};
-use crate::texts::number;
+ghost use Rattle.std.specs.Prelude.{◌≡◌, ◌≤◌, Some, length, option_map};
+ghost use Rattle.serde_json.specs.View.{view, items_view};
+ghost use Rattle.so_scene_json.specs.ActTable.{args_of, needed_of};
+ghost use Rattle.so_scene_json.specs.Acts.{arg_trouble, args_trouble, act_parts, fits, built_trouble, act_trouble};
+
+use crate::act_table::{Arg, Word, args, needed, word_by_name};
+use crate::values::{Trouble, comparison, count, dest, name, operand, text};
 use serde_json::Value;
-use so_code::{Args, Instr, Operand};
-use so_ids::TextId;
-use so_scene::Text;
 
-fn parts(list: &[Value]) -> Option<(&str, &[Value])>
-    ensures { option_map (λ p. (p.0.now, map view p.1.now)) result ≡ log_parts (map view list.now) }
+fn arg_fault(arg: Arg, rest: usize, value: &Value) -> Option<Trouble>
+    ensures { result ≡ arg_trouble arg rest (view value.now) }
 {
-    match list {
-        [word, text, rest @ ..] => {
-            let text = text.as_str()?;
-            if word.as_str()? == "log" {
-                Some((text, rest))
-            } else {
-                None
-            }
+    match arg {
+        Arg::Text => text(value).err(),
+        Arg::Name => name(value).err(),
+        Arg::Dest => dest(value).err(),
+        Arg::Operand => operand(value).err(),
+        Arg::Cmp => comparison(value).err(),
+        Arg::Count => count(rest, value).err(),
+    }
+}
+
+fn args_fault(forms: &[Arg], rest: usize, list: &[Value]) -> Option<Trouble>
+    requires { length list.now ≤ length forms.now }
+    ensures { result ≡ args_trouble forms.now rest (items_view list.now) }
+{
+    for (i, value) in list.iter().enumerate() {
+        match arg_fault(forms[i], rest, value) {
+            Some(trouble) => return Some(trouble),
+            None => {}
         }
-        [_word] => None,
+    }
+    None
+}
+
+/// The word of an act, and what stands behind it.
+pub(crate) fn parts(value: &Value) -> Option<(Word, &[Value])>
+    ensures { option_map (λ p. (p.0, items_view p.1.now)) result ≡ act_parts (view value.now) }
+{
+    match value.as_array()?.as_slice() {
+        [first, rest @ ..] => {
+            let word = word_by_name(first.as_str()?)?;
+            Some((word, rest))
+        }
         [] => None,
     }
 }
 
-/// The string behind the word, and what stands behind that.
-fn log(act: &Value) -> Option<(&str, &[Value])>
-    ensures { option_map (λ p. (p.0.now, map view p.1.now)) result ≡ log_of (view act.now) }
+fn built_fault(forms: &[Arg], needed: usize, rest: usize, list: &[Value]) -> Option<Trouble>
+    ensures { result ≡ built_trouble rest needed (items_view list.now) (Some forms.now) }
 {
-    parts(list(act)?)
+    if list.len() < needed {
+        return Some(Trouble::WrongShape);
+    }
+    if list.len() > forms.len() {
+        return Some(Trouble::WrongShape);
+    }
+    args_fault(forms, rest, list)
 }
 
-/// The text of an act.
-pub(crate) fn text(act: &Value) -> Option<Text>
-    ensures { result ≡ text_of (view act.now) }
+fn parts_fault(rest: usize, word: Word, list: &[Value]) -> Option<Trouble>
+    ensures { result ≡ built_trouble rest (needed_of word) (items_view list.now) (args_of word) }
 {
-    let (text, _) = log(act)?;
-    Text::of(text)
-}
-
-fn item(list: &[Value], place: usize) -> Option<&Value>
-    ensures { option_map (λ v. view v.now) result ≡ slice_get (map view list.now) place }
-{
-    if place < list.len() {
-        Some(&list[place])
-    } else {
-        None
+    match args(word) {
+        Some(forms) => built_fault(forms, needed(word), rest, list),
+        None => Some(Trouble::NotBuilt),
     }
 }
 
-fn operand(list: &[Value], place: usize) -> Option<Operand>
-    ensures { result ≡ operand_of (slice_get (map view list.now) place) }
+/// What is wrong with the shape of an act that so many others follow.
+pub(crate) fn act_fault(rest: usize, value: &Value) -> Option<Trouble>
+    ensures { result ≡ act_trouble rest (view value.now) }
 {
-    match item(list, place) {
-        Some(value) => integer(value).map(Operand::Num),
-        None => Some(Operand::Num(0)),
+    match parts(value) {
+        Some((word, list)) => parts_fault(rest, word, list),
+        None => Some(Trouble::WrongShape),
     }
-}
-
-fn args(list: &[Value]) -> Option<Args>
-    ensures value { result ≡ args_of (map view list.now) }
-    ensures few { IfSome result (λ args. args.used ≤ 4) }
-{
-    let first = operand(list, 0)?;
-    let second = operand(list, 1)?;
-    let third = operand(list, 2)?;
-    let fourth = operand(list, 3)?;
-    if list.len() > 4 {
-        return None;
-    }
-    Some(Args {
-        list: [first, second, third, fourth],
-        used: list.len() as u8,
-    })
-}
-
-/// The instruction of an act, where texts have these numbers.
-pub(crate) fn instr(texts: &[Text], act: &Value) -> Option<Instr>
-    requires { length texts.now ≤ 4096 }
-    ensures value { result ≡ instr_of texts.now (view act.now) }
-    ensures log { IfSome result (λ i. IsLog (length texts.now) i) }
-{
-    let (text, rest) = log(act)?;
-    let text = Text::of(text)?;
-    let args = args(rest)?;
-    let place = number(texts, text.bytes())?;
-    Some(Instr::Log {
-        text: TextId(place as u32),
-        args,
-    })
 }

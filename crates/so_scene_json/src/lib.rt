@@ -1,13 +1,23 @@
 //! The checked scene of a file's bytes.
 //!
-//! It reads what is built so far: one cooperation, whose agents log texts with numbers when they start.
+//! A table says which fields each kind of object has. A walk visits the objects and fields of a file in
+//! the order of the table. Four passes go along that walk: the shape of each field, names that are
+//! declared twice, names that nobody declares, and the parts of the scene with the length of each code.
+//! The first fault of the first pass that has one is the answer.
 #![tactic(auto)]
 
+mod act_table;
 mod acts;
-mod agents;
-mod fields;
+mod build;
+mod declare;
+mod finish;
+mod known;
 mod read;
-mod texts;
+mod shape;
+mod table;
+mod values;
+mod walk;
+mod write;
 
 pub use read::read_scene;
 

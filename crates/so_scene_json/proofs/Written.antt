@@ -1,0 +1,76 @@
+-- The loops that write acts, bodies and rows.
+use Rattle.std.proofs.Common.{◌≡◌, ℕ, ◌+◌, ◌-◌, ◌<◌, ◌≤◌, suc, List, [], ◌∷◌, ◌++◌, codes, Option, length, drop, get_or, Result, Ok, sym, ap, ◌∙◌, add-one, drop-cons, arith, length-drop}
+use Rattle.std.proofs.Math.ListN.{drop_of_length-le}
+use Rattle.serde_json.proofs.Views.{items_len-items_view}
+use Rattle.serde_json.specs.Data.{Data, Items, item}
+use Rattle.serde_json.specs.Events.{items_len}
+use Rattle.serde_json.specs.Find.{get}
+use Rattle.serde_json.specs.View.{view, items_view}
+use Rattle.serde_json.specs.declared.value.Value.{Value}
+use Rattle.so_scene.specs.declared.fault.SceneFault.{SceneFault}
+use Rattle.so_scene.specs.declared.parts.RowDef.{RowDef}
+use Rattle.so_scene_json.specs.declared.declare.Declared.{Declared}
+use Rattle.so_scene_json.specs.declared.write.Writer.{Writer}
+use Rattle.so_code.specs.declared.instr.Body.TheVariants.{Row}
+use Rattle.so_scene_json.specs.Visits.{narrow}
+use Rattle.so_scene_json.specs.Build.{row_body, body_written, rows_written, rows_from, row_of}
+use Rattle.so_scene_json.specs.Writer.{act_written, acts_written}
+
+abbrev pub ok : {S : Type 0} → S → Result S SceneFault
+ok x = Ok x
+
+pub ok_same : {S : Type 0} (a b : S) → ok a ≡ Ok b → a ≡ b
+ok_same a b e = cc
+
+sub-step : (n i : ℕ) → n - suc i ≡ n - i - 1
+sub-step n i = omega arith
+
+written_step : (names : Declared) (w : Writer) (d : Data) (ds : Items) (n : ℕ) → items_len ds ≡ n → acts_written names w (item d ds) ≡ acts_written names (act_written names n w d) ds
+unfolding acts_written
+written_step names w d ds n e = ap (λ k. acts_written names (act_written names k w d) ds) e
+
+written_here : (names : Declared) (w : Writer) (vs : List Value) (i : ℕ) (v : Value) → i < length vs
+    → acts_written names w (items_view (drop i vs)) ≡ acts_written names (act_written names (length vs - i - 1) w (view (get_or vs i v))) (items_view (drop (i + 1) vs))
+written_here names w vs i v h =
+    rw (add-one, drop-cons vs i v)
+    (written_step names w (view (get_or vs i v)) (items_view (drop (suc i) vs)) (length vs - i - 1)
+    (items_len-items_view (drop (suc i) vs) ∙ length-drop (suc i) vs ∙ sub-step (length vs) i))
+
+pub written_go : (all : Writer) (names : Declared) (w next : Writer) (vs : List Value) (i : ℕ) (v x : Value) → i < length vs → x ≡ get_or vs i v
+    → all ≡ acts_written names w (items_view (drop i vs)) → ok (act_written names (length vs - i - 1) w (view x)) ≡ Ok next → all ≡ acts_written names next (items_view (drop (i + 1) vs))
+written_go all names w next vs i v x h y a e =
+    a ∙ written_here names w vs i v h ∙ ap (λ q. acts_written names q (items_view (drop (i + 1) vs))) (ap (λ q. act_written names (length vs - i - 1) w (view q)) (sym y) ∙ ok_same _ _ e)
+
+pub written_end : (all : Writer) (names : Declared) (w : Writer) (vs : List Value) (i : ℕ) → length vs ≤ i → all ≡ acts_written names w (items_view (drop i vs)) → ok all ≡ Ok w
+unfolding acts_written
+written_end all names w vs i h a = ap ok (a ∙ rw (drop_of_length-le vs h))
+
+rows_here : (names : Declared) (w : Writer) (vs : List Value) (i : ℕ) (v : Value) → i < length vs
+    → rows_written names i w (items_view (drop i vs)) ≡ rows_written names (i + 1) (body_written names (row_body i) w (get (codes "do") (view (get_or vs i v)))) (items_view (drop (i + 1) vs))
+unfolding rows_written
+rows_here names w vs i v h = rw (add-one, drop-cons vs i v)
+
+pub rows_go : (all : Writer) (names : Declared) (w next : Writer) (vs : List Value) (i k : ℕ) (v x : Value) (found : Option Data) → i < length vs → x ≡ get_or vs i v
+    → all ≡ rows_written names i w (items_view (drop i vs)) → found ≡ get (codes "do") (view x) → k ≡ narrow i → ok (body_written names (Row (record { 0 = k })) w found) ≡ Ok next → all ≡ rows_written names (i + 1) next (items_view (drop (i + 1) vs))
+rows_go all names w next vs i k v x found h y a f n e =
+    a ∙ rows_here names w vs i v h ∙ ap (λ q. rows_written names (i + 1) q (items_view (drop (i + 1) vs)))
+    (ap (λ q. body_written names (row_body i) w (get (codes "do") (view q))) (sym y) ∙ ap (body_written names (row_body i) w) (sym f)
+    ∙ ap (λ q. body_written names (Row (record { 0 = q })) w found) (sym n) ∙ ok_same _ _ e)
+
+pub rows_end : (all : Writer) (names : Declared) (w : Writer) (vs : List Value) (i : ℕ) → length vs ≤ i → all ≡ rows_written names i w (items_view (drop i vs)) → ok all ≡ Ok w
+unfolding rows_written
+rows_end all names w vs i h a = ap ok (a ∙ rw (drop_of_length-le vs h))
+
+row_here : (names : Declared) (rows : List RowDef) (vs : List Value) (i : ℕ) (v : Value) → i < length vs
+    → rows_from names rows (items_view (drop i vs)) ≡ rows_from names (rows ++ row_of names (view (get_or vs i v)) ∷ []) (items_view (drop (i + 1) vs))
+unfolding rows_from
+row_here names rows vs i v h = rw (add-one, drop-cons vs i v)
+
+pub row_go : (all : List RowDef) (names : Declared) (rows next : List RowDef) (vs : List Value) (i : ℕ) (v x : Value) (r : RowDef) → i < length vs → x ≡ get_or vs i v
+    → all ≡ rows_from names rows (items_view (drop i vs)) → r ≡ row_of names (view x) → next ≡ rows ++ r ∷ [] → all ≡ rows_from names next (items_view (drop (i + 1) vs))
+row_go all names rows next vs i v x r h y a f e =
+    a ∙ row_here names rows vs i v h ∙ ap (λ q. rows_from names q (items_view (drop (i + 1) vs))) (ap (λ q. rows ++ row_of names (view q) ∷ []) (sym y) ∙ ap (λ q. rows ++ q ∷ []) (sym f) ∙ sym e)
+
+pub row_end : (all : List RowDef) (names : Declared) (rows : List RowDef) (vs : List Value) (i : ℕ) → length vs ≤ i → all ≡ rows_from names rows (items_view (drop i vs)) → rows ≡ all
+unfolding rows_from
+row_end all names rows vs i h a = sym (a ∙ rw (drop_of_length-le vs h))

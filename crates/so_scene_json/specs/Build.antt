@@ -1,0 +1,109 @@
+-- The fourth pass: the parts of the scene, and the length of each code.
+use Rattle.std.specs.Prelude.{ℕ, suc, ℤ, pos, List, [], ◌∷◌, ◌++◌, length, map, codes, nat_lt, if◌then◌else◌, Option, Some, None, Result, Ok, Err}
+use Rattle.std.specs.List.{range_with_len}
+use Rattle.serde_json.specs.Data.{Data, Items, no_items, item}
+use Rattle.serde_json.specs.Find.{get, get_item}
+use Rattle.so_ids.specs.declared.Vars.{Vars}
+use Rattle.so_code.specs.declared.instr.Body.{Body}
+use Rattle.so_code.specs.declared.instr.Body.TheVariants as body
+use Rattle.so_code.specs.declared.instr.Instr.TheVariants as instr
+use Rattle.so_scene.specs.declared.fault.SceneFault.{SceneFault}
+use Rattle.so_scene.specs.declared.fault.SceneFault.TheVariants as fault
+use Rattle.so_scene.specs.declared.parts.MessageDef.{MessageDef}
+use Rattle.so_scene.specs.declared.parts.AgentDef.{AgentDef}
+use Rattle.so_scene.specs.declared.parts.RowDef.{RowDef}
+use Rattle.so_scene.specs.Names.{number_in}
+use Rattle.so_scene_json.specs.declared.table.ObjectKind.{ObjectKind}
+use Rattle.so_scene_json.specs.declared.table.ObjectKind.TheVariants as object
+use Rattle.so_scene_json.specs.declared.declare.Declared.{Declared}
+use Rattle.so_scene_json.specs.declared.write.Writer.{Writer}
+use Rattle.so_scene_json.specs.declared.build.Build.{Build}
+use Rattle.so_scene_json.specs.Values.{integer_of, string_in, name_in}
+use Rattle.so_scene_json.specs.Twice.{is_signal}
+use Rattle.so_scene_json.specs.Writer.{read_or, with_instr, acts_written}
+use Rattle.so_scene_json.specs.Visits.{Visit, enters, tries, leaves, Place, narrow, list_of}
+
+-- ---- a message, and what an agent begins with
+
+abbrev pub message_of : Data → MessageDef
+message_of d = record { name = name_in d; signal = is_signal d }
+
+-- variable k: 0 where the list has none
+abbrev pub var_at : ℕ → Items → ℤ
+var_at k ds = read_or (pos 0) integer_of (get_item k ds)
+
+abbrev pub vars_in : Items → List ℤ
+vars_in ds = map (λ k. var_at k ds) (range_with_len 0 16)
+
+abbrev pub vars_of : Data → Vars
+vars_of d = record { 0 = vars_in (list_of (get (codes "vars") d)) }
+
+abbrev pub narrow_or_zero : Option ℕ → ℕ
+narrow_or_zero None = 0
+narrow_or_zero (Some n) = narrow n
+
+-- a row subscribes to its message
+abbrev pub row_of : Declared → Data → RowDef
+row_of names d = record { msg = record { 0 = narrow_or_zero (number_in names.messages (string_in (codes "msg") d)) } }
+
+unfoldable pub rows_from : Declared → List RowDef → Items → List RowDef
+rows_from names rows no_items = rows
+rows_from names rows (item d ds) = rows_from names (rows ++ row_of names d ∷ []) ds
+
+-- ---- the code of an agent: start, finish, then each row, each of these a body and its end
+
+abbrev pub body_written : Declared → Body → Writer → Option Data → Writer
+body_written names b w found = with_instr (instr.End b) (acts_written names w (list_of found))
+
+abbrev pub row_body : ℕ → Body
+row_body i = body.Row (record { 0 = narrow i })
+
+-- the bodies of the rows from number i on
+unfoldable pub rows_written : Declared → ℕ → Writer → Items → Writer
+rows_written names i w no_items = w
+rows_written names i w (item d ds) = rows_written names (suc i) (body_written names (row_body i) w (get (codes "do") d)) ds
+
+abbrev pub agent_written : Declared → Writer → Data → Writer
+agent_written names w d =
+    rows_written names 0
+    (body_written names body.Finish (body_written names body.Start w (get (codes "start") d)) (get (codes "finish") d))
+    (list_of (get (codes "on") d))
+
+-- ---- the pass
+
+abbrev pub no_parts : Declared → Build
+no_parts names = record { names = names; messages = []; coops = []; agents = []; texts = [] }
+
+abbrev pub with_message : Data → Build → Build
+with_message d s = record s { messages = s.messages ++ message_of d ∷ [] }
+
+-- of a cooperation its name alone: while a scene has one, its agents are all there are
+abbrev pub with_coop : Data → Build → Build
+with_coop d s = record s { coops = s.coops ++ name_in d ∷ [] }
+
+abbrev pub agent_of : Declared → Data → Writer → AgentDef
+agent_of names d w = record {
+  name = name_in d;
+  coop = record { 0 = 0 };
+  vars = vars_of d;
+  rows = rows_from names [] (list_of (get (codes "on") d));
+  code = w.code;
+}
+
+abbrev pub fresh : Build → Writer
+fresh s = record { texts = s.texts; code = [] }
+
+-- an agent whose code has more than 1,024 instructions is out of range
+abbrev pub with_agent : Place → Build → Data → Writer → Result Build SceneFault
+with_agent place s d w = if nat_lt 1024 (length w.code) then Err (fault.OutOfRange place) else Ok (record s { agents = s.agents ++ agent_of s.names d w ∷ []; texts = w.texts })
+
+abbrev pub entered : ObjectKind → Place → Build → Data → Result Build SceneFault
+entered object.Message place s d = Ok (with_message d s)
+entered object.Coop place s d = Ok (with_coop d s)
+entered object.Agent place s d = with_agent place s d (agent_written s.names (fresh s) d)
+entered other place s d = Ok s
+
+abbrev pub build_step : Build → Visit → Result Build SceneFault
+build_step s (enters kind place d) = entered kind place s d
+build_step s (tries rule place found) = Ok s
+build_step s (leaves kind place d) = Ok s

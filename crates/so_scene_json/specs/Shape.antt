@@ -1,0 +1,133 @@
+-- The first pass: the shape of each object and field.
+use Rattle.std.specs.Prelude.{ℕ, suc, ◌+◌, ℤ, pos, negsuc, List, [], ◌∷◌, codes, Bool, true, false, not, ◌==◌, ◌||◌, nat_le, if◌then◌else◌, Option, Some, None, option_map, is_some, Result, Ok, Err, bytes_eq}
+use Rattle.serde_json.specs.Data.{Num, Data, Items, no_items, item, Members, no_members, member}
+use Rattle.serde_json.specs.Events.{items_len}
+use Rattle.serde_json.specs.Find.{as_number, as_i64, as_str, as_array, as_object, get}
+use Rattle.so_scene.specs.Faults.{spelling}
+use Rattle.so_scene.specs.declared.place.Field.{Field}
+use Rattle.so_scene.specs.declared.place.Field.TheVariants as field
+use Rattle.so_scene.specs.declared.fault.SceneFault.{SceneFault}
+use Rattle.so_scene.specs.declared.fault.SceneFault.TheVariants as fault
+use Rattle.so_scene_json.specs.declared.table.ObjectKind.{ObjectKind}
+use Rattle.so_scene_json.specs.declared.table.ObjectKind.TheVariants as object
+use Rattle.so_scene_json.specs.declared.table.Form.{Form}
+use Rattle.so_scene_json.specs.declared.table.Form.TheVariants as form
+use Rattle.so_scene_json.specs.declared.table.Rule.{Rule}
+use Rattle.so_scene_json.specs.declared.values.Trouble.{Trouble}
+use Rattle.so_scene_json.specs.declared.values.Trouble.TheVariants.{WrongShape, OutOfRange, UnknownName, NotBuilt}
+use Rattle.so_scene_json.specs.Table.{rules_of}
+use Rattle.so_scene_json.specs.Values.{◌or◌, trouble, name_of, integer_of}
+use Rattle.so_scene_json.specs.Acts.{act_trouble}
+use Rattle.so_scene_json.specs.Visits.{Visit, enters, tries, leaves, Place, at_item}
+
+abbrev pub placed : Place → Trouble → SceneFault
+placed place WrongShape = fault.WrongShape place
+placed place OutOfRange = fault.OutOfRange place
+placed place UnknownName = fault.UnknownName place
+placed place NotBuilt = fault.NotBuilt place
+
+abbrev pub trouble_at : Place → Option Trouble → Option SceneFault
+trouble_at place t = option_map (placed place) t
+
+-- ---- the keys of an object
+
+unfoldable pub is_known : List Rule → List ℕ → Bool
+is_known [] key = false
+is_known (rule ∷ rules) key = if bytes_eq (spelling rule.field) key then true else is_known rules key
+
+-- some key isn't in the table
+unfoldable pub has_unknown : List Rule → Members → Bool
+has_unknown rules no_members = false
+has_unknown rules (member key d ms) = if is_known rules key then has_unknown rules ms else true
+
+abbrev pub unknown_in : List Rule → Option Members → Bool
+unknown_in rules None = false
+unknown_in rules (Some ms) = has_unknown rules ms
+
+-- ---- the value of a field
+
+abbrev pub is_one : ℤ → Bool
+is_one (pos n) = n == 1
+is_one (negsuc n) = false
+
+abbrev pub version_in : Place → Option ℤ → Option SceneFault
+version_in place None = Some (fault.OutOfRange place)
+version_in place (Some z) = if is_one z then None else Some (fault.BadVersion place)
+
+abbrev pub version_fault : Place → Option Num → Option SceneFault
+version_fault place None = Some (fault.WrongShape place)
+version_fault place (Some n) = version_in place (as_i64 n)
+
+abbrev pub is_message_kind : List ℕ → Bool
+is_message_kind text = bytes_eq text (codes "message") || bytes_eq text (codes "signal")
+
+abbrev pub kind_trouble : Option (List ℕ) → Option Trouble
+kind_trouble None = Some WrongShape
+kind_trouble (Some text) = if is_message_kind text then None else Some WrongShape
+
+-- the first trouble of an item
+unfoldable pub first_of : (Data → Option Trouble) → Items → Option Trouble
+first_of f no_items = None
+first_of f (item d ds) = f d or first_of f ds
+
+abbrev pub is_within : Option ℕ → ℕ → Bool
+is_within None n = true
+is_within (Some limit) n = nat_le n limit
+
+-- a list: that it is one, its limit, then its items in order
+abbrev pub list_trouble : Option ℕ → (Data → Option Trouble) → Option Items → Option Trouble
+list_trouble limit f None = Some WrongShape
+list_trouble limit f (Some ds) = if is_within limit (items_len ds) then first_of f ds else Some OutOfRange
+
+abbrev pub number_trouble : Data → Option Trouble
+number_trouble d = trouble (integer_of d)
+
+abbrev pub object_trouble : Data → Option Trouble
+object_trouble d = if is_some (as_object d) then None else Some WrongShape
+
+-- the first trouble of an act, which is a fault at the act
+unfoldable pub acts_from : (ℕ → Data → Option Trouble) → Place → ℕ → Items → Option SceneFault
+acts_from f place i no_items = None
+acts_from f place i (item d ds) = trouble_at (at_item place i) (f (items_len ds) d) or acts_from f place (suc i) ds
+
+abbrev pub acts_fault : Place → Option Items → Option SceneFault
+acts_fault place None = Some (fault.WrongShape place)
+acts_fault place (Some ds) = if nat_le (items_len ds) 256 then acts_from act_trouble place 0 ds else Some (fault.OutOfRange place)
+
+abbrev pub form_fault : Form → Place → Data → Option SceneFault
+form_fault form.One place d = version_fault place (as_number d)
+form_fault form.Name place d = trouble_at place (trouble (name_of d))
+form_fault (form.NameIn s) place d = trouble_at place (trouble (name_of d))
+form_fault form.MessageKind place d = trouble_at place (kind_trouble (as_str d))
+form_fault (form.Numbers limit) place d = trouble_at place (list_trouble (Some limit) number_trouble (as_array d))
+form_fault (form.Objects kind limit) place d = trouble_at place (list_trouble limit object_trouble (as_array d))
+form_fault form.Acts place d = acts_fault place (as_array d)
+form_fault form.Later place d = Some (fault.NotBuilt place)
+
+abbrev pub field_fault : Rule → Place → Option Data → Option SceneFault
+field_fault rule place None = if rule.required then Some (fault.Missing place) else None
+field_fault rule place (Some d) = form_fault rule.form place d
+
+-- ---- what the fields of an object need of each other
+
+abbrev pub has : Field → Data → ℕ
+has f d = if is_some (get (spelling f) d) then 1 else 0
+
+-- a row has exactly one of do, switch, transfer and suppress
+abbrev pub is_breach : ObjectKind → Data → Bool
+is_breach object.Row d = not ((has field.Do d + has field.Switch d + has field.Transfer d + has field.Suppress d) == 1)
+is_breach other d = false
+
+-- ---- the pass
+
+abbrev pub shape_fault : Visit → Option SceneFault
+shape_fault (enters kind place d) = if unknown_in (rules_of kind) (as_object d) then Some (fault.WrongShape place) else None
+shape_fault (tries rule place found) = field_fault rule place found
+shape_fault (leaves kind place d) = if is_breach kind d then Some (fault.WrongShape place) else None
+
+abbrev pub unless_faulty : {S : Type 0} → S → Option SceneFault → Result S SceneFault
+unless_faulty s None = Ok s
+unless_faulty s (Some f) = Err f
+
+abbrev pub shape_step : {S : Type 0} → S → Visit → Result S SceneFault
+shape_step s v = unless_faulty s (shape_fault v)

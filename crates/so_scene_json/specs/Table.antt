@@ -1,0 +1,126 @@
+-- The fields of each kind of object, in their order. A field that is `later` isn't built: it is known, and refused where
+-- it is given. Where an optional field is absent, a list is empty and a message's kind is `message`.
+use Rattle.std.specs.Prelude.{Option, Some, None, List, [], ◌∷◌, true, false}
+use Rattle.so_scene.specs.declared.place.Field.{Field}
+use Rattle.so_scene.specs.declared.place.Field.TheVariants as field
+use Rattle.so_scene_json.specs.declared.table.ObjectKind.{ObjectKind}
+use Rattle.so_scene_json.specs.declared.table.ObjectKind.TheVariants as object
+use Rattle.so_scene_json.specs.declared.table.Space.{Space}
+use Rattle.so_scene_json.specs.declared.table.Space.TheVariants as space
+use Rattle.so_scene_json.specs.declared.table.Form.{Form}
+use Rattle.so_scene_json.specs.declared.table.Form.TheVariants as form
+use Rattle.so_scene_json.specs.declared.table.Rule.{Rule}
+
+abbrev pub required : Field → Form → Rule
+required f form = record { field = f; required = true; form = form }
+
+abbrev pub optional : Field → Form → Rule
+optional f form = record { field = f; required = false; form = form }
+
+abbrev pub later : Field → Rule
+later f = record { field = f; required = false; form = form.Later }
+
+abbrev pub rules_of : ObjectKind → List Rule
+rules_of object.Scene =
+    required field.Version form.One
+    ∷ later field.Autoshutdown
+    ∷ later field.Reaction
+    ∷ optional field.Messages (form.Objects object.Message (Some 256))
+    ∷ later field.Mboxes
+    ∷ later field.Chains
+    ∷ later field.Dispatchers
+    ∷ optional field.Coops (form.Objects object.Coop (Some 1024))
+    ∷ later field.Threads
+    ∷ []
+rules_of object.Message =
+    required field.Name form.Name
+    ∷ optional field.Kind form.MessageKind
+    ∷ []
+rules_of object.Chain =
+    later field.Name
+    ∷ later field.Capacity
+    ∷ later field.Overflow
+    ∷ later field.Wait
+    ∷ []
+rules_of object.Dispatcher =
+    later field.Name
+    ∷ later field.Kind
+    ∷ later field.Slots
+    ∷ later field.Threads
+    ∷ later field.Fifo
+    ∷ later field.Quotes
+    ∷ []
+rules_of object.Coop =
+    required field.Name form.Name
+    ∷ later field.Parent
+    ∷ later field.AtStart
+    ∷ later field.Reaction
+    ∷ required field.Agents (form.Objects object.Agent None)
+    ∷ []
+rules_of object.Agent =
+    required field.Name form.Name
+    ∷ later field.Disp
+    ∷ later field.Group
+    ∷ later field.Priority
+    ∷ later field.Reaction
+    ∷ later field.Native
+    ∷ optional field.Vars (form.Numbers 16)
+    ∷ later field.States
+    ∷ later field.Limits
+    ∷ later field.Filters
+    ∷ optional field.Start form.Acts
+    ∷ optional field.Finish form.Acts
+    ∷ optional field.On (form.Objects object.Row (Some 128))
+    ∷ []
+rules_of object.State =
+    later field.Name
+    ∷ later field.Parent
+    ∷ later field.Initial
+    ∷ later field.History
+    ∷ later field.Limit
+    ∷ later field.Enter
+    ∷ later field.Exit
+    ∷ []
+rules_of object.Limit =
+    later field.Msg
+    ∷ later field.Max
+    ∷ later field.Over
+    ∷ []
+rules_of object.Filter =
+    later field.Id
+    ∷ later field.Mbox
+    ∷ later field.Msg
+    ∷ later field.Field
+    ∷ later field.Cmp
+    ∷ later field.Value
+    ∷ later field.Active
+    ∷ []
+rules_of object.Row =
+    later field.Id
+    ∷ required field.Msg (form.NameIn space.Messages)
+    ∷ later field.Mbox
+    ∷ later field.State
+    ∷ optional field.Do form.Acts
+    ∷ later field.Switch
+    ∷ later field.Transfer
+    ∷ later field.Suppress
+    ∷ later field.Dead
+    ∷ later field.Safe
+    ∷ later field.Active
+    ∷ []
+rules_of object.Thread =
+    later field.Name
+    ∷ later field.Do
+    ∷ []
+
+-- the objects that a field lists
+abbrev pub objects_of : Form → Option ObjectKind
+objects_of (form.Objects kind limit) = Some kind
+objects_of other = None
+
+-- the space in which an object declares its name
+abbrev pub space_of : ObjectKind → Option Space
+space_of object.Message = Some space.Messages
+space_of object.Coop = Some space.Coops
+space_of object.Agent = Some space.Parties
+space_of other = None

@@ -1,0 +1,138 @@
+-- What a value stands for, or what is wrong with it.
+use Rattle.std.specs.Prelude.{◌≡◌, ℕ, ◌-◌, ℤ, pos, negsuc, List, [], ◌∷◌, codes, Bool, ◌==◌, ◌&&◌, nat_lt, nat_le, if◌then◌else◌, Option, Some, None, option_map, option_and_then, Result, Ok, Err, bytes_eq}
+use denote.Bor.{Bor}
+use Rattle.serde_json.specs.Data.{Num, Data}
+use Rattle.serde_json.specs.Find.{as_number, as_i64, as_str, get}
+use Rattle.so_code.specs.declared.instr.Cmp.{Cmp}
+use Rattle.so_code.specs.declared.instr.Cmp.TheVariants as cmp
+use Rattle.so_code.specs.declared.instr.Operand.{Operand}
+use Rattle.so_code.specs.declared.instr.Operand.TheVariants as operand
+use Rattle.so_code.specs.declared.instr.Dest.{Dest}
+use Rattle.so_code.specs.declared.instr.Dest.TheVariants as dest
+use Rattle.so_scene.specs.Words.{is_name, is_text}
+use Rattle.so_scene_json.specs.declared.values.Trouble.{Trouble}
+use Rattle.so_scene_json.specs.declared.values.Trouble.TheVariants.{WrongShape, OutOfRange}
+
+-- the value, or this trouble where there is none
+abbrev pub ◌else◌ : {A : Type 0} → Option A → Trouble → Result A Trouble
+(Some x) else t = Ok x
+None else t = Err t
+
+-- the first that there is
+abbrev pub ◌or◌ : {A : Type 0} → Option A → Option A → Option A
+(Some x) or o = Some x
+None or o = o
+
+infixl 10 ◌or◌
+infixl 9 ◌else◌
+abbrev pub trouble : {A : Type 0} → Result A Trouble → Option Trouble
+trouble (Ok x) = None
+trouble (Err t) = Some t
+
+infixl 10 ◌then◌
+abbrev pub ◌then◌ : {A B : Type 0} → Result A Trouble → (A → Result B Trouble) → Result B Trouble
+(Ok x) then f = f x
+(Err t) then f = Err t
+
+-- ---- numbers
+
+abbrev pub integer_in : Option Num → Result ℤ Trouble
+integer_in None = Err WrongShape
+integer_in (Some n) = as_i64 n else OutOfRange
+
+-- an integer of 64 bits
+abbrev pub integer_of : Data → Result ℤ Trouble
+integer_of d = integer_in (as_number d)
+
+abbrev pub natural_up_to : ℕ → ℤ → Result ℕ Trouble
+natural_up_to limit (pos n) = if nat_le n limit then Ok n else Err OutOfRange
+natural_up_to limit (negsuc n) = Err OutOfRange
+
+-- 0 to the number of acts that follow
+abbrev pub count_of : ℕ → Data → Result ℕ Trouble
+count_of rest d = integer_of d then natural_up_to rest
+
+-- ---- words
+
+-- a string that stands for something
+abbrev pub named : {A : Type 0} → (List ℕ → Option A) → Data → Result A Trouble
+named f d = option_and_then f (as_str d) else WrongShape
+
+abbrev pub checked : (List ℕ → Bool) → List ℕ → Option (List ℕ)
+checked test text = if test text then Some text else None
+
+abbrev pub name_of : Data → Result (List ℕ) Trouble
+name_of = named (checked is_name)
+
+abbrev pub text_of : Data → Result (List ℕ) Trouble
+text_of = named (checked is_text)
+
+-- ---- operands
+
+abbrev pub is_digit : ℕ → Bool
+is_digit b = nat_le 48 b && nat_le b 57
+
+-- 0 to 19, with no 0 before another digit
+abbrev pub small_number : List ℕ → Option ℕ
+small_number [] = None
+small_number (a ∷ []) = if is_digit a then Some (a - 48) else None
+small_number (a ∷ b ∷ []) = if a == 49 && is_digit b then Some (b - 38) else None
+small_number (a ∷ b ∷ c ∷ more) = None
+
+-- a letter and a number below the limit
+unfoldable pub numbered : ℕ → ℕ → List ℕ → Option ℕ
+numbered letter limit [] = None
+numbered letter limit (c ∷ digits) = if c == letter then option_and_then (λ n. if nat_lt n limit then Some n else None) (small_number digits) else None
+
+-- `v0` to `v15`, `m0` to `m3`, `t0` to `t3`, `ans`
+abbrev pub operand_named : List ℕ → Option Operand
+operand_named text =
+    option_map operand.Var (numbered 118 16 text)
+    or option_map operand.Msg (numbered 109 4 text)
+    or option_map operand.Temp (numbered 116 4 text)
+    or (if bytes_eq text (codes "ans") then Some operand.Ans else None)
+
+abbrev pub operand_or_number : Option Num → Data → Result Operand Trouble
+operand_or_number None d = named operand_named d
+operand_or_number (Some n) d = option_map operand.Num (as_i64 n) else OutOfRange
+
+abbrev pub operand_of : Data → Result Operand Trouble
+operand_of d = operand_or_number (as_number d) d
+
+-- `v0` to `v15`, `t0` to `t3`
+abbrev pub dest_named : List ℕ → Option Dest
+dest_named text = option_map dest.Var (numbered 118 16 text) or option_map dest.Temp (numbered 116 4 text)
+
+abbrev pub dest_of : Data → Result Dest Trouble
+dest_of = named dest_named
+
+abbrev pub cmp_named : List ℕ → Option Cmp
+cmp_named text =
+    if bytes_eq text (codes "==") then Some cmp.Eq else (
+    if bytes_eq text (codes "!=") then Some cmp.Ne else (
+    if bytes_eq text (codes "<") then Some cmp.Lt else (
+    if bytes_eq text (codes "<=") then Some cmp.Le else (
+    if bytes_eq text (codes ">") then Some cmp.Gt else (
+    if bytes_eq text (codes ">=") then Some cmp.Ge else None)))))
+
+abbrev pub cmp_of : Data → Result Cmp Trouble
+cmp_of = named cmp_named
+
+-- ---- strings of an object
+
+abbrev pub text_or_empty : Option (List ℕ) → List ℕ
+text_or_empty None = []
+text_or_empty (Some text) = text
+
+-- the string of a field, no bytes where it has none
+abbrev pub string_in : List ℕ → Data → List ℕ
+string_in key d = text_or_empty (option_and_then as_str (get key d))
+
+-- the name of an object, no bytes where it has none
+abbrev pub name_in : Data → List ℕ
+name_in d = text_or_empty (checked is_name (string_in (codes "name") d))
+
+-- a text that was lent
+abbrev pub Views : Result (Bor (List ℕ)) Trouble → Result (List ℕ) Trouble → Type 0
+Views (Ok x) expected = expected ≡ Ok x.now
+Views (Err t) expected = expected ≡ Err t

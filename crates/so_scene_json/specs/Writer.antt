@@ -1,0 +1,127 @@
+-- Acts as instructions, one for each, and texts by number in the order of their first appearance. A part that an earlier
+-- pass refuses stands as 0 here, and an act that one refuses as an instruction that does nothing.
+use Rattle.std.specs.Prelude.{ℕ, ◌+◌, ◌-◌, min, pos, List, [], ◌∷◌, ◌++◌, length, Option, Some, None, Result, Ok, Err, option_and_then}
+use Rattle.serde_json.specs.Data.{Data, Items, no_items, item}
+use Rattle.serde_json.specs.Events.{items_len}
+use Rattle.serde_json.specs.Find.{as_str, get_item}
+use Rattle.so_ids.specs.declared.Target.TheVariants.{Mbox}
+use Rattle.so_code.specs.declared.instr.Operand.{Operand}
+use Rattle.so_code.specs.declared.instr.Operand.TheVariants as operand
+use Rattle.so_code.specs.declared.instr.Dest.{Dest}
+use Rattle.so_code.specs.declared.instr.Dest.TheVariants as dest
+use Rattle.so_code.specs.declared.instr.Cmp.{Cmp}
+use Rattle.so_code.specs.declared.instr.Cmp.TheVariants as cmp
+use Rattle.so_code.specs.declared.instr.Args.{Args}
+use Rattle.so_code.specs.declared.instr.Instr.{Instr}
+use Rattle.so_code.specs.declared.instr.Instr.TheVariants as instr
+use Rattle.so_scene.specs.Names.{number_in}
+use Rattle.so_scene.specs.Words.{is_text}
+use Rattle.so_scene_json.specs.declared.act_table.Word.{Word}
+use Rattle.so_scene_json.specs.declared.act_table.Word.TheVariants as word
+use Rattle.so_scene_json.specs.declared.values.Trouble.{Trouble}
+use Rattle.so_scene_json.specs.declared.declare.Declared.{Declared}
+use Rattle.so_scene_json.specs.declared.write.Writer.{Writer}
+use Rattle.so_scene_json.specs.Values.{operand_of, dest_of, cmp_of, count_of, checked, text_or_empty}
+use Rattle.so_scene_json.specs.Acts.{act_parts}
+use Rattle.so_scene_json.specs.Visits.{narrow}
+
+-- ---- the parts of an act
+
+abbrev pub ok_or : {A : Type 0} → A → Result A Trouble → A
+ok_or x (Ok y) = y
+ok_or x (Err t) = x
+
+abbrev pub read_or : {A : Type 0} → A → (Data → Result A Trouble) → Option Data → A
+read_or x f None = x
+read_or x f (Some d) = ok_or x (f d)
+
+abbrev pub operand_at : ℕ → Items → Operand
+operand_at i ds = read_or (operand.Num (pos 0)) operand_of (get_item i ds)
+
+abbrev pub dest_at : ℕ → Items → Dest
+dest_at i ds = read_or (dest.Var 0) dest_of (get_item i ds)
+
+abbrev pub cmp_at : ℕ → Items → Cmp
+cmp_at i ds = read_or cmp.Eq cmp_of (get_item i ds)
+
+abbrev pub count_at : ℕ → ℕ → Items → ℕ
+count_at rest i ds = narrow (read_or 0 (count_of rest) (get_item i ds))
+
+abbrev pub string_at : ℕ → Items → List ℕ
+string_at i ds = text_or_empty (option_and_then as_str (get_item i ds))
+
+abbrev pub text_at : ℕ → Items → List ℕ
+text_at i ds = text_or_empty (checked is_text (string_at i ds))
+
+-- up to four operands from position i on
+abbrev pub args_from : ℕ → Items → Args
+args_from i ds = record { list = operand_at i ds ∷ operand_at (i + 1) ds ∷ operand_at (i + 2) ds ∷ operand_at (i + 3) ds ∷ []; used = min (items_len ds - i) 4 }
+
+-- ---- an act
+
+abbrev pub idle : Instr
+idle = instr.Skip 0
+
+-- a message to the direct mbox of an agent
+abbrev pub send_instr : Option ℕ → Option ℕ → Args → Instr
+send_instr (Some agent) (Some msg) args = instr.Send (Mbox (record { 0 = narrow agent })) (record { 0 = narrow msg }) args
+send_instr (Some agent) None args = idle
+send_instr None msg args = idle
+
+abbrev pub send_at : Declared → Items → Instr
+send_at names ds = send_instr (number_in names.parties (string_at 0 ds)) (number_in names.messages (string_at 1 ds)) (args_from 2 ds)
+
+-- the instruction of an act that so many others follow, where a text of it has the number `text`
+abbrev pub word_instr : Declared → ℕ → ℕ → Word → Items → Instr
+word_instr names text rest word.Set ds = instr.Set (dest_at 0 ds) (operand_at 1 ds)
+word_instr names text rest word.Add ds = instr.Add (dest_at 0 ds) (operand_at 1 ds) (operand_at 2 ds)
+word_instr names text rest word.Sub ds = instr.Sub (dest_at 0 ds) (operand_at 1 ds) (operand_at 2 ds)
+word_instr names text rest word.Mul ds = instr.Mul (dest_at 0 ds) (operand_at 1 ds) (operand_at 2 ds)
+word_instr names text rest word.If ds = instr.If (operand_at 0 ds) (cmp_at 1 ds) (operand_at 2 ds) (count_at rest 3 ds)
+word_instr names text rest word.Skip ds = instr.Skip (count_at rest 0 ds)
+word_instr names text rest word.Throw ds = instr.Throw (operand_at 0 ds)
+word_instr names text rest word.Log ds = instr.Log (record { 0 = text }) (args_from 1 ds)
+word_instr names text rest word.Send ds = send_at names ds
+word_instr names text rest word.Stop ds = instr.Stop
+word_instr names text rest other ds = idle
+
+-- ---- texts
+
+abbrev pub texts_with : Option ℕ → List ℕ → List (List ℕ) → List (List ℕ)
+texts_with (Some n) text texts = texts
+texts_with None text texts = texts ++ text ∷ []
+
+-- the number of a text: its own, or the next
+abbrev pub number_or_next : Option ℕ → List (List ℕ) → ℕ
+number_or_next (Some n) texts = narrow n
+number_or_next None texts = narrow (length texts)
+
+-- a text that isn't there yet goes to the end
+abbrev pub with_text : List ℕ → Writer → Writer
+with_text text w = record w { texts = texts_with (number_in w.texts text) text w.texts }
+
+abbrev pub text_number : List ℕ → Writer → ℕ
+text_number text w = number_or_next (number_in w.texts text) w.texts
+
+-- ---- lists of acts
+
+abbrev pub with_instr : Instr → Writer → Writer
+with_instr i w = record w { code = w.code ++ i ∷ [] }
+
+abbrev pub log_written : Declared → ℕ → Writer → List ℕ → Items → Writer
+log_written names rest w text ds = with_instr (word_instr names (text_number text w) rest word.Log ds) (with_text text w)
+
+abbrev pub word_written : Declared → ℕ → Writer → Word → Items → Writer
+word_written names rest w word.Log ds = log_written names rest w (text_at 0 ds) ds
+word_written names rest w other ds = with_instr (word_instr names 0 rest other ds) w
+
+abbrev pub parts_written : Declared → ℕ → Writer → Option (Word × Items) → Writer
+parts_written names rest w None = with_instr idle w
+parts_written names rest w (Some p) = word_written names rest w p.0 p.1
+
+abbrev pub act_written : Declared → ℕ → Writer → Data → Writer
+act_written names rest w d = parts_written names rest w (act_parts d)
+
+unfoldable pub acts_written : Declared → Writer → Items → Writer
+acts_written names w no_items = w
+acts_written names w (item d ds) = acts_written names (act_written names (items_len ds) w d) ds

@@ -1,0 +1,152 @@
+//! The words of acts, and what stands behind each.
+
+ghost use Rattle.std.specs.Prelude.{◌≡◌, option_map};
+ghost use Rattle.so_scene_json.specs.ActTable.{word_named, args_of, needed_of};
+
+/// The word of an act.
+#[derive(Clone, Copy, Debug, PartialEq, Eq)]
+pub(crate) enum Word {
+    Set,
+    Add,
+    Sub,
+    Mul,
+    If,
+    Skip,
+    Throw,
+    Log,
+    Send,
+    Delayed,
+    Timer,
+    Cancel,
+    Switch,
+    Subscribe,
+    Unsubscribe,
+    SetFilter,
+    DropFilter,
+    Register,
+    Deregister,
+    Stop,
+    Close,
+    Receive,
+}
+
+/// What may stand behind a word.
+#[derive(Clone, Copy, Debug, PartialEq, Eq)]
+pub(crate) enum Arg {
+    /// A text of up to 64 bytes.
+    Text,
+    /// A name.
+    Name,
+    /// A variable or a temporary.
+    Dest,
+    /// A number, or what holds one.
+    Operand,
+    /// A comparison.
+    Cmp,
+    /// A number of acts that follow in the list.
+    Count,
+}
+
+static SET: [Arg; 2] = [Arg::Dest, Arg::Operand];
+
+static SUM: [Arg; 3] = [Arg::Dest, Arg::Operand, Arg::Operand];
+
+static IF: [Arg; 4] = [Arg::Operand, Arg::Cmp, Arg::Operand, Arg::Count];
+
+static SKIP: [Arg; 1] = [Arg::Count];
+
+static THROW: [Arg; 1] = [Arg::Operand];
+
+static LOG: [Arg; 5] = [
+    Arg::Text,
+    Arg::Operand,
+    Arg::Operand,
+    Arg::Operand,
+    Arg::Operand,
+];
+
+static SEND: [Arg; 6] = [
+    Arg::Name,
+    Arg::Name,
+    Arg::Operand,
+    Arg::Operand,
+    Arg::Operand,
+    Arg::Operand,
+];
+
+static STOP: [Arg; 0] = [];
+
+/// The word that a text is.
+pub(crate) fn word_by_name(text: &str) -> Option<Word>
+    ensures { result ≡ word_named text.now }
+{
+    match text {
+        "set" => Some(Word::Set),
+        "add" => Some(Word::Add),
+        "sub" => Some(Word::Sub),
+        "mul" => Some(Word::Mul),
+        "if" => Some(Word::If),
+        "skip" => Some(Word::Skip),
+        "throw" => Some(Word::Throw),
+        "log" => Some(Word::Log),
+        "send" => Some(Word::Send),
+        "delayed" => Some(Word::Delayed),
+        "timer" => Some(Word::Timer),
+        "cancel" => Some(Word::Cancel),
+        "switch" => Some(Word::Switch),
+        "subscribe" => Some(Word::Subscribe),
+        "unsubscribe" => Some(Word::Unsubscribe),
+        "set_filter" => Some(Word::SetFilter),
+        "drop_filter" => Some(Word::DropFilter),
+        "register" => Some(Word::Register),
+        "deregister" => Some(Word::Deregister),
+        "stop" => Some(Word::Stop),
+        "close" => Some(Word::Close),
+        "receive" => Some(Word::Receive),
+        _ => None,
+    }
+}
+
+/// What stands behind the word of an act that is built.
+pub(crate) fn args(word: Word) -> Option<&'static [Arg]>
+    ensures { option_map (λ args. args.now) result ≡ args_of word }
+{
+    match word {
+        Word::Set => Some(&SET),
+        Word::Add | Word::Sub | Word::Mul => Some(&SUM),
+        Word::If => Some(&IF),
+        Word::Skip => Some(&SKIP),
+        Word::Throw => Some(&THROW),
+        Word::Log => Some(&LOG),
+        Word::Send => Some(&SEND),
+        Word::Stop => Some(&STOP),
+        Word::Delayed
+        | Word::Timer
+        | Word::Cancel
+        | Word::Switch
+        | Word::Subscribe
+        | Word::Unsubscribe
+        | Word::SetFilter
+        | Word::DropFilter
+        | Word::Register
+        | Word::Deregister
+        | Word::Close
+        | Word::Receive => None,
+    }
+}
+
+/// How many of these must stand there.
+pub(crate) fn needed(word: Word) -> usize
+    ensures { result ≡ needed_of word }
+{
+    match word {
+        Word::Set => 2,
+        Word::Add | Word::Sub | Word::Mul => 3,
+        Word::If => 4,
+        Word::Skip => 1,
+        Word::Throw => 1,
+        Word::Log => 1,
+        Word::Send => 2,
+        _ => 0,
+    }
+}

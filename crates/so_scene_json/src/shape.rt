@@ -1,0 +1,297 @@
+//! The first pass: the shape of each object and field.
+
+ghost use Rattle.std.specs.Prelude.{◌≡◌, ◌<◌, Some, length, option_map};
+ghost use Rattle.serde_json.specs.Find.{as_array, as_number, as_object, as_str};
+ghost use Rattle.serde_json.specs.View.{view, items_view, members_view};
+ghost use Rattle.so_scene_json.specs.Table.{rules_of};
+ghost use Rattle.so_scene_json.specs.Acts.{act_trouble};
+ghost use Rattle.so_scene_json.specs.Shape.{placed, trouble_at, is_known, has_unknown, unknown_in, version_fault, kind_trouble, first_of, is_within, list_trouble, number_trouble, object_trouble, acts_from, acts_fault, form_fault, field_fault, has, is_breach, shape_step};
+
+use crate::acts::act_fault;
+use crate::table::{Form, ObjectKind, Rule, rules};
+use crate::values::{Trouble, integer, name};
+use crate::walk::{Pass, position};
+use serde_json::{Map, Value};
+use so_scene::{Field, PlaceStep, SceneFault, ScenePlace, SceneRefusal};
+
+pub(crate) fn fault_at(place: &ScenePlace, trouble: Trouble) -> SceneFault
+    ensures { result ≡ placed place.now trouble }
+{
+    match trouble {
+        Trouble::WrongShape => SceneFault::WrongShape(place.copy()),
+        Trouble::OutOfRange => SceneFault::OutOfRange(place.copy()),
+        Trouble::UnknownName => SceneFault::UnknownName(place.copy()),
+        Trouble::NotBuilt => SceneFault::NotBuilt(place.copy()),
+    }
+}
+
+pub(crate) fn at(place: &ScenePlace, trouble: Option<Trouble>) -> Option<SceneFault>
+    ensures { result ≡ trouble_at place.now trouble }
+{
+    match trouble {
+        Some(trouble) => Some(fault_at(place, trouble)),
+        None => None,
+    }
+}
+
+fn is_a_key(rules: &[Rule], name: &str) -> bool
+    ensures { result ≡ is_known rules.now name.now }
+{
+    for rule in rules {
+        if rule.field.key() == name {
+            return true;
+        }
+    }
+    false
+}
+
+fn has_unknown_key(rules: &[Rule], members: &Map<String, Value>) -> bool
+    ensures { result ≡ has_unknown rules.now (members_view members.now.entries) }
+{
+    for (name, _) in members {
+        if !is_a_key(rules, name.as_str()) {
+            return true;
+        }
+    }
+    false
+}
+
+fn version(place: &ScenePlace, value: &Value) -> Option<SceneFault>
+    ensures { result ≡ version_fault place.now (as_number (view value.now)) }
+{
+    match value.as_number() {
+        Some(number) => match number.as_i64() {
+            Some(1) => None,
+            Some(_) => Some(SceneFault::BadVersion(place.copy())),
+            None => Some(SceneFault::OutOfRange(place.copy())),
+        },
+        None => Some(SceneFault::WrongShape(place.copy())),
+    }
+}
+
+fn message_kind(value: &Value) -> Option<Trouble>
+    ensures { result ≡ kind_trouble (as_str (view value.now)) }
+{
+    match value.as_str() {
+        Some("message") => None,
+        Some("signal") => None,
+        Some(_) => Some(Trouble::WrongShape),
+        None => Some(Trouble::WrongShape),
+    }
+}
+
+fn all_numbers(list: &[Value]) -> Option<Trouble>
+    ensures { result ≡ first_of number_trouble (items_view list.now) }
+{
+    for value in list {
+        match integer(value) {
+            Ok(_) => {}
+            Err(trouble) => return Some(trouble),
+        }
+    }
+    None
+}
+
+fn all_objects(list: &[Value]) -> Option<Trouble>
+    ensures { result ≡ first_of object_trouble (items_view list.now) }
+{
+    for value in list {
+        if !value.is_object() {
+            return Some(Trouble::WrongShape);
+        }
+    }
+    None
+}
+
+fn is_within(limit: Option<usize>, len: usize) -> bool
+    ensures { result ≡ is_within limit len }
+{
+    match limit {
+        Some(limit) => len <= limit,
+        None => true,
+    }
+}
+
+fn number_list(limit: usize, list: &[Value]) -> Option<Trouble>
+    ensures { result ≡ list_trouble (Some limit) number_trouble (Some (items_view list.now)) }
+{
+    if is_within(Some(limit), list.len()) {
+        all_numbers(list)
+    } else {
+        Some(Trouble::OutOfRange)
+    }
+}
+
+fn numbers(limit: usize, value: &Value) -> Option<Trouble>
+    ensures { result ≡ list_trouble (Some limit) number_trouble (as_array (view value.now)) }
+{
+    match value.as_array() {
+        Some(list) => number_list(limit, list),
+        None => Some(Trouble::WrongShape),
+    }
+}
+
+fn object_list(limit: Option<usize>, list: &[Value]) -> Option<Trouble>
+    ensures { result ≡ list_trouble limit object_trouble (Some (items_view list.now)) }
+{
+    if is_within(limit, list.len()) {
+        all_objects(list)
+    } else {
+        Some(Trouble::OutOfRange)
+    }
+}
+
+fn objects(limit: Option<usize>, value: &Value) -> Option<Trouble>
+    ensures { result ≡ list_trouble limit object_trouble (as_array (view value.now)) }
+{
+    match value.as_array() {
+        Some(list) => object_list(limit, list),
+        None => Some(Trouble::WrongShape),
+    }
+}
+
+fn first_act(place: &ScenePlace, list: &[Value]) -> Option<SceneFault>
+    requires { length place.now < 16 }
+    ensures { result ≡ acts_from act_trouble place.now 0 (items_view list.now) }
+{
+    for (i, act) in list.iter().enumerate() {
+        match act_fault(list.len() - i - 1, act) {
+            Some(trouble) => return Some(fault_at(
+                &place.step(PlaceStep::At(position(i))),
+                trouble,
+            )),
+            None => {}
+        }
+    }
+    None
+}
+
+fn act_list(place: &ScenePlace, list: &[Value]) -> Option<SceneFault>
+    requires { length place.now < 16 }
+    ensures { result ≡ acts_fault place.now (Some (items_view list.now)) }
+{
+    if list.len() > 256 {
+        return Some(SceneFault::OutOfRange(place.copy()));
+    }
+    first_act(place, list)
+}
+
+fn acts(place: &ScenePlace, value: &Value) -> Option<SceneFault>
+    requires { length place.now < 16 }
+    ensures { result ≡ acts_fault place.now (as_array (view value.now)) }
+{
+    match value.as_array() {
+        Some(list) => act_list(place, list),
+        None => Some(SceneFault::WrongShape(place.copy())),
+    }
+}
+
+fn form(form: Form, place: &ScenePlace, value: &Value) -> Option<SceneFault>
+    requires { length place.now < 16 }
+    ensures { result ≡ form_fault form place.now (view value.now) }
+{
+    match form {
+        Form::One => version(place, value),
+        Form::Name => at(place, name(value).err()),
+        Form::NameIn(_) => at(place, name(value).err()),
+        Form::MessageKind => at(place, message_kind(value)),
+        Form::Numbers(limit) => at(place, numbers(limit, value)),
+        Form::Objects(_, limit) => at(place, objects(limit, value)),
+        Form::Acts => acts(place, value),
+        Form::Later => Some(SceneFault::NotBuilt(place.copy())),
+    }
+}
+
+fn field(rule: Rule, place: &ScenePlace, found: Option<&Value>) -> Option<SceneFault>
+    requires { length place.now < 16 }
+    ensures { result ≡ field_fault rule place.now (option_map (λ v. view v.now) found.entry) }
+{
+    match found {
+        Some(value) => form(rule.form, place, value),
+        None => if rule.required {
+            Some(SceneFault::Missing(place.copy()))
+        } else {
+            None
+        },
+    }
+}
+
+fn unknown(kind: ObjectKind, value: &Value) -> bool
+    ensures { result ≡ unknown_in (rules_of kind) (as_object (view value.now)) }
+{
+    match value.as_object() {
+        Some(members) => has_unknown_key(rules(kind), members),
+        None => false,
+    }
+}
+
+fn has(field: Field, value: &Value) -> u8
+    ensures { result ≡ has field (view value.now) }
+{
+    if value.get(field.key()).is_some() {
+        1
+    } else {
+        0
+    }
+}
+
+fn breach(kind: ObjectKind, value: &Value) -> bool
+    ensures { result ≡ is_breach kind (view value.now) }
+{
+    match kind {
+        ObjectKind::Row => {
+            let effects = has(Field::Do, value)
+                + has(Field::Switch, value)
+                + has(Field::Transfer, value)
+                + has(Field::Suppress, value);
+            effects != 1
+        }
+        _ => false,
+    }
+}
+
+/// The first pass. It keeps nothing.
+#[derive(Drop)]
+pub(crate) struct Shape {}
+
+impl Pass for Shape {
+    ghost step = { shape_step };
+
+    ghost lack = { ⊥ };
+
+    fn enter(
+        &mut self,
+        kind: ObjectKind,
+        place: &ScenePlace,
+        value: &Value,
+    ) -> Result<(), SceneRefusal> {
+        if unknown(kind, value) {
+            return Err(SceneRefusal::Fault(SceneFault::WrongShape(place.copy())));
+        }
+        Ok(())
+    }
+
+    fn field(
+        &mut self,
+        rule: Rule,
+        place: &ScenePlace,
+        found: Option<&Value>,
+    ) -> Result<(), SceneRefusal> {
+        match field(rule, place, found) {
+            Some(fault) => Err(SceneRefusal::Fault(fault)),
+            None => Ok(()),
+        }
+    }
+
+    fn leave(
+        &mut self,
+        kind: ObjectKind,
+        place: &ScenePlace,
+        value: &Value,
+    ) -> Result<(), SceneRefusal> {
+        if breach(kind, value) {
+            return Err(SceneRefusal::Fault(SceneFault::WrongShape(place.copy())));
+        }
+        Ok(())
+    }
+}

@@ -1,0 +1,478 @@
+//! The fields of each kind of object, in their order.
+
+ghost use Rattle.std.specs.Prelude.{◌≡◌};
+ghost use Rattle.so_scene_json.specs.Table.{rules_of, objects_of, space_of, required, optional, later};
+
+use so_scene::Field;
+
+/// The kinds of object.
+#[derive(Clone, Copy, Debug, PartialEq, Eq)]
+pub(crate) enum ObjectKind {
+    Scene,
+    Message,
+    Chain,
+    Dispatcher,
+    Coop,
+    Agent,
+    State,
+    Limit,
+    Filter,
+    Row,
+    Thread,
+}
+
+/// The name spaces. Agents share theirs with what else may be a target.
+#[derive(Clone, Copy, Debug, PartialEq, Eq)]
+pub(crate) enum Space {
+    Messages,
+    Coops,
+    Parties,
+}
+
+/// What a field holds.
+#[derive(Clone, Copy, Debug, PartialEq, Eq)]
+pub(crate) enum Form {
+    /// The number 1.
+    One,
+    /// A name.
+    Name,
+    /// A name of this space.
+    NameIn(Space),
+    /// `message` or `signal`.
+    MessageKind,
+    /// A list of at most so many numbers.
+    Numbers(usize),
+    /// A list of objects, with its limit if it has one.
+    Objects(ObjectKind, Option<usize>),
+    /// A list of at most 256 acts.
+    Acts,
+    /// What isn't built.
+    Later,
+}
+
+/// A field of an object.
+#[derive(Clone, Copy, Debug, PartialEq, Eq)]
+pub(crate) struct Rule {
+    pub(crate) field: Field,
+    pub(crate) required: bool,
+    pub(crate) form: Form,
+}
+
+static SCENE: [Rule; 9] = [
+    Rule {
+        field: Field::Version,
+        required: true,
+        form: Form::One,
+    },
+    Rule {
+        field: Field::Autoshutdown,
+        required: false,
+        form: Form::Later,
+    },
+    Rule {
+        field: Field::Reaction,
+        required: false,
+        form: Form::Later,
+    },
+    Rule {
+        field: Field::Messages,
+        required: false,
+        form: Form::Objects(ObjectKind::Message, Some(256)),
+    },
+    Rule {
+        field: Field::Mboxes,
+        required: false,
+        form: Form::Later,
+    },
+    Rule {
+        field: Field::Chains,
+        required: false,
+        form: Form::Later,
+    },
+    Rule {
+        field: Field::Dispatchers,
+        required: false,
+        form: Form::Later,
+    },
+    Rule {
+        field: Field::Coops,
+        required: false,
+        form: Form::Objects(ObjectKind::Coop, Some(1024)),
+    },
+    Rule {
+        field: Field::Threads,
+        required: false,
+        form: Form::Later,
+    },
+];
+
+static MESSAGE: [Rule; 2] = [
+    Rule {
+        field: Field::Name,
+        required: true,
+        form: Form::Name,
+    },
+    Rule {
+        field: Field::Kind,
+        required: false,
+        form: Form::MessageKind,
+    },
+];
+
+static CHAIN: [Rule; 4] = [
+    Rule {
+        field: Field::Name,
+        required: false,
+        form: Form::Later,
+    },
+    Rule {
+        field: Field::Capacity,
+        required: false,
+        form: Form::Later,
+    },
+    Rule {
+        field: Field::Overflow,
+        required: false,
+        form: Form::Later,
+    },
+    Rule {
+        field: Field::Wait,
+        required: false,
+        form: Form::Later,
+    },
+];
+
+static DISPATCHER: [Rule; 6] = [
+    Rule {
+        field: Field::Name,
+        required: false,
+        form: Form::Later,
+    },
+    Rule {
+        field: Field::Kind,
+        required: false,
+        form: Form::Later,
+    },
+    Rule {
+        field: Field::Slots,
+        required: false,
+        form: Form::Later,
+    },
+    Rule {
+        field: Field::Threads,
+        required: false,
+        form: Form::Later,
+    },
+    Rule {
+        field: Field::Fifo,
+        required: false,
+        form: Form::Later,
+    },
+    Rule {
+        field: Field::Quotes,
+        required: false,
+        form: Form::Later,
+    },
+];
+
+static COOP: [Rule; 5] = [
+    Rule {
+        field: Field::Name,
+        required: true,
+        form: Form::Name,
+    },
+    Rule {
+        field: Field::Parent,
+        required: false,
+        form: Form::Later,
+    },
+    Rule {
+        field: Field::AtStart,
+        required: false,
+        form: Form::Later,
+    },
+    Rule {
+        field: Field::Reaction,
+        required: false,
+        form: Form::Later,
+    },
+    Rule {
+        field: Field::Agents,
+        required: true,
+        form: Form::Objects(ObjectKind::Agent, None),
+    },
+];
+
+static AGENT: [Rule; 13] = [
+    Rule {
+        field: Field::Name,
+        required: true,
+        form: Form::Name,
+    },
+    Rule {
+        field: Field::Disp,
+        required: false,
+        form: Form::Later,
+    },
+    Rule {
+        field: Field::Group,
+        required: false,
+        form: Form::Later,
+    },
+    Rule {
+        field: Field::Priority,
+        required: false,
+        form: Form::Later,
+    },
+    Rule {
+        field: Field::Reaction,
+        required: false,
+        form: Form::Later,
+    },
+    Rule {
+        field: Field::Native,
+        required: false,
+        form: Form::Later,
+    },
+    Rule {
+        field: Field::Vars,
+        required: false,
+        form: Form::Numbers(16),
+    },
+    Rule {
+        field: Field::States,
+        required: false,
+        form: Form::Later,
+    },
+    Rule {
+        field: Field::Limits,
+        required: false,
+        form: Form::Later,
+    },
+    Rule {
+        field: Field::Filters,
+        required: false,
+        form: Form::Later,
+    },
+    Rule {
+        field: Field::Start,
+        required: false,
+        form: Form::Acts,
+    },
+    Rule {
+        field: Field::Finish,
+        required: false,
+        form: Form::Acts,
+    },
+    Rule {
+        field: Field::On,
+        required: false,
+        form: Form::Objects(ObjectKind::Row, Some(128)),
+    },
+];
+
+static STATE: [Rule; 7] = [
+    Rule {
+        field: Field::Name,
+        required: false,
+        form: Form::Later,
+    },
+    Rule {
+        field: Field::Parent,
+        required: false,
+        form: Form::Later,
+    },
+    Rule {
+        field: Field::Initial,
+        required: false,
+        form: Form::Later,
+    },
+    Rule {
+        field: Field::History,
+        required: false,
+        form: Form::Later,
+    },
+    Rule {
+        field: Field::Limit,
+        required: false,
+        form: Form::Later,
+    },
+    Rule {
+        field: Field::Enter,
+        required: false,
+        form: Form::Later,
+    },
+    Rule {
+        field: Field::Exit,
+        required: false,
+        form: Form::Later,
+    },
+];
+
+static LIMIT: [Rule; 3] = [
+    Rule {
+        field: Field::Msg,
+        required: false,
+        form: Form::Later,
+    },
+    Rule {
+        field: Field::Max,
+        required: false,
+        form: Form::Later,
+    },
+    Rule {
+        field: Field::Over,
+        required: false,
+        form: Form::Later,
+    },
+];
+
+static FILTER: [Rule; 7] = [
+    Rule {
+        field: Field::Id,
+        required: false,
+        form: Form::Later,
+    },
+    Rule {
+        field: Field::Mbox,
+        required: false,
+        form: Form::Later,
+    },
+    Rule {
+        field: Field::Msg,
+        required: false,
+        form: Form::Later,
+    },
+    Rule {
+        field: Field::Field,
+        required: false,
+        form: Form::Later,
+    },
+    Rule {
+        field: Field::Cmp,
+        required: false,
+        form: Form::Later,
+    },
+    Rule {
+        field: Field::Value,
+        required: false,
+        form: Form::Later,
+    },
+    Rule {
+        field: Field::Active,
+        required: false,
+        form: Form::Later,
+    },
+];
+
+static ROW: [Rule; 11] = [
+    Rule {
+        field: Field::Id,
+        required: false,
+        form: Form::Later,
+    },
+    Rule {
+        field: Field::Msg,
+        required: true,
+        form: Form::NameIn(Space::Messages),
+    },
+    Rule {
+        field: Field::Mbox,
+        required: false,
+        form: Form::Later,
+    },
+    Rule {
+        field: Field::State,
+        required: false,
+        form: Form::Later,
+    },
+    Rule {
+        field: Field::Do,
+        required: false,
+        form: Form::Acts,
+    },
+    Rule {
+        field: Field::Switch,
+        required: false,
+        form: Form::Later,
+    },
+    Rule {
+        field: Field::Transfer,
+        required: false,
+        form: Form::Later,
+    },
+    Rule {
+        field: Field::Suppress,
+        required: false,
+        form: Form::Later,
+    },
+    Rule {
+        field: Field::Dead,
+        required: false,
+        form: Form::Later,
+    },
+    Rule {
+        field: Field::Safe,
+        required: false,
+        form: Form::Later,
+    },
+    Rule {
+        field: Field::Active,
+        required: false,
+        form: Form::Later,
+    },
+];
+
+static THREAD: [Rule; 2] = [
+    Rule {
+        field: Field::Name,
+        required: false,
+        form: Form::Later,
+    },
+    Rule {
+        field: Field::Do,
+        required: false,
+        form: Form::Later,
+    },
+];
+
+/// The fields of an object of this kind.
+pub(crate) fn rules(kind: ObjectKind) -> &'static [Rule]
+    ensures { result.now ≡ rules_of kind }
+{
+    match kind {
+        ObjectKind::Scene => &SCENE,
+        ObjectKind::Message => &MESSAGE,
+        ObjectKind::Chain => &CHAIN,
+        ObjectKind::Dispatcher => &DISPATCHER,
+        ObjectKind::Coop => &COOP,
+        ObjectKind::Agent => &AGENT,
+        ObjectKind::State => &STATE,
+        ObjectKind::Limit => &LIMIT,
+        ObjectKind::Filter => &FILTER,
+        ObjectKind::Row => &ROW,
+        ObjectKind::Thread => &THREAD,
+    }
+}
+
+/// The objects that a field lists.
+pub(crate) fn objects(form: Form) -> Option<ObjectKind>
+    ensures { result ≡ objects_of form }
+{
+    match form {
+        Form::Objects(kind, _) => Some(kind),
+        _ => None,
+    }
+}
+
+/// The space in which an object declares its name.
+pub(crate) fn declares(kind: ObjectKind) -> Option<Space>
+    ensures { result ≡ space_of kind }
+{
+    match kind {
+        ObjectKind::Message => Some(Space::Messages),
+        ObjectKind::Coop => Some(Space::Coops),
+        ObjectKind::Agent => Some(Space::Parties),
+        _ => None,
+    }
+}

@@ -1,0 +1,204 @@
+//! What a value stands for, or what is wrong with it.
+
+ghost use Rattle.std.specs.Prelude.{◌≡◌};
+ghost use Rattle.serde_json.specs.View.{view};
+ghost use Rattle.so_scene_json.specs.Values.{integer_of, small_number, numbered, operand_named, operand_of, dest_named, dest_of, cmp_named, cmp_of, name_of, text_of, count_of, string_in, name_in, Views};
+
+use serde_json::Value;
+use so_code::{Cmp, Dest, Operand};
+use so_scene::{is_name, is_text};
+
+/// What is wrong with a value whose place is known elsewhere.
+#[derive(Clone, Copy, Debug, PartialEq, Eq)]
+pub(crate) enum Trouble {
+    WrongShape,
+    OutOfRange,
+    UnknownName,
+    NotBuilt,
+}
+
+/// An integer of 64 bits.
+pub(crate) fn integer(value: &Value) -> Result<i64, Trouble>
+    ensures { result ≡ integer_of (view value.now) }
+{
+    match value.as_number() {
+        Some(number) => number.as_i64().ok_or(Trouble::OutOfRange),
+        None => Err(Trouble::WrongShape),
+    }
+}
+
+/// A number from 0 to 19 in decimal.
+fn small(digits: &[u8]) -> Option<u8>
+    ensures { result ≡ small_number digits.now }
+{
+    match digits {
+        [a] => if a.is_ascii_digit() {
+            Some(*a - 48)
+        } else {
+            None
+        },
+        [49, b] => if b.is_ascii_digit() {
+            Some(*b - 38)
+        } else {
+            None
+        },
+        _ => None,
+    }
+}
+
+/// The number behind the letter, below the limit.
+#[tactic(auto, unfolding(crate::specs::Values::numbered))]
+fn after(letter: u8, limit: u8, text: &[u8]) -> Option<u8>
+    ensures { result ≡ numbered letter limit text.now }
+{
+    let [first, digits @ ..] = text else {
+        return None;
+    };
+    if *first != letter {
+        return None;
+    }
+    let number = small(digits)?;
+    if number < limit { Some(number) } else { None }
+}
+
+fn operand_by_name(text: &str) -> Option<Operand>
+    ensures { result ≡ operand_named text.now }
+{
+    let bytes = text.as_bytes();
+    if let Some(n) = after(b'v', 16, bytes) {
+        return Some(Operand::Var(n));
+    }
+    if let Some(n) = after(b'm', 4, bytes) {
+        return Some(Operand::Msg(n));
+    }
+    if let Some(n) = after(b't', 4, bytes) {
+        return Some(Operand::Temp(n));
+    }
+    if text == "ans" {
+        Some(Operand::Ans)
+    } else {
+        None
+    }
+}
+
+/// What an act reads.
+pub(crate) fn operand(value: &Value) -> Result<Operand, Trouble>
+    ensures { result ≡ operand_of (view value.now) }
+{
+    if value.is_number() {
+        return integer(value).map(Operand::Num);
+    }
+    match value.as_str() {
+        Some(text) => operand_by_name(text).ok_or(Trouble::WrongShape),
+        None => Err(Trouble::WrongShape),
+    }
+}
+
+fn dest_by_name(text: &str) -> Option<Dest>
+    ensures { result ≡ dest_named text.now }
+{
+    let bytes = text.as_bytes();
+    if let Some(n) = after(b'v', 16, bytes) {
+        return Some(Dest::Var(n));
+    }
+    after(b't', 4, bytes).map(Dest::Temp)
+}
+
+/// What an act writes.
+pub(crate) fn dest(value: &Value) -> Result<Dest, Trouble>
+    ensures { result ≡ dest_of (view value.now) }
+{
+    match value.as_str() {
+        Some(text) => dest_by_name(text).ok_or(Trouble::WrongShape),
+        None => Err(Trouble::WrongShape),
+    }
+}
+
+fn cmp_by_name(text: &str) -> Option<Cmp>
+    ensures { result ≡ cmp_named text.now }
+{
+    match text {
+        "==" => Some(Cmp::Eq),
+        "!=" => Some(Cmp::Ne),
+        "<" => Some(Cmp::Lt),
+        "<=" => Some(Cmp::Le),
+        ">" => Some(Cmp::Gt),
+        ">=" => Some(Cmp::Ge),
+        _ => None,
+    }
+}
+
+/// How two numbers are compared.
+pub(crate) fn comparison(value: &Value) -> Result<Cmp, Trouble>
+    ensures { result ≡ cmp_of (view value.now) }
+{
+    match value.as_str() {
+        Some(text) => cmp_by_name(text).ok_or(Trouble::WrongShape),
+        None => Err(Trouble::WrongShape),
+    }
+}
+
+/// A name.
+pub(crate) fn name(value: &Value) -> Result<&str, Trouble>
+    ensures { Views result (name_of (view value.now)) }
+{
+    match value.as_str() {
+        Some(text) => if is_name(text.as_bytes()) {
+            Ok(text)
+        } else {
+            Err(Trouble::WrongShape)
+        },
+        None => Err(Trouble::WrongShape),
+    }
+}
+
+/// A text.
+pub(crate) fn text(value: &Value) -> Result<&str, Trouble>
+    ensures { Views result (text_of (view value.now)) }
+{
+    match value.as_str() {
+        Some(text) => if is_text(text.as_bytes()) {
+            Ok(text)
+        } else {
+            Err(Trouble::WrongShape)
+        },
+        None => Err(Trouble::WrongShape),
+    }
+}
+
+/// A number of acts, of so many that follow.
+pub(crate) fn count(rest: usize, value: &Value) -> Result<usize, Trouble>
+    ensures { result ≡ count_of rest (view value.now) }
+{
+    let number = integer(value)?;
+    if number < 0 {
+        return Err(Trouble::OutOfRange);
+    }
+    let number = number as usize;
+    if number > rest {
+        Err(Trouble::OutOfRange)
+    } else {
+        Ok(number)
+    }
+}
+
+/// The string of a field, empty where it has none.
+pub(crate) fn string_in<'v>(value: &'v Value, key: &str) -> &'v str
+    ensures { result.now ≡ string_in key.now (view value.now) }
+{
+    match value.get(key) {
+        Some(found) => match found.as_str() {
+            Some(text) => text,
+            None => "",
+        },
+        None => "",
+    }
+}
+
+/// The name of an object, empty where it has none.
+pub(crate) fn name_in(value: &Value) -> &str
+    ensures { result.now ≡ name_in (view value.now) }
+{
+    let text = string_in(value, "name");
+    if is_name(text.as_bytes()) { text } else { "" }
+}

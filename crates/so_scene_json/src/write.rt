@@ -1,0 +1,265 @@
+//! Acts as instructions, and texts by number.
+
+ghost use Rattle.std.specs.Prelude.{◌≡◌, ◌≤◌, ◌+◌, ◌-◌, ◌∷◌, [], ◌++◌, min, Ok, length, option_map};
+ghost use Rattle.serde_json.specs.Events.{items_len};
+ghost use Rattle.serde_json.specs.Find.{get_item};
+ghost use Rattle.serde_json.specs.View.{view, items_view};
+ghost use Rattle.so_scene.specs.Names.{number_in};
+ghost use Rattle.so_scene.specs.Words.{is_text};
+ghost use Rattle.so_scene_json.specs.Twice.{names_in};
+ghost use Rattle.so_scene_json.specs.Visits.{narrow, Leaves};
+ghost use Rattle.so_scene_json.specs.Writer.{operand_at, dest_at, cmp_at, count_at, string_at, text_at, args_from, send_instr, send_at, word_instr, with_text, text_number, with_instr, word_written, act_written, acts_written};
+ghost use Rattle.so_scene_json.specs.Reads.{LeavesWith};
+
+use crate::act_table::Word;
+use crate::acts::parts;
+use crate::declare::Declared;
+use crate::table::Space;
+use crate::values::{comparison, count, dest, operand};
+use crate::walk::position;
+use serde_json::Value;
+use so_code::{Args, Cmp, Dest, Instr, Operand};
+use so_ids::{MboxId, MsgId, Target, TextId};
+use so_scene::{Items, Names, SceneRefusal, is_text};
+
+/// The texts so far, and the instructions of an agent so far.
+#[derive(Drop)]
+pub(crate) struct Writer {
+    pub(crate) texts: Names,
+    pub(crate) code: Items<Instr>,
+}
+
+pub(crate) fn item(list: &[Value], i: usize) -> Option<&Value>
+    ensures { option_map (λ v. view v.now) result ≡ get_item i (items_view list.now) }
+{
+    if i < list.len() { Some(&list[i]) } else { None }
+}
+
+fn operand_in(list: &[Value], i: usize) -> Operand
+    ensures { result ≡ operand_at i (items_view list.now) }
+{
+    match item(list, i) {
+        Some(value) => match operand(value) {
+            Ok(operand) => operand,
+            Err(_) => Operand::Num(0),
+        },
+        None => Operand::Num(0),
+    }
+}
+
+fn dest_in(list: &[Value], i: usize) -> Dest
+    ensures { result ≡ dest_at i (items_view list.now) }
+{
+    match item(list, i) {
+        Some(value) => match dest(value) {
+            Ok(dest) => dest,
+            Err(_) => Dest::Var(0),
+        },
+        None => Dest::Var(0),
+    }
+}
+
+fn cmp_in(list: &[Value], i: usize) -> Cmp
+    ensures { result ≡ cmp_at i (items_view list.now) }
+{
+    match item(list, i) {
+        Some(value) => match comparison(value) {
+            Ok(cmp) => cmp,
+            Err(_) => Cmp::Eq,
+        },
+        None => Cmp::Eq,
+    }
+}
+
+fn count_in(rest: usize, list: &[Value], i: usize) -> u32
+    ensures { result ≡ count_at rest i (items_view list.now) }
+{
+    match item(list, i) {
+        Some(value) => match count(rest, value) {
+            Ok(n) => position(n),
+            Err(_) => 0,
+        },
+        None => 0,
+    }
+}
+
+fn string_in(list: &[Value], i: usize) -> &str
+    ensures { result.now ≡ string_at i (items_view list.now) }
+{
+    match item(list, i) {
+        Some(value) => match value.as_str() {
+            Some(text) => text,
+            None => "",
+        },
+        None => "",
+    }
+}
+
+fn text_in(list: &[Value], i: usize) -> &str
+    ensures { result.now ≡ text_at i (items_view list.now) }
+{
+    let text = string_in(list, i);
+    if is_text(text.as_bytes()) { text } else { "" }
+}
+
+fn used_from(list: &[Value], i: usize) -> u8
+    ensures { result ≡ min (items_len (items_view list.now) - i) 4 }
+{
+    if i < list.len() {
+        (list.len() - i).min(4) as u8
+    } else {
+        0
+    }
+}
+
+fn args_in(list: &[Value], i: usize) -> Args
+    requires { i ≤ 4 }
+    ensures { result ≡ args_from i (items_view list.now) }
+{
+    Args {
+        list: [
+            operand_in(list, i),
+            operand_in(list, i + 1),
+            operand_in(list, i + 2),
+            operand_in(list, i + 3),
+        ],
+        used: used_from(list, i),
+    }
+}
+
+fn send_to(agent: Option<usize>, msg: Option<usize>, args: Args) -> Instr
+    ensures { result ≡ send_instr agent msg args }
+{
+    match agent {
+        Some(agent) => match msg {
+            Some(msg) => Instr::Send {
+                target: Target::Mbox(MboxId(position(agent))),
+                msg: MsgId(position(msg)),
+                args,
+            },
+            None => Instr::Skip { count: 0 },
+        },
+        None => Instr::Skip { count: 0 },
+    }
+}
+
+fn send(names: &Declared, list: &[Value]) -> Instr
+    ensures { result ≡ send_at names.now (items_view list.now) }
+{
+    send_to(
+        names.number(Space::Parties, string_in(list, 0)),
+        names.number(Space::Messages, string_in(list, 1)),
+        args_in(list, 2),
+    )
+}
+
+/// The instruction of an act that so many others follow.
+fn instr(names: &Declared, text: u32, rest: usize, word: Word, list: &[Value]) -> Instr
+    ensures { result ≡ word_instr names.now text rest word (items_view list.now) }
+{
+    match word {
+        Word::Set => Instr::Set {
+            to: dest_in(list, 0),
+            a: operand_in(list, 1),
+        },
+        Word::Add => Instr::Add {
+            to: dest_in(list, 0),
+            a: operand_in(list, 1),
+            b: operand_in(list, 2),
+        },
+        Word::Sub => Instr::Sub {
+            to: dest_in(list, 0),
+            a: operand_in(list, 1),
+            b: operand_in(list, 2),
+        },
+        Word::Mul => Instr::Mul {
+            to: dest_in(list, 0),
+            a: operand_in(list, 1),
+            b: operand_in(list, 2),
+        },
+        Word::If => Instr::If {
+            a: operand_in(list, 0),
+            cmp: cmp_in(list, 1),
+            b: operand_in(list, 2),
+            count: count_in(rest, list, 3),
+        },
+        Word::Skip => Instr::Skip {
+            count: count_in(rest, list, 0),
+        },
+        Word::Throw => Instr::Throw {
+            a: operand_in(list, 0),
+        },
+        Word::Log => Instr::Log {
+            text: TextId(text),
+            args: args_in(list, 1),
+        },
+        Word::Send => send(names, list),
+        Word::Stop => Instr::Stop,
+        _ => Instr::Skip { count: 0 },
+    }
+}
+
+impl Writer {
+    /// Appends an instruction.
+    pub(crate) fn push(&mut self, instr: Instr) -> Result<(), SceneRefusal>
+        ensures { Leaves (Ok (with_instr instr self.old)) result self.new }
+    {
+        match self.code.push(instr) {
+            Ok(()) => Ok(()),
+            Err(_) => Err(SceneRefusal::NoMemory),
+        }
+    }
+
+    /// The number of a text, which is added where it isn't there yet.
+    fn text(&mut self, text: &str) -> Result<u32, SceneRefusal>
+        ensures { LeavesWith (with_text text.now self.old) (text_number text.now self.old) result self.new }
+    {
+        match self.texts.number(text) {
+            Some(n) => Ok(position(n)),
+            None => {
+                let n = self.texts.len();
+                match self.texts.add(text) {
+                    Ok(()) => Ok(position(n)),
+                    Err(_) => Err(SceneRefusal::NoMemory),
+                }
+            }
+        }
+    }
+
+    fn word(
+        &mut self,
+        names: &Declared,
+        rest: usize,
+        word: Word,
+        list: &[Value],
+    ) -> Result<(), SceneRefusal>
+        ensures { Leaves (Ok (word_written names.now rest self.old word (items_view list.now))) result self.new }
+    {
+        match word {
+            Word::Log => {
+                let text = self.text(text_in(list, 0))?;
+                self.push(instr(names, text, rest, Word::Log, list))
+            }
+            _ => self.push(instr(names, 0, rest, word, list)),
+        }
+    }
+
+    fn act(&mut self, names: &Declared, rest: usize, value: &Value) -> Result<(), SceneRefusal>
+        ensures { Leaves (Ok (act_written names.now rest self.old (view value.now))) result self.new }
+    {
+        match parts(value) {
+            Some((word, list)) => self.word(names, rest, word, list),
+            None => self.push(Instr::Skip { count: 0 }),
+        }
+    }
+
+    /// Writes a list of acts.
+    pub(crate) fn acts(&mut self, names: &Declared, list: &[Value]) -> Result<(), SceneRefusal>
+        ensures { Leaves (Ok (acts_written names.now self.old (items_view list.now))) result self.new }
+    {
+        for (i, act) in list.iter().enumerate() {
+            self.act(names, list.len() - i - 1, act)?;
+        }
+        Ok(())
+    }
+}
