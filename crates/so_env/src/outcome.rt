@@ -4,7 +4,7 @@ use so_history::History;
 use so_scene::SceneFault;
 
 /// Why a run ended, or why there was none.
-#[derive(Clone, Copy, Debug, PartialEq, Eq)]
+#[derive(Debug, Drop)]
 pub enum Cause {
     /// The run is finished.
     Done,

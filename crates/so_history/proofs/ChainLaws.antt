@@ -19,7 +19,7 @@ use Rattle.so_code.specs.declared.effect.Effect.{Effect}
 use Rattle.so_code.specs.declared.effect.Effect.TheVariants as effect
 use Rattle.so_code.specs.declared.effect.Move.{Move}
 use Rattle.so_code.specs.declared.effect.Move.TheVariants.{Do, Done, Fail}
-use Rattle.so_scene.specs.Parts.{NamesTarget, IsScene}
+use Rattle.so_scene.specs.Parts.{IsTarget, IsScene}
 use Rattle.so_scene.specs.Lanes.{lanes, key_of}
 use Rattle.so_scene.proofs.LaneLaws.{some_lane}
 use Rattle.so_history.specs.declared.entry.Entry.{Entry}
@@ -143,7 +143,7 @@ lane_entry-turn s h lane x e = rw e refl
 abbrev HasMove : SceneParts → List Entry → Started → Type 0
 HasMove s h t = (x : Entry) × (turn_entry s h (Some t) ≡ Some x)
 
-send_answered : (s : SceneParts) (h : List Entry) (target : Target) (msg : MsgId) → NamesTarget s target → (a : Answer) × (answer_to_send s h target msg ≡ Some a)
+send_answered : (s : SceneParts) (h : List Entry) (target : Target) (msg : MsgId) → IsTarget (length s.agents) target → (a : Answer) × (answer_to_send s h target msg ≡ Some a)
 send_answered s h (Mbox mbox) msg named = (_, refl)
 send_answered s h (Chain chain) msg named = absurd named
 

@@ -3,7 +3,6 @@ use Rattle.std.proofs.Common.{◌≡◌, ℕ, zero, suc, List, [], ◌∷◌, le
 use Rattle.std.specs.Prelude.{slice_get}
 use Rattle.std.specs.List.{AllByRecursion}
 use Rattle.std.proofs.lemmas.Option.{same_Some}
-use Rattle.std.proofs.lemmas.List.Elements.{recursion_from_All}
 use Rattle.std.proofs.lemmas.Bool.{cases_lt}
 use Rattle.std.proofs.lemmas.List.{get_or_past}
 use Rattle.so_ids.specs.declared.AgentId.{AgentId}
@@ -15,7 +14,7 @@ use Rattle.so_state.specs.Choice.{choice_at, choice_by, answering}
 use Rattle.so_state.specs.States.{path}
 use Rattle.so_scene.specs.declared.parts.SceneParts.{SceneParts}
 use Rattle.so_scene.specs.declared.parts.AgentDef.{AgentDef}
-use Rattle.so_scene.specs.Parts.{no_agent, rows_of, states_of, IsRow, IsScene}
+use Rattle.so_scene.specs.Parts.{no_agent, rows_of, states_of, IsPlain, IsScene}
 use Rattle.so_history.specs.declared.entry.Entry.{Entry}
 use Rattle.so_history.specs.declared.entry.Demand.{Demand}
 use Rattle.so_history.specs.declared.entry.DemandKind.{DemandKind}
@@ -29,20 +28,20 @@ row_at P (x ∷ rows) zero row all here = subst P (same_Some x row here) all.0
 row_at P (x ∷ rows) (suc k) row all here = row_at P rows k row all.1 here
 
 -- the subscriptions of an agent are such as a scene has
-pub agent_rows : (s : SceneParts) (a : AgentId) → IsScene s → AllByRecursion (IsRow s) (rows_of s a)
+pub agent_rows : (s : SceneParts) (a : AgentId) → IsScene s → AllByRecursion IsPlain (rows_of s a)
 agent_rows s a scene =
     elim (cases_lt a.0 (length s.agents)) [
-      | inl there ↦ recursion_from_All (IsRow s) (rows_of s a) (scene.agents a.0 no_agent there).rows
-      | inr past ↦ subst (λ (x : AgentDef). AllByRecursion (IsRow s) x.rows) (sym (get_or_past s.agents a.0 no_agent past)) tt
+      | inl there ↦ (scene.agents a.0 no_agent there).plain
+      | inr past ↦ subst (λ (x : AgentDef). AllByRecursion IsPlain x.rows) (sym (get_or_past s.agents a.0 no_agent past)) tt
     ]
 
 choice_runs : (k : ℕ) (rows : List Row) (o : Option Row) → ((row : Row) → o ≡ Some row → row.kind ≡ Run) → opens_acts (opening.Event (choice_at k o)) ≡ true
 choice_runs k rows None runs = refl
 choice_runs k rows (Some row) runs = rw (runs row refl) refl
 
-pub chosen_acts : (s : SceneParts) (rows : List Row) (x : Option ℕ) → AllByRecursion (IsRow s) rows → opens_acts (opening.Event (choice_by rows x)) ≡ true
+pub chosen_acts : (s : SceneParts) (rows : List Row) (x : Option ℕ) → AllByRecursion IsPlain rows → opens_acts (opening.Event (choice_by rows x)) ≡ true
 chosen_acts s rows None all = refl
-chosen_acts s rows (Some k) all = choice_runs k rows (slice_get rows k) (λ row here. (row_at (IsRow s) rows k row all here).runs)
+chosen_acts s rows (Some k) all = choice_runs k rows (slice_get rows k) (λ row here. (row_at IsPlain rows k row all here).runs)
 
 for_kind : (s : SceneParts) (h : List Entry) (a : AgentId) (kind : DemandKind) → IsScene s → opens_acts (opening_for s h a kind) ≡ true
 for_kind s h a Start scene = refl

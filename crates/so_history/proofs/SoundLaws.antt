@@ -5,6 +5,7 @@ use Rattle.std.specs.Option.{option_map}
 use Rattle.std.specs.List.{AllByRecursion}
 use Rattle.std.proofs.lemmas.Bool.{eqb-true}
 use Rattle.std.proofs.lemmas.Option.{same_Some}
+use Rattle.std.proofs.lemmas.List.Elements.{recursion_from_All}
 use Rattle.so_ids.specs.declared.AgentId.{AgentId}
 use Rattle.so_ids.specs.declared.DemandId.{DemandId}
 use Rattle.so_ids.specs.declared.LaneId.{LaneId}
@@ -65,14 +66,11 @@ effect_names s other f e names makes = absurd names
 
 -- ---- the code of an agent
 
-no_parts : (s : SceneParts) → AllByRecursion (NamesParts s) []
-no_parts s = tt
-
 pub agent_code : (s : SceneParts) (a : AgentId) → IsScene s → a.0 < length s.agents → IsCode (code_of s a)
 agent_code s a scene known = (scene.agents a.0 no_agent known).code
 
 pub agent_parts : (s : SceneParts) (a : AgentId) → IsScene s → a.0 < length s.agents → AllByRecursion (NamesParts s) (code_of s a)
-agent_parts s a scene known = (scene.agents a.0 no_agent known).parts
+agent_parts s a scene known = recursion_from_All (NamesParts s) (code_of s a) (scene.agents a.0 no_agent known).parts
 
 each_at : (P : Instr → Type 0) (code : List Instr) (k : ℕ) (i : Instr) → AllByRecursion P code → slice_get code k ≡ Some i → P i
 each_at P [] k i all here = absurd cc

@@ -17,7 +17,7 @@ use Rattle.so_code.specs.declared.effect.Move.{Move}
 use Rattle.so_code.specs.declared.effect.Move.TheVariants.{Do, Done, Fail}
 use Rattle.so_lists.specs.Lists.{is_empty}
 use Rattle.so_scene.specs.declared.parts.SceneParts.{SceneParts}
-use Rattle.so_scene.specs.Parts.{NamesTarget}
+use Rattle.so_scene.specs.Parts.{IsTarget}
 use Rattle.so_scene.specs.Lanes.{lanes}
 use Rattle.so_history.specs.declared.entry.Entry.{Entry}
 use Rattle.so_history.specs.declared.entry.EntryKind.{EntryKind}
@@ -53,7 +53,7 @@ is_over s h = finished s h || aborted h
 -- what an effect names is there, and its act is built
 abbrev pub NamesEffect : SceneParts → Effect → Type 0
 NamesEffect s (effect.Log text payload) = text.0 < length s.texts
-NamesEffect s (effect.Send target msg payload) = NamesTarget s target × (msg.0 < length s.messages)
+NamesEffect s (effect.Send target msg payload) = IsTarget (length s.agents) target × (msg.0 < length s.messages)
 NamesEffect s effect.Stop = Unit {0}
 NamesEffect s other = ⊥
 

@@ -1,6 +1,6 @@
 -- The parts of a scene by number, and what a checked scene keeps.
-use Rattle.std.specs.Prelude.{◌≡◌, ℕ, zero, suc, ◌+◌, ◌<◌, ◌≤◌, ◌==◌, pos, List, [], ◌∷◌, length, map, replicate, slice_index_or, bytes_eq, nat_eq, false, Option, None, option_map, if◌then◌else◌}
-use Rattle.std.specs.List.{All, IsDistinct, position}
+use Rattle.std.specs.Prelude.{◌≡◌, ℕ, zero, suc, ◌+◌, ◌<◌, ◌≤◌, ◌==◌, pos, List, [], ◌∷◌, length, map, replicate, slice_index_or, bytes_eq, nat_eq, false, true}
+use Rattle.std.specs.List.{All, AllByRecursion, IsDistinct}
 use Rattle.so_lists.specs.Lists.{each_below}
 use Rattle.so_ids.specs.declared.AgentId.{AgentId}
 use Rattle.so_ids.specs.declared.CoopId.{CoopId}
@@ -16,7 +16,11 @@ use Rattle.so_code.specs.Bodies.{bodies_in}
 use Rattle.so_code.specs.Shape.{IsCode, agent_bodies}
 use Rattle.so_scene.specs.declared.parts.MessageDef.{MessageDef}
 use Rattle.so_scene.specs.declared.parts.CoopDef.{CoopDef}
-use Rattle.so_scene.specs.declared.parts.RowDef.{RowDef}
+use Rattle.so_ids.specs.declared.Vars.{Vars}
+use Rattle.so_state.specs.declared.states.State.{State}
+use Rattle.so_state.specs.declared.choice.Row.{Row}
+use Rattle.so_state.specs.declared.choice.RowKind.TheVariants.{Run}
+use Rattle.so_state.specs.States.{default_state}
 use Rattle.so_scene.specs.declared.parts.AgentDef.{AgentDef}
 use Rattle.so_scene.specs.declared.parts.SceneParts.{SceneParts}
 
@@ -52,6 +56,16 @@ agents_of s c = agents_from (coop_of s c).first (coop_of s c).count
 abbrev pub code_of : SceneParts → AgentId → List Instr
 code_of s a = (agent_of s a).code
 
+-- the variables with which an agent begins, its subscriptions and its declared states, of which it has none
+abbrev pub vars_of : SceneParts → AgentId → Vars
+vars_of s a = (agent_of s a).vars
+
+abbrev pub rows_of : SceneParts → AgentId → List Row
+rows_of s a = (agent_of s a).rows
+
+abbrev pub states_of : SceneParts → AgentId → List State
+states_of s a = []
+
 -- the bytes of a text
 abbrev pub text_of : SceneParts → TextId → List ℕ
 text_of s t = slice_index_or s.texts t.0 []
@@ -65,16 +79,8 @@ direct_mbox a = record { 0 = a.0 }
 abbrev pub row_number : ℕ → RowId
 row_number k = record { 0 = k }
 
-abbrev pub msg_number : RowDef → ℕ
+abbrev pub msg_number : Row → ℕ
 msg_number row = row.msg.0
-
--- the first row for a type
-abbrev pub row_for : List RowDef → MsgId → Option RowId
-row_for rows msg = option_map row_number (position (λ row. msg_number row == msg.0) rows)
-
--- the row of an agent for a type at a mbox: agents subscribe to their direct mboxes alone
-abbrev pub row_of : SceneParts → AgentId → MboxId → MsgId → Option RowId
-row_of s a mbox msg = if mbox.0 == a.0 then row_for (agent_of s a).rows msg else None
 
 -- ---- what a checked scene keeps
 
@@ -116,6 +122,12 @@ numbers_from k (suc n) = row_number k ∷ numbers_from (suc k) n
 abbrev pub row_numbers : ℕ → List RowId
 row_numbers n = numbers_from 0 n
 
+-- a row that runs its handler in the default state, and is active from the start
+pub record IsPlain (row : Row) : Type 0 where
+  pub state : row.state ≡ default_state
+  pub runs : row.kind ≡ Run
+  pub active : row.active ≡ true
+
 -- an agent of the one cooperation: its rows are of different types of the scene, its code is made of its start, its
 -- finish and the body of each row, and names what is in the scene
 pub record IsAgent (s : SceneParts) (a : AgentDef) : Type 0 where
@@ -124,6 +136,7 @@ pub record IsAgent (s : SceneParts) (a : AgentDef) : Type 0 where
   pub vars : length a.vars.0 ≡ 16
   pub few_rows : length a.rows ≤ 128
   pub rows : All (λ row. msg_number row < length s.messages) a.rows
+  pub plain : AllByRecursion IsPlain a.rows
   pub no_twice : IsDistinct nat_eq (map msg_number a.rows)
   pub code : IsCode a.code
   pub bodies : bodies_in a.code ≡ agent_bodies 0 (row_numbers (length a.rows))
@@ -135,6 +148,10 @@ message_name m = m.name
 abbrev pub agent_name : AgentDef → List ℕ
 agent_name a = a.name
 
+-- all rows of an agent are for events from its own mbox
+abbrev pub HasOwnRows : SceneParts → AgentId → Type 0
+HasOwnRows s a = AllByRecursion (λ row. row.mbox ≡ direct_mbox a) (rows_of s a)
+
 -- the parts are those of a scene
 pub record IsScene (s : SceneParts) : Type 0 where
   pub few_messages : length s.messages ≤ 256
@@ -144,6 +161,7 @@ pub record IsScene (s : SceneParts) : Type 0 where
   pub some_agent : 0 < length s.agents
   pub few_agents : length s.agents ≤ 4096
   pub agents : All (IsAgent s) s.agents
+  pub own_rows : (a : AgentId) → HasOwnRows s a
   pub agent_names : IsDistinct bytes_eq (map agent_name s.agents)
   pub few_texts : length s.texts ≤ 4096
   pub texts : All (λ t. length t ≤ 64) s.texts

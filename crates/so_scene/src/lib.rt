@@ -14,7 +14,7 @@ mod words;
 pub use fault::{SceneFault, SceneRefusal};
 pub use items::Items;
 pub use names::Names;
-pub use parts::{AgentDef, CoopDef, MessageDef, RowDef, SceneParts};
+pub use parts::{AgentDef, CoopDef, MessageDef, SceneParts};
 pub use place::{Field, PlaceStep, ScenePlace};
 pub use print::{put_fault, put_place};
 pub use scene::{Scene, direct_mbox};

@@ -3,7 +3,8 @@
 use crate::items::Items;
 use crate::words::{Name, Text};
 use so_code::Code;
-use so_ids::{AgentId, CoopId, MsgId, Vars};
+use so_ids::{AgentId, CoopId, Vars};
+use so_state::Row;
 
 /// A type of messages. A signal carries no values.
 #[derive(Debug, Drop)]
@@ -20,21 +21,14 @@ pub struct CoopDef {
     pub count: u32,
 }
 
-/// A subscription of an agent to a type at its own direct mbox. Row k runs the body `Row(k)` of the
-/// agent's code.
-#[derive(Clone, Copy, Debug, PartialEq, Eq)]
-pub struct RowDef {
-    pub msg: MsgId,
-}
-
 /// An agent: its cooperation, the variables with which it begins, its subscriptions and the code of its
-/// handlers.
+/// handlers. Row k runs the body `Row(k)` of the code.
 #[derive(Debug, Drop)]
 pub struct AgentDef {
     pub name: Name,
     pub coop: CoopId,
     pub vars: Vars,
-    pub rows: Items<RowDef>,
+    pub rows: Items<Row>,
     pub code: Code,
 }
 

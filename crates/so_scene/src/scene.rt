@@ -1,10 +1,10 @@
 //! A scene whose parts were checked.
 
-ghost use Rattle.std.specs.Prelude.{◌≡◌, ◌<◌, ◌≤◌, ◌+◌, length, option_map, position, ◌==◌, IfSome};
-ghost use Rattle.so_scene.specs.Parts.{message_of, agent_of, coop_of, text_of, direct_mbox, row_for, row_of, msg_number, IsScene};
+ghost use Rattle.std.specs.Prelude.{◌≡◌, ◌<◌, ◌≤◌, ◌+◌, length};
+ghost use Rattle.so_scene.specs.Parts.{message_of, agent_of, coop_of, text_of, direct_mbox, IsScene};
 
-use crate::parts::{AgentDef, CoopDef, MessageDef, RowDef, SceneParts};
-use so_ids::{AgentId, CoopId, MboxId, MsgId, RowId, TextId};
+use crate::parts::{AgentDef, CoopDef, MessageDef, SceneParts};
+use so_ids::{AgentId, CoopId, MboxId, MsgId, TextId};
 use std::marker::Model;
 
 /// A scene: agents of one cooperation, and the texts that they log.
@@ -80,7 +80,8 @@ impl Scene {
     /// An agent by its number.
     pub fn agent(&self, agent: AgentId) -> &AgentDef
         requires { agent.0 < length self.now.agents }
-        ensures { result.now ≡ agent_of self.now agent }
+        ensures value { result.now ≡ agent_of self.now agent }
+        ensures few { length result.now.rows ≤ 128 }
     {
         &self.parts.agents.as_slice()[agent.0 as usize]
     }
@@ -102,29 +103,6 @@ impl Scene {
     {
         self.parts.texts.as_slice()[text.0 as usize].bytes()
     }
-
-    /// The rows of an agent.
-    fn rows(&self, agent: AgentId) -> &[RowDef]
-        requires { agent.0 < length self.now.agents }
-        ensures value { result.now ≡ (agent_of self.now agent).rows }
-        ensures few { length result.now ≤ 128 }
-    {
-        self.parts.agents.as_slice()[agent.0 as usize]
-            .rows
-            .as_slice()
-    }
-
-    /// The row of an agent that handles a type at a mbox: the first for the type where the mbox is the
-    /// agent's direct one, and no row elsewhere.
-    pub fn row(&self, agent: AgentId, mbox: MboxId, msg: MsgId) -> Option<RowId>
-        requires { agent.0 < length self.now.agents }
-        ensures value { result ≡ row_of self.now agent mbox msg }
-    {
-        if mbox.0 != agent.0 {
-            return None;
-        }
-        first_for(self.rows(agent), msg)
-    }
 }
 
 /// The direct mbox of an agent, which has the agent's number. Only the agent subscribes to it.
@@ -132,21 +110,4 @@ pub fn direct_mbox(agent: AgentId) -> MboxId
     ensures { result ≡ direct_mbox agent }
 {
     MboxId(agent.0)
-}
-
-fn place_for(rows: &[RowDef], msg: MsgId) -> Option<usize>
-    ensures value { result ≡ position (λ row. msg_number row == msg.0) rows.now }
-    ensures range { IfSome result (λ place. place < length rows.now) }
-{
-    rows.iter().position(|row| row.msg.0 == msg.0)
-}
-
-fn first_for(rows: &[RowDef], msg: MsgId) -> Option<RowId>
-    requires { length rows.now ≤ 128 }
-    ensures { result ≡ row_for rows.now msg }
-{
-    match place_for(rows, msg) {
-        Some(place) => Some(RowId(place as u32)),
-        None => None,
-    }
 }

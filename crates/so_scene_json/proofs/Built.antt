@@ -1,8 +1,8 @@
 -- What the four passes leave is what a scene keeps.
-use Rattle.std.proofs.Common.{◌≡◌, ℕ, ◌+◌, ◌-◌, ◌<◌, ◌≤◌, ◌^◌, get_or, List, [], ◌∷◌, ◌++◌, length, map, Bool, true, false, not, ◌&&◌, ◌||◌, Option, Some, None, Result, Ok, Err, refl, sym, ap, ◌∙◌, subst, arith, codes, if◌then◌else◌, nat_le, nat_lt, is_some, length-append, bytes_eq}
+use Rattle.std.proofs.Common.{◌≡◌, ℕ, zero, suc, inl, inr, ◌+◌, ◌-◌, ◌<◌, ◌≤◌, ◌^◌, get_or, List, [], ◌∷◌, ◌++◌, length, map, Bool, true, false, not, ◌&&◌, ◌||◌, Option, Some, None, Result, Ok, Err, refl, sym, ap, ◌∙◌, subst, arith, codes, if◌then◌else◌, nat_le, nat_lt, is_some, length-append, bytes_eq}
 use Rattle.std.proofs.Math.Nat.{min-le_left}
-use Rattle.std.proofs.lemmas.Bool.{true≢false, leb-true, ltb-false}
-use Rattle.std.proofs.lemmas.List.{map_push}
+use Rattle.std.proofs.lemmas.Bool.{cases_lt, true≢false, leb-true, ltb-false}
+use Rattle.std.proofs.lemmas.List.{map_push, get_or_past}
 use Rattle.std.proofs.lemmas.List.Quantifiers.{position-Some}
 use Rattle.std.specs.Prelude.{nat_eq}
 use Rattle.std.specs.List.{All, AllByRecursion, IsDistinct, list_all}
@@ -13,11 +13,12 @@ use Rattle.so_lists.specs.Lists.{is_empty}
 use Rattle.so_lists.proofs.Filters.{each-append, each-weaker}
 use Rattle.so_scene.specs.Names.{has_name, number_in}
 use Rattle.so_scene.specs.Words.{is_name, is_name_byte, is_text, is_text_byte}
-use Rattle.so_scene.specs.Parts.{IsAgent, IsCoop, IsScene, msg_number, row_numbers, message_name, agent_name}
+use Rattle.so_scene.specs.Parts.{no_agent, direct_mbox, IsPlain, IsAgent, IsCoop, IsScene, msg_number, row_numbers, message_name, agent_name}
 use Rattle.so_scene.proofs.Positions.{added_distinct, no_names as no_distinct}
 use Rattle.so_scene.specs.declared.fault.SceneFault.{SceneFault}
+use Rattle.so_ids.specs.declared.AgentId.{AgentId}
 use Rattle.so_scene.specs.declared.parts.AgentDef.{AgentDef}
-use Rattle.so_scene.specs.declared.parts.RowDef.{RowDef}
+use Rattle.so_state.specs.declared.choice.Row.{Row}
 use Rattle.so_scene_json.specs.declared.build.Build.{Build}
 use Rattle.so_scene_json.specs.declared.declare.Declared.{Declared}
 use Rattle.so_scene_json.specs.declared.known.Known.{Known}
@@ -108,7 +109,7 @@ agent_ok true x n s t l e = absurd cc
 agent_ok false x n s t l e = (ltb-false 1024 n l, ok_same s t e)
 
 agent_added : Build → Data → Build
-agent_added b d = record b { agents = b.agents ++ agent_of b.names d (agent_written b.names (fresh b) d) ∷ []; texts = (agent_written b.names (fresh b) d).texts }
+agent_added b d = record b { agents = b.agents ++ agent_of (length b.agents) b.names d (agent_written b.names (fresh b) d) ∷ []; texts = (agent_written b.names (fresh b) d).texts }
 
 names_step : (s u : Declared) (b c : Build) (v : Visit) → HaveNames s b → twice_step s v ≡ Ok u → build_step b v ≡ Ok c → HaveNames u c
 unfolding agent_added
@@ -124,7 +125,7 @@ names_step s u b c (enters object.Agent place d) k e f =
     let p = if_ok (has_name s.parties (name_in d)) _ (with_name space.Parties (name_in d) (with_signal object.Agent d s)) u e in
     let q = agent_ok (nat_lt 1024 (length (agent_written b.names (fresh b) d).code)) _ (length (agent_written b.names (fresh b) d).code) (agent_added b d) c refl f in
     subst (λ y. HaveNames u y) q.1 (subst (λ x. HaveNames x (agent_added b d)) p.1
-    (record { messages = k.messages; parties = map_push agent_name b.agents (agent_of b.names d (agent_written b.names (fresh b) d)) ∙ ap (λ l. l ++ name_in d ∷ []) k.parties }))
+    (record { messages = k.messages; parties = map_push agent_name b.agents (agent_of (length b.agents) b.names d (agent_written b.names (fresh b) d)) ∙ ap (λ l. l ++ name_in d ∷ []) k.parties }))
 names_step s u b c (enters other place d) k e f = subst (λ y. HaveNames u y) (ok_same b c f) (subst (λ x. HaveNames x b) (ok_same s u e) k)
 names_step s u b c (tries rule place found) k e f = subst (λ y. HaveNames u y) (ok_same b c f) (subst (λ x. HaveNames x b) (ok_same s u e) k)
 names_step s u b c (leaves kind place d) k e f = subst (λ y. HaveNames u y) (ok_same b c f) (subst (λ x. HaveNames x b) (ok_same s u e) k)
@@ -143,33 +144,72 @@ short false s e = omega arith
 short_name : (d : Data) → length (name_in d) ≤ 32
 short_name d = short (is_name (string_in (codes "name") d)) (string_in (codes "name") d) refl
 
-length_rows : (names : Declared) (rows : List RowDef) (ds : Items) → length (rows_from names rows ds) ≡ length rows + items_len ds
+length_rows : (a : ℕ) (names : Declared) (rows : List Row) (ds : Items) → length (rows_from a names rows ds) ≡ length rows + items_len ds
 unfolding rows_from
-length_rows names rows no_items = omega arith
-length_rows names rows (item d ds) = omega (arith, length_rows names (rows ++ row_of names d ∷ []) ds, length-append rows (row_of names d ∷ []))
+length_rows a names rows no_items = omega arith
+length_rows a names rows (item d ds) = omega (arith, length_rows a names (rows ++ row_of a names d ∷ []) ds, length-append rows (row_of a names d ∷ []))
 
 in_range : (names : List (List ℕ)) (name : List ℕ) (o : Option ℕ) → number_in names name ≡ o → is_some o ≡ true → narrow_or_zero o < length names
 in_range names name None e h = absurd (true≢false (sym h))
 in_range names name (Some n) e h = omega (arith, (position-Some (bytes_eq name) names n [] e).0, min-le_left n (2 ^ 32 - 1))
 
-rows_in_range : (names : Declared) (rows : List RowDef) (ds : Items) → HaveRows names ds → AllByRecursion (λ row. msg_number row < length names.messages) rows → AllByRecursion (λ row. msg_number row < length names.messages) (rows_from names rows ds)
+rows_in_range : (a : ℕ) (names : Declared) (rows : List Row) (ds : Items) → HaveRows names ds → AllByRecursion (λ row. msg_number row < length names.messages) rows → AllByRecursion (λ row. msg_number row < length names.messages) (rows_from a names rows ds)
 unfolding rows_from
-rows_in_range names rows no_items h a = a
-rows_in_range names rows (item d ds) h a =
-    rows_in_range names (rows ++ row_of names d ∷ []) ds h.1
-    (each-append (λ row. msg_number row < length names.messages) rows (row_of names d ∷ []) a (in_range names.messages (string_in (codes "msg") d) (number_in names.messages (string_in (codes "msg") d)) refl h.0, tt))
+rows_in_range a names rows no_items h all = all
+rows_in_range a names rows (item d ds) h all =
+    rows_in_range a names (rows ++ row_of a names d ∷ []) ds h.1
+    (each-append (λ row. msg_number row < length names.messages) rows (row_of a names d ∷ []) all (in_range names.messages (string_in (codes "msg") d) (number_in names.messages (string_in (codes "msg") d)) refl h.0, tt))
 
-built_agent : (names : Declared) (w : Writer) (d : Data) → IsFineAgent names d → w.code ≡ [] → length (agent_written names w d).code ≤ 1024
-    → IsBuiltAgent (length names.parties) (length names.messages) (length (agent_written names w d).texts) (agent_of names d (agent_written names w d))
-built_agent names w d fine empty l =
+rows_plain : (a : ℕ) (names : Declared) (rows : List Row) (ds : Items) → AllByRecursion IsPlain rows → AllByRecursion IsPlain (rows_from a names rows ds)
+unfolding rows_from
+rows_plain a names rows no_items all = all
+rows_plain a names rows (item d ds) all =
+    rows_plain a names (rows ++ row_of a names d ∷ []) ds (each-append IsPlain rows (row_of a names d ∷ []) all (record { state = refl; runs = refl; active = refl }, tt))
+
+-- at the agent's own mbox
+abbrev OwnRow : ℕ → Row → Type 0
+OwnRow a row = row.mbox.0 ≡ narrow a
+
+rows_own : (a : ℕ) (names : Declared) (rows : List Row) (ds : Items) → AllByRecursion (OwnRow a) rows → AllByRecursion (OwnRow a) (rows_from a names rows ds)
+unfolding rows_from
+rows_own a names rows no_items all = all
+rows_own a names rows (item d ds) all = rows_own a names (rows ++ row_of a names d ∷ []) ds (each-append (OwnRow a) rows (row_of a names d ∷ []) all (refl, tt))
+
+-- the agents from number k on
+abbrev OwnRows : ℕ → List AgentDef → Type 0
+OwnRows k [] = Unit {0}
+OwnRows k (a ∷ agents) = AllByRecursion (OwnRow k) a.rows × OwnRows (suc k) agents
+
+plus_suc : (k n : ℕ) → suc k + n ≡ k + suc n
+plus_suc k n = omega arith
+
+zero_plus : (k : ℕ) → 0 + k ≡ k
+zero_plus k = omega arith
+
+plus_zero : (k : ℕ) → k + 0 ≡ k
+plus_zero k = omega arith
+
+own_more : (k : ℕ) (agents : List AgentDef) (a : AgentDef) → OwnRows k agents → AllByRecursion (OwnRow (k + length agents)) a.rows → OwnRows k (agents ++ a ∷ [])
+own_more k [] a own new = (subst (λ n. AllByRecursion (OwnRow n) a.rows) (plus_zero k) new, tt)
+own_more k (x ∷ agents) a own new = (own.0, own_more (suc k) agents a own.1 (subst (λ n. AllByRecursion (OwnRow n) a.rows) (sym (plus_suc k (length agents))) new))
+
+own_at : (k : ℕ) (agents : List AgentDef) (i : ℕ) (default : AgentDef) → OwnRows k agents → i < length agents → AllByRecursion (OwnRow (k + i)) (get_or agents i default).rows
+own_at k [] i default own l = absurd (omega arith)
+own_at k (x ∷ agents) zero default own l = subst (λ n. AllByRecursion (OwnRow n) x.rows) (sym (plus_zero k)) own.0
+own_at k (x ∷ agents) (suc i) default own l = subst (λ n. AllByRecursion (OwnRow n) (get_or agents i default).rows) (plus_suc k i) (own_at (suc k) agents i default own.1 (omega arith))
+
+built_agent : (a : ℕ) (names : Declared) (w : Writer) (d : Data) → IsFineAgent names d → w.code ≡ [] → length (agent_written names w d).code ≤ 1024
+    → IsBuiltAgent (length names.parties) (length names.messages) (length (agent_written names w d).texts) (agent_of a names d (agent_written names w d))
+built_agent a names w d fine empty l =
     let written = agent_is_written names w d empty l in
-    let count : length (rows_from names [] (rows_in d)) ≡ items_len (rows_in d) = omega (arith, length_rows names [] (rows_in d)) in
+    let count : length (rows_from a names [] (rows_in d)) ≡ items_len (rows_in d) = omega (arith, length_rows a names [] (rows_in d)) in
     record {
       named = short_name d;
       coop = refl;
       vars = refl;
       few_rows = omega (arith, count, fine.few);
-      rows = all_of (λ row. msg_number row < length names.messages) (rows_from names [] (rows_in d)) (rows_in_range names [] (rows_in d) fine.rows tt);
+      rows = all_of (λ row. msg_number row < length names.messages) (rows_from a names [] (rows_in d)) (rows_in_range a names [] (rows_in d) fine.rows tt);
+      plain = rows_plain a names [] (rows_in d) tt;
       code = written.code;
       bodies = written.bodies ∙ ap (λ n. agent_bodies 0 (row_numbers n)) (sym count);
       parts = all_of _ _ written.named;
@@ -182,6 +222,7 @@ grown agents messages t u a l h = record {
   vars = h.vars;
   few_rows = h.few_rows;
   rows = h.rows;
+  plain = h.plain;
   code = h.code;
   bodies = h.bodies;
   parts = λ i d k. names_grow agents messages t u (get_or a.code i d) l (h.parts i d k);
@@ -190,6 +231,7 @@ grown agents messages t u a l h = record {
 -- ---- the fourth pass
 
 record AreKept (names : Declared) (s : Build) : Type 0 where
+  own : OwnRows 0 s.agents
   known : s.names ≡ names
   agents : AllByRecursion (IsBuiltAgent (length names.parties) (length names.messages) (length s.texts)) s.agents
   texts : AllByRecursion (λ t. is_text t ≡ true) s.texts
@@ -197,12 +239,13 @@ record AreKept (names : Declared) (s : Build) : Type 0 where
 agent_kept : (names : Declared) (s : Build) (d : Data) → IsFineAgent names d → AreKept names s → length (agent_written s.names (fresh s) d).code ≤ 1024 → AreKept names (agent_added s d)
 unfolding agent_added
 agent_kept names s d fine k l =
-    let new : IsBuiltAgent (length names.parties) (length names.messages) (length (agent_written s.names (fresh s) d).texts) (agent_of s.names d (agent_written s.names (fresh s) d)) =
-    subst (λ n. IsBuiltAgent (length names.parties) (length names.messages) (length (agent_written n (fresh s) d).texts) (agent_of n d (agent_written n (fresh s) d))) (sym k.known)
-    (built_agent names (fresh s) d fine refl (subst (λ n. length (agent_written n (fresh s) d).code ≤ 1024) k.known l)) in
+    let new : IsBuiltAgent (length names.parties) (length names.messages) (length (agent_written s.names (fresh s) d).texts) (agent_of (length s.agents) s.names d (agent_written s.names (fresh s) d)) =
+    subst (λ n. IsBuiltAgent (length names.parties) (length names.messages) (length (agent_written n (fresh s) d).texts) (agent_of (length s.agents) n d (agent_written n (fresh s) d))) (sym k.known)
+    (built_agent (length s.agents) names (fresh s) d fine refl (subst (λ n. length (agent_written n (fresh s) d).code ≤ 1024) k.known l)) in
     record {
+      own = own_more 0 s.agents (agent_of (length s.agents) s.names d (agent_written s.names (fresh s) d)) k.own (subst (λ n. AllByRecursion (OwnRow n) (rows_from (length s.agents) s.names [] (rows_in d))) (sym (zero_plus (length s.agents))) (rows_own (length s.agents) s.names [] (rows_in d) tt));
       known = k.known;
-      agents = each-append (IsBuiltAgent (length names.parties) (length names.messages) (length (agent_written s.names (fresh s) d).texts)) s.agents (agent_of s.names d (agent_written s.names (fresh s) d) ∷ [])
+      agents = each-append (IsBuiltAgent (length names.parties) (length names.messages) (length (agent_written s.names (fresh s) d).texts)) s.agents (agent_of (length s.agents) s.names d (agent_written s.names (fresh s) d) ∷ [])
           (each-weaker (IsBuiltAgent (length names.parties) (length names.messages) (length s.texts)) (IsBuiltAgent (length names.parties) (length names.messages) (length (agent_written s.names (fresh s) d).texts)) (λ a h. grown _ _ _ _ a (agent_grows s.names (fresh s) d) h) s.agents k.agents)
           (new, tt);
       texts = agent_texts s.names (fresh s) d k.texts;
@@ -210,8 +253,8 @@ agent_kept names s d fine k l =
 
 kept_step : (names : Declared) (s t : Build) (v : Visit) → EntersFine names v → AreKept names s → build_step s v ≡ Ok t → AreKept names t
 unfolding agent_added
-kept_step names s t (enters object.Message place d) fine k e = subst (AreKept names) (ok_same (with_message d s) t e) (record { known = k.known; agents = k.agents; texts = k.texts })
-kept_step names s t (enters object.Coop place d) fine k e = subst (AreKept names) (ok_same (with_coop d s) t e) (record { known = k.known; agents = k.agents; texts = k.texts })
+kept_step names s t (enters object.Message place d) fine k e = subst (AreKept names) (ok_same (with_message d s) t e) (record { own = k.own; known = k.known; agents = k.agents; texts = k.texts })
+kept_step names s t (enters object.Coop place d) fine k e = subst (AreKept names) (ok_same (with_coop d s) t e) (record { own = k.own; known = k.known; agents = k.agents; texts = k.texts })
 kept_step names s t (enters object.Agent place d) fine k e =
     let q = agent_ok (nat_lt 1024 (length (agent_written s.names (fresh s) d).code)) _ (length (agent_written s.names (fresh s) d).code) (agent_added s d) t refl e in
     subst (AreKept names) q.1 (agent_kept names s d fine k q.0)
@@ -259,6 +302,7 @@ built_from names s k h a l =
       agents = subst (λ n. All (IsBuiltAgent n (length s.messages) (length s.texts)) s.agents) agents
           (subst (λ n. All (IsBuiltAgent (length names.parties) n (length s.texts)) s.agents) messages (all_of _ s.agents k.agents));
       agent_names = subst (IsDistinct bytes_eq) (sym h.parties) a.parties;
+      own_rows = λ i default l. own_at 0 s.agents i default k.own l;
       texts = all_of (λ t. is_text t ≡ true) s.texts k.texts;
     }
 
@@ -268,7 +312,7 @@ is_built d shape names known s e f g h =
     let fine = fine_each names no_state shape known (fields d) e g in
     let build : run build_step (no_parts names) (fields d) ≡ Ok s = subst (λ n. run build_step (no_parts n) (fields d) ≡ Ok s) fine.0 h in
     let distinct : AreDistinct names = run_keeps twice_step (λ v. Unit {0}) AreDistinct distinct_step no_names names (fields d) (any_visit (fields d)) (record { messages = no_distinct; parties = no_distinct }) f in
-    let kept : AreKept names s = run_keeps build_step (EntersFine names) (AreKept names) (kept_step names) (no_parts names) s (fields d) (scene_fine names d fine.1) (record { known = refl; agents = tt; texts = tt }) build in
+    let kept : AreKept names s = run_keeps build_step (EntersFine names) (AreKept names) (kept_step names) (no_parts names) s (fields d) (scene_fine names d fine.1) (record { own = tt; known = refl; agents = tt; texts = tt }) build in
     let named : HaveNames names s = run_both twice_step build_step HaveNames names_step no_names names (no_parts names) s (fields d) (record { messages = refl; parties = refl }) f build in
     built_from names s kept named distinct (omega (arith, counted (no_parts names) s (fields d) build, few_messages names d fine.1))
 
@@ -291,7 +335,7 @@ each_differ [] e = tt
 each_differ (a ∷ agents) e = let p = and_yes (rows_differ a) (list_all rows_differ agents) e in (distinct_rows a.rows p.0, each_differ agents p.1)
 
 is_agent : (s : SceneParts) (a : AgentDef) → IsBuiltAgent (length s.agents) (length s.messages) (length s.texts) a → IsDistinct nat_eq (map msg_number a.rows) → IsAgent s a
-is_agent s a h d = record { named = h.named; coop = h.coop; vars = h.vars; few_rows = h.few_rows; rows = h.rows; no_twice = d; code = h.code; bodies = h.bodies; parts = h.parts }
+is_agent s a h d = record { named = h.named; coop = h.coop; vars = h.vars; few_rows = h.few_rows; rows = h.rows; plain = h.plain; no_twice = d; code = h.code; bodies = h.bodies; parts = h.parts }
 
 text_short : (b c : Bool) (n : ℕ) → nat_le n 64 ≡ b → (b && c) ≡ true → n ≤ 64
 text_short true c n l e = leb-true n 64 l
@@ -299,6 +343,19 @@ text_short false c n l e = absurd (true≢false (sym e))
 
 short_text : (t : List ℕ) → is_text t ≡ true → length t ≤ 64
 short_text t e = text_short (nat_le (length t) 64) (list_all is_text_byte t) (length t) refl e
+
+-- the rows of an agent of the scene are for its own mbox
+row_is_own : (a : AgentId) → a.0 ≤ 4096 → (row : Row) → OwnRow (0 + a.0) row → row.mbox ≡ direct_mbox a
+row_is_own a few row own =
+    let its : row.mbox.0 ≡ a.0 = omega (arith, own) in
+    ap (λ n. record { 0 = n }) its
+
+own_rows_of : (agents : List AgentDef) → ((i : ℕ) (default : AgentDef) → i < length agents → AllByRecursion (OwnRow (0 + i)) (get_or agents i default).rows) → length agents ≤ 4096 → (a : AgentId) → AllByRecursion (λ (row : Row). row.mbox ≡ direct_mbox a) (get_or agents a.0 no_agent).rows
+own_rows_of agents own few a =
+    elim (cases_lt a.0 (length agents)) [
+      | inl there ↦ each-weaker (OwnRow (0 + a.0)) (λ (row : Row). row.mbox ≡ direct_mbox a) (row_is_own a (omega arith)) (get_or agents a.0 no_agent).rows (own a.0 no_agent there)
+      | inr past ↦ subst (λ (x : AgentDef). AllByRecursion (λ (row : Row). row.mbox ≡ direct_mbox a) x.rows) (sym (get_or_past agents a.0 no_agent past)) tt
+    ]
 
 scene_of_parts : (name : List ℕ) (b : Build) → IsBuilt b → exceeds b ≡ false → is_admitted b ≡ true → length name ≤ 32 → IsDistinct bytes_eq b.texts → IsScene (parts_of name b)
 scene_of_parts name b built few admitted short_one distinct =
@@ -314,6 +371,7 @@ scene_of_parts name b built few admitted short_one distinct =
       some_agent = some_one b.agents taken.0;
       few_agents = agents;
       agents = λ i d l. is_agent (parts_of name b) (get_or b.agents i d) (built.agents i d l) (differ i d l);
+      own_rows = λ a. own_rows_of b.agents built.own_rows agents a;
       agent_names = built.agent_names;
       few_texts = ltb-false 4096 (length b.texts) sizes.1;
       texts = λ i d l. short_text (get_or b.texts i d) (built.texts i d l);

@@ -7,27 +7,27 @@ use Rattle.std.specs.List.{All, AllByRecursion, IsDistinct}
 use Rattle.std.specs.declared.alloc.Global.{Global}
 use Rattle.so_scene.specs.Parts.{msg_number}
 use Rattle.so_scene.specs.Words.{is_text}
-use Rattle.so_scene.specs.declared.parts.RowDef.{RowDef}
+use Rattle.so_state.specs.declared.choice.Row.{Row}
 use Rattle.so_scene_json.specs.Scene.{has_row, differ}
 
 -- ---- the loop over rows
 
-differ_here : (rows : List RowDef) (i : ℕ) (row : RowDef) → i < length rows
+differ_here : (rows : List Row) (i : ℕ) (row : Row) → i < length rows
     → differ (drop i rows) ≡ (if has_row (msg_number (get_or rows i row)) (drop (i + 1) rows) then false else differ (drop (i + 1) rows))
 unfolding differ
 differ_here rows i row h = rw (add-one, drop-cons rows i row)
 
-pub differ_stop : (all : Bool) (rows rest : List RowDef) (i : ℕ) (row : RowDef) (b : Bool) → i < length rows → all ≡ differ (drop i rows)
+pub differ_stop : (all : Bool) (rows rest : List Row) (i : ℕ) (row : Row) (b : Bool) → i < length rows → all ≡ differ (drop i rows)
     → rest ≡ drop (i + 1) rows → b ≡ has_row (msg_number (get_or rows i row)) rest → b ≡ true → false ≡ all
 differ_stop all rows rest i row b h a r e t =
     sym (a ∙ differ_here rows i row h ∙ ap (λ (y : Bool). if y then false else differ (drop (i + 1) rows)) (ap (has_row (msg_number (get_or rows i row))) (sym r) ∙ (sym e ∙ t)))
 
-pub differ_go : (all : Bool) (rows rest : List RowDef) (i : ℕ) (row : RowDef) (b : Bool) → i < length rows → all ≡ differ (drop i rows)
+pub differ_go : (all : Bool) (rows rest : List Row) (i : ℕ) (row : Row) (b : Bool) → i < length rows → all ≡ differ (drop i rows)
     → rest ≡ drop (i + 1) rows → b ≡ has_row (msg_number (get_or rows i row)) rest → b ≡ false → all ≡ differ (drop (i + 1) rows)
 differ_go all rows rest i row b h a r e t =
     a ∙ differ_here rows i row h ∙ ap (λ (y : Bool). if y then false else differ (drop (i + 1) rows)) (ap (has_row (msg_number (get_or rows i row))) (sym r) ∙ (sym e ∙ t))
 
-pub differ_end : (all : Bool) (rows : List RowDef) (i : ℕ) → length rows ≤ i → all ≡ differ (drop i rows) → true ≡ all
+pub differ_end : (all : Bool) (rows : List Row) (i : ℕ) → length rows ≤ i → all ≡ differ (drop i rows) → true ≡ all
 unfolding differ
 differ_end all rows i h a = sym (a ∙ rw (drop_of_length-le rows h))
 
@@ -37,17 +37,17 @@ or_false : (a b : Bool) → (a || b) ≡ false → (a ≡ false) × (b ≡ false
 or_false true b e = absurd (true≢false e)
 or_false false b e = (refl, e)
 
-apart : (n : ℕ) (rows : List RowDef) → has_row n rows ≡ false → AllByRecursion (λ m. nat_eq n m ≡ false) (map msg_number rows)
+apart : (n : ℕ) (rows : List Row) → has_row n rows ≡ false → AllByRecursion (λ m. nat_eq n m ≡ false) (map msg_number rows)
 apart n [] e = tt
 apart n (row ∷ rows) e =
     let p = or_false (nat_eq n (msg_number row)) (has_row n rows) e in
     (p.0, apart n rows p.1)
 
-both : (b : Bool) (n : ℕ) (rows : List RowDef) (rest : Bool) → has_row n rows ≡ b → (if b then false else rest) ≡ true → (has_row n rows ≡ false) × (rest ≡ true)
+both : (b : Bool) (n : ℕ) (rows : List Row) (rest : Bool) → has_row n rows ≡ b → (if b then false else rest) ≡ true → (has_row n rows ≡ false) × (rest ≡ true)
 both true n rows rest e f = absurd (true≢false (sym f))
 both false n rows rest e f = (e, f)
 
-pub distinct_rows : (rows : List RowDef) → differ rows ≡ true → IsDistinct nat_eq (map msg_number rows)
+pub distinct_rows : (rows : List Row) → differ rows ≡ true → IsDistinct nat_eq (map msg_number rows)
 unfolding differ IsDistinct
 distinct_rows [] e = tt
 distinct_rows (row ∷ rows) e =

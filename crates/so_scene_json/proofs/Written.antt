@@ -8,7 +8,7 @@ use Rattle.serde_json.specs.Find.{get}
 use Rattle.serde_json.specs.View.{view, items_view}
 use Rattle.serde_json.specs.declared.value.Value.{Value}
 use Rattle.so_scene.specs.declared.fault.SceneFault.{SceneFault}
-use Rattle.so_scene.specs.declared.parts.RowDef.{RowDef}
+use Rattle.so_state.specs.declared.choice.Row.{Row as AgentRow}
 use Rattle.so_scene_json.specs.declared.declare.Declared.{Declared}
 use Rattle.so_scene_json.specs.declared.write.Writer.{Writer}
 use Rattle.so_code.specs.declared.instr.Body.TheVariants.{Row}
@@ -61,16 +61,16 @@ pub rows_end : (all : Writer) (names : Declared) (w : Writer) (vs : List Value) 
 unfolding rows_written
 rows_end all names w vs i h a = ap ok (a ∙ rw (drop_of_length-le vs h))
 
-row_here : (names : Declared) (rows : List RowDef) (vs : List Value) (i : ℕ) (v : Value) → i < length vs
-    → rows_from names rows (items_view (drop i vs)) ≡ rows_from names (rows ++ row_of names (view (get_or vs i v)) ∷ []) (items_view (drop (i + 1) vs))
+row_here : (a : ℕ) (names : Declared) (rows : List AgentRow) (vs : List Value) (i : ℕ) (v : Value) → i < length vs
+    → rows_from a names rows (items_view (drop i vs)) ≡ rows_from a names (rows ++ row_of a names (view (get_or vs i v)) ∷ []) (items_view (drop (i + 1) vs))
 unfolding rows_from
-row_here names rows vs i v h = rw (add-one, drop-cons vs i v)
+row_here a names rows vs i v h = rw (add-one, drop-cons vs i v)
 
-pub row_go : (all : List RowDef) (names : Declared) (rows next : List RowDef) (vs : List Value) (i : ℕ) (v x : Value) (r : RowDef) → i < length vs → x ≡ get_or vs i v
-    → all ≡ rows_from names rows (items_view (drop i vs)) → r ≡ row_of names (view x) → next ≡ rows ++ r ∷ [] → all ≡ rows_from names next (items_view (drop (i + 1) vs))
-row_go all names rows next vs i v x r h y a f e =
-    a ∙ row_here names rows vs i v h ∙ ap (λ q. rows_from names q (items_view (drop (i + 1) vs))) (ap (λ q. rows ++ row_of names (view q) ∷ []) (sym y) ∙ ap (λ q. rows ++ q ∷ []) (sym f) ∙ sym e)
+pub row_go : (all : List AgentRow) (a : ℕ) (names : Declared) (rows next : List AgentRow) (vs : List Value) (i : ℕ) (v x : Value) (r : AgentRow) → i < length vs → x ≡ get_or vs i v
+    → all ≡ rows_from a names rows (items_view (drop i vs)) → r ≡ row_of a names (view x) → next ≡ rows ++ r ∷ [] → all ≡ rows_from a names next (items_view (drop (i + 1) vs))
+row_go all a names rows next vs i v x r h y b f e =
+    b ∙ row_here a names rows vs i v h ∙ ap (λ q. rows_from a names q (items_view (drop (i + 1) vs))) (ap (λ q. rows ++ row_of a names (view q) ∷ []) (sym y) ∙ ap (λ q. rows ++ q ∷ []) (sym f) ∙ sym e)
 
-pub row_end : (all : List RowDef) (names : Declared) (rows : List RowDef) (vs : List Value) (i : ℕ) → length vs ≤ i → all ≡ rows_from names rows (items_view (drop i vs)) → rows ≡ all
+pub row_end : (all : List AgentRow) (a : ℕ) (names : Declared) (rows : List AgentRow) (vs : List Value) (i : ℕ) → length vs ≤ i → all ≡ rows_from a names rows (items_view (drop i vs)) → rows ≡ all
 unfolding rows_from
-row_end all names rows vs i h a = sym (a ∙ rw (drop_of_length-le vs h))
+row_end all a names rows vs i h b = sym (b ∙ rw (drop_of_length-le vs h))

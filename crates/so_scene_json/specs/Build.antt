@@ -1,5 +1,5 @@
 -- The fourth pass: the parts of the scene, and the length of each code.
-use Rattle.std.specs.Prelude.{ℕ, suc, ℤ, pos, List, [], ◌∷◌, ◌++◌, length, map, codes, nat_lt, if◌then◌else◌, Option, Some, None, Result, Ok, Err}
+use Rattle.std.specs.Prelude.{ℕ, suc, ℤ, pos, List, [], ◌∷◌, ◌++◌, length, map, codes, nat_lt, if◌then◌else◌, Option, Some, None, Result, Ok, Err, true, false}
 use Rattle.std.specs.List.{range_with_len}
 use Rattle.serde_json.specs.Data.{Data, Items, no_items, item}
 use Rattle.serde_json.specs.Find.{get, get_item}
@@ -11,7 +11,9 @@ use Rattle.so_scene.specs.declared.fault.SceneFault.{SceneFault}
 use Rattle.so_scene.specs.declared.fault.SceneFault.TheVariants as fault
 use Rattle.so_scene.specs.declared.parts.MessageDef.{MessageDef}
 use Rattle.so_scene.specs.declared.parts.AgentDef.{AgentDef}
-use Rattle.so_scene.specs.declared.parts.RowDef.{RowDef}
+use Rattle.so_state.specs.declared.choice.Row.{Row}
+use Rattle.so_state.specs.declared.choice.RowKind.TheVariants.{Run}
+use Rattle.so_state.specs.States.{default_state}
 use Rattle.so_scene.specs.Names.{number_in}
 use Rattle.so_scene_json.specs.declared.table.ObjectKind.{ObjectKind}
 use Rattle.so_scene_json.specs.declared.table.ObjectKind.TheVariants as object
@@ -42,13 +44,20 @@ abbrev pub narrow_or_zero : Option ℕ → ℕ
 narrow_or_zero None = 0
 narrow_or_zero (Some n) = narrow n
 
--- a row subscribes to its message
-abbrev pub row_of : Declared → Data → RowDef
-row_of names d = record { msg = record { 0 = narrow_or_zero (number_in names.messages (string_in (codes "msg") d)) } }
+-- a row of the agent of a number: it subscribes to its message at the agent's own mbox
+abbrev pub row_of : ℕ → Declared → Data → Row
+row_of a names d = record {
+  mbox = record { 0 = narrow a };
+  msg = record { 0 = narrow_or_zero (number_in names.messages (string_in (codes "msg") d)) };
+  state = default_state;
+  kind = Run;
+  safe = false;
+  active = true;
+}
 
-unfoldable pub rows_from : Declared → List RowDef → Items → List RowDef
-rows_from names rows no_items = rows
-rows_from names rows (item d ds) = rows_from names (rows ++ row_of names d ∷ []) ds
+unfoldable pub rows_from : ℕ → Declared → List Row → Items → List Row
+rows_from a names rows no_items = rows
+rows_from a names rows (item d ds) = rows_from a names (rows ++ row_of a names d ∷ []) ds
 
 -- ---- the code of an agent: start, finish, then each row, each of these a body and its end
 
@@ -81,12 +90,13 @@ with_message d s = record s { messages = s.messages ++ message_of d ∷ [] }
 abbrev pub with_coop : Data → Build → Build
 with_coop d s = record s { coops = s.coops ++ name_in d ∷ [] }
 
-abbrev pub agent_of : Declared → Data → Writer → AgentDef
-agent_of names d w = record {
+-- the agent of a number
+abbrev pub agent_of : ℕ → Declared → Data → Writer → AgentDef
+agent_of a names d w = record {
   name = name_in d;
   coop = record { 0 = 0 };
   vars = vars_of d;
-  rows = rows_from names [] (list_of (get (codes "on") d));
+  rows = rows_from a names [] (list_of (get (codes "on") d));
   code = w.code;
 }
 
@@ -95,7 +105,7 @@ fresh s = record { texts = s.texts; code = [] }
 
 -- an agent whose code has more than 1,024 instructions is out of range
 abbrev pub with_agent : Place → Build → Data → Writer → Result Build SceneFault
-with_agent place s d w = if nat_lt 1024 (length w.code) then Err (fault.OutOfRange place) else Ok (record s { agents = s.agents ++ agent_of s.names d w ∷ []; texts = w.texts })
+with_agent place s d w = if nat_lt 1024 (length w.code) then Err (fault.OutOfRange place) else Ok (record s { agents = s.agents ++ agent_of (length s.agents) s.names d w ∷ []; texts = w.texts })
 
 abbrev pub entered : ObjectKind → Place → Build → Data → Result Build SceneFault
 entered object.Message place s d = Ok (with_message d s)

@@ -13,7 +13,7 @@ use Rattle.so_scene.specs.declared.fault.SceneFault.{SceneFault}
 use Rattle.so_scene.specs.declared.fault.SceneFault.TheVariants as fault
 use Rattle.so_scene.specs.declared.parts.AgentDef.{AgentDef}
 use Rattle.so_scene.specs.declared.parts.CoopDef.{CoopDef}
-use Rattle.so_scene.specs.declared.parts.RowDef.{RowDef}
+use Rattle.so_state.specs.declared.choice.Row.{Row}
 use Rattle.so_scene.specs.declared.parts.SceneParts.{SceneParts}
 use Rattle.so_scene.specs.Parts.{msg_number}
 use Rattle.so_scene_json.specs.declared.build.Build.{Build}
@@ -40,11 +40,11 @@ abbrev pub exceeds : Build → Bool
 exceeds s = nat_lt 4096 (length s.agents) || nat_lt 4096 (length s.texts)
 
 -- a row of them subscribes to this type
-abbrev pub has_row : ℕ → List RowDef → Bool
+abbrev pub has_row : ℕ → List Row → Bool
 has_row msg rows = list_any (λ row. nat_eq msg (msg_number row)) rows
 
 -- no two subscribe to one type
-unfoldable pub differ : List RowDef → Bool
+unfoldable pub differ : List Row → Bool
 differ [] = true
 differ (row ∷ rows) = if has_row (msg_number row) rows then false else differ rows
 

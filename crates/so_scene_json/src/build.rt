@@ -1,12 +1,13 @@
 //! The fourth pass: the parts of the scene, and the length of each code.
 
-ghost use Rattle.std.specs.Prelude.{◌≡◌, ◌≤◌, ◌++◌, ◌∷◌, [], Ok, ℤ, map, length, option_map};
+ghost use Rattle.std.specs.Prelude.{◌≡◌, ◌≤◌, ◌++◌, ◌∷◌, [], Ok, ℤ, codes, map, length, option_map};
 ghost use Rattle.std.specs.List.{range_with_len};
 ghost use Rattle.serde_json.specs.View.{view, items_view};
 ghost use Rattle.so_code.specs.Shape.{IsCode};
-ghost use Rattle.so_scene_json.specs.Build.{message_of, var_at, vars_in, vars_of, row_of, rows_from, body_written, row_body, rows_written, agent_written, no_parts, with_message, with_coop, fresh, with_agent, build_step};
+ghost use Rattle.so_scene_json.specs.Build.{message_of, var_at, vars_in, vars_of, narrow_or_zero, row_of, rows_from, body_written, row_body, rows_written, agent_written, no_parts, with_message, with_coop, fresh, with_agent, build_step};
 ghost use Rattle.so_scene_json.specs.Reads.{Returns};
-ghost use Rattle.so_scene_json.specs.Values.{name_in};
+ghost use Rattle.so_scene_json.specs.Values.{name_in, string_in};
+ghost use Rattle.so_scene.specs.Names.{number_in};
 ghost use Rattle.so_scene_json.specs.Visits.{list_of, Leaves};
 
 use crate::declare::{Declared, is_signal};
@@ -16,10 +17,9 @@ use crate::walk::{Pass, list, position};
 use crate::write::{Writer, item};
 use serde_json::Value;
 use so_code::{Body, Code, Instr};
-use so_ids::{CoopId, MsgId, RowId, Vars};
-use so_scene::{
-    AgentDef, Items, MessageDef, Name, Names, RowDef, SceneFault, ScenePlace, SceneRefusal,
-};
+use so_ids::{CoopId, MboxId, MsgId, RowId, StateId, Vars};
+use so_scene::{AgentDef, Items, MessageDef, Name, Names, SceneFault, ScenePlace, SceneRefusal};
+use so_state::{Row, RowKind};
 use std::alloc::Global;
 use std::mem;
 
@@ -70,23 +70,41 @@ fn vars_of(value: &Value) -> Vars
     Vars(vars_in(list(value.get("vars"))))
 }
 
-fn row_of(names: &Declared, value: &Value) -> RowDef
-    ensures { result ≡ row_of names.now (view value.now) }
+/// The number of a row's type of messages.
+fn msg_of(names: &Declared, value: &Value) -> MsgId
+    ensures { result.0 ≡ narrow_or_zero (number_in names.now.messages (string_in (codes "msg") (view value.now))) }
 {
     match names.number(Space::Messages, string_in(value, "msg")) {
-        Some(n) => RowDef {
-            msg: MsgId(position(n)),
-        },
-        None => RowDef { msg: MsgId(0) },
+        Some(n) => MsgId(position(n)),
+        None => MsgId(0),
     }
 }
 
-fn rows_in(alloc: Global, names: &Declared, list: &[Value]) -> Result<Items<RowDef>, SceneRefusal>
-    ensures { Returns (rows_from names.now [] (items_view list.now)) result }
+/// A row of the agent of this number.
+fn row_of(agent: usize, names: &Declared, value: &Value) -> Row
+    ensures { result ≡ row_of agent names.now (view value.now) }
+{
+    Row {
+        mbox: MboxId(position(agent)),
+        msg: msg_of(names, value),
+        state: StateId(0),
+        kind: RowKind::Run,
+        safe: false,
+        active: true,
+    }
+}
+
+fn rows_in(
+    alloc: Global,
+    agent: usize,
+    names: &Declared,
+    list: &[Value],
+) -> Result<Items<Row>, SceneRefusal>
+    ensures { Returns (rows_from agent names.now [] (items_view list.now)) result }
 {
     let mut rows = Items::new(alloc);
     for value in list {
-        match rows.push(row_of(names, value)) {
+        match rows.push(row_of(agent, names, value)) {
             Ok(()) => {}
             Err(_) => return Err(SceneRefusal::NoMemory),
         }
@@ -188,7 +206,7 @@ impl Build {
             name: name_of(value),
             coop: CoopId(0),
             vars: vars_of(value),
-            rows: rows_in(alloc, &self.names, list(value.get("on")))?,
+            rows: rows_in(alloc, self.agents.len(), &self.names, list(value.get("on")))?,
             code: Code::new(code.into_vec()),
         };
         self.texts = texts;

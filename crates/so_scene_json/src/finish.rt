@@ -13,9 +13,10 @@ use crate::build::Build;
 use crate::walk::position;
 use so_ids::AgentId;
 use so_scene::{
-    AgentDef, CoopDef, Field, Items, Name, Names, PlaceStep, RowDef, Scene, SceneFault, SceneParts,
+    AgentDef, CoopDef, Field, Items, Name, Names, PlaceStep, Scene, SceneFault, SceneParts,
     ScenePlace, SceneRefusal, Text,
 };
+use so_state::Row;
 use std::alloc::Global;
 
 /// The place of the list of cooperations.
@@ -32,21 +33,21 @@ fn first_coop() -> ScenePlace
     coops_place().step(PlaceStep::At(0))
 }
 
-fn has_row(rows: &[RowDef], msg: u32) -> bool
+fn has_row(rows: &[Row], msg: u32) -> bool
     ensures { result ≡ has_row msg rows.now }
 {
     rows.iter().any(|row| msg == row.msg.0)
 }
 
 /// The rows behind the one at this place.
-fn after(rows: &[RowDef], place: usize) -> &[RowDef]
+fn after(rows: &[Row], place: usize) -> &[Row]
     requires { place < length rows.now }
     ensures { result.now ≡ drop (place + 1) rows.now }
 {
     &rows[place + 1..]
 }
 
-fn rows_differ(rows: &[RowDef]) -> bool
+fn rows_differ(rows: &[Row]) -> bool
     ensures { result ≡ differ rows.now }
 {
     for (i, row) in rows.iter().enumerate() {

@@ -7,12 +7,13 @@ use Rattle.so_scene.specs.declared.parts.SceneParts.{SceneParts}
 use Rattle.so_scene.specs.declared.fault.SceneFault.{SceneFault}
 use Rattle.so_history.specs.declared.lines.Mode.TheVariants.{Plain}
 use Rattle.so_history.specs.Kept.{Kept}
-use Rattle.so_history.specs.Steps.{finished}
+use Rattle.so_history.specs.Steps.{finished, is_over}
 use Rattle.so_history.specs.Text.{text}
 use Rattle.so_history.specs.Facts.{HasFacts}
 use Rattle.so_history.proofs.FactLaws.{has_facts}
 use Rattle.so_env.specs.declared.outcome.Cause.{Cause}
-use Rattle.so_env.specs.declared.outcome.Cause.TheVariants.{Done, Usage, Limit, Scene, Read, Long, Write, Memory}
+use Rattle.so_history.specs.Coops.{aborted}
+use Rattle.so_env.specs.declared.outcome.Cause.TheVariants.{Done, Usage, Limit, Aborted, Scene, Read, Long, Write, Memory}
 use Rattle.so_env.specs.Prints.{Printed, HasRisen, IsSimulated, cause_of}
 use Rattle.sorun.specs.Answers.{all_units, most_bytes, IsRefused, IsRun, RunAnswers, SceneAnswers, FileAnswers, could_not_read, too_long, wanting, was_read, WordsAnswers}
 use Rattle.sorun.specs.Exact.{IsWhole, IsFileExact, IsExact, FactsOf, RunHasFacts}
@@ -33,6 +34,7 @@ module _ (r : Report) (fx fy : ℕ) (a b : Option (List ℕ)) (x y : ℕ) where
     cut_off : (bytes : List ℕ) (s : SceneParts) → IsToldBytes told bytes → scene_of bytes ≡ Ok s → r.cause ≡ Write → Rose x y → Fate told
     finishes : (bytes : List ℕ) (s : SceneParts) → IsToldBytes told bytes → scene_of bytes ≡ Ok s → r.cause ≡ Done → IsWhole s r a b → Fate told
     stops : (bytes : List ℕ) (s : SceneParts) → IsToldBytes told bytes → scene_of bytes ≡ Ok s → r.cause ≡ Limit → IsWhole s r a b → Fate told
+    breaks : (bytes : List ℕ) (s : SceneParts) → IsToldBytes told bytes → scene_of bytes ≡ Ok s → r.cause ≡ Aborted → IsWhole s r a b → Fate told
 
   in_bounds : (told : Option (List ℕ)) (bytes : List ℕ) → IsToldBytes told bytes → IfSome told (λ all. length all ≤ most_bytes)
   in_bounds None bytes is = tt
@@ -44,8 +46,13 @@ module _ (r : Report) (fx fy : ℕ) (a b : Option (List ℕ)) (x y : ℕ) where
   simulated told bytes s h is given has run false cause printed risen = elim (cases_Bool (finished s h.entries)) [
     | inl over ↦ (let done : r.cause ≡ Done = cause ∙ rw over refl in
         finishes bytes s is given done record { kept = h; has = has; chain = run.chain; legal = run.legal; facts = has_facts s h.entries run.legal; printed = printed; cause = inl (done, over) })
-    | inr going ↦ (let limit : r.cause ≡ Limit = cause ∙ rw going refl in
-        stops bytes s is given limit record { kept = h; has = has; chain = run.chain; legal = run.legal; facts = has_facts s h.entries run.legal; printed = printed; cause = inr (limit, going, run.at_limit going) })
+    | inr going ↦ elim (cases_Bool (aborted h.entries)) [
+        | inl broken ↦ (let is_aborted : r.cause ≡ Aborted = cause ∙ rw (going, broken) refl in
+            breaks bytes s is given is_aborted record { kept = h; has = has; chain = run.chain; legal = run.legal; facts = has_facts s h.entries run.legal; printed = printed; cause = inr (inl (is_aborted, going, broken)) })
+        | inr unbroken ↦ (let limit : r.cause ≡ Limit = cause ∙ rw (going, unbroken) refl in
+            let open_end : is_over s h.entries ≡ false = rw (going, unbroken) refl in
+            stops bytes s is given limit record { kept = h; has = has; chain = run.chain; legal = run.legal; facts = has_facts s h.entries run.legal; printed = printed; cause = inr (inr (limit, open_end, run.at_limit open_end)) })
+      ]
   ]
 
   run_fate : (told : Option (List ℕ)) (bytes : List ℕ) (s : SceneParts) → IsToldBytes told bytes → scene_of bytes ≡ Ok s → (h : Option Kept) → r.history ≡ h → RunAnswers h s r.cause r.pieces a b x y → Fate told
@@ -73,6 +80,7 @@ module _ (r : Report) (fx fy : ℕ) (a b : Option (List ℕ)) (x y : ℕ) where
   not_usage told k (cut_off bytes s told_is given c rose) is = cc
   not_usage told k (finishes bytes s told_is given c run) is = cc
   not_usage told k (stops bytes s told_is given c run) is = cc
+  not_usage told k (breaks bytes s told_is given c run) is = cc
 
   read_rose : (told : Option (List ℕ)) → Fate told → r.cause ≡ Read → Rose fx fy
   read_rose told (no_file c rose fits) is = rose
@@ -82,6 +90,7 @@ module _ (r : Report) (fx fy : ℕ) (a b : Option (List ℕ)) (x y : ℕ) where
   read_rose told (cut_off bytes s told_is given c rose) is = absurd cc
   read_rose told (finishes bytes s told_is given c run) is = absurd cc
   read_rose told (stops bytes s told_is given c run) is = absurd cc
+  read_rose told (breaks bytes s told_is given c run) is = absurd cc
 
   write_rose : (told : Option (List ℕ)) → Fate told → r.cause ≡ Write → Rose x y
   write_rose told (no_file c rose fits) is = absurd cc
@@ -91,6 +100,7 @@ module _ (r : Report) (fx fy : ℕ) (a b : Option (List ℕ)) (x y : ℕ) where
   write_rose told (cut_off bytes s told_is given c rose) is = rose
   write_rose told (finishes bytes s told_is given c run) is = absurd cc
   write_rose told (stops bytes s told_is given c run) is = absurd cc
+  write_rose told (breaks bytes s told_is given c run) is = absurd cc
 
   module _ (all : List ℕ) where
     same_scene : (bytes : List ℕ) (given given2 : Result SceneParts SceneFault) → bytes ≡ all → scene_of bytes ≡ given → scene_of all ≡ given2 → given ≡ given2
@@ -113,6 +123,7 @@ module _ (r : Report) (fx fy : ℕ) (a b : Option (List ℕ)) (x y : ℕ) where
     only_long (cut_off bytes s told given c rose) is = absurd cc
     only_long (finishes bytes s told given c run) is = absurd cc
     only_long (stops bytes s told given c run) is = absurd cc
+    only_long (breaks bytes s told given c run) is = absurd cc
 
     too_many : most_bytes < length all → length all ≤ most_bytes → ⊥
     too_many more fits = omega (arith, more, fits)
@@ -125,6 +136,7 @@ module _ (r : Report) (fx fy : ℕ) (a b : Option (List ℕ)) (x y : ℕ) where
     is_long (cut_off bytes s told given c rose) more = absurd (too_many more told.1)
     is_long (finishes bytes s told given c run) more = absurd (too_many more told.1)
     is_long (stops bytes s told given c run) more = absurd (too_many more told.1)
+    is_long (breaks bytes s told given c run) more = absurd (too_many more told.1)
 
     only_scene : Fate (Some all) → (fault : SceneFault) → r.cause ≡ Scene fault → scene_of all ≡ Err fault
     only_scene (no_file c rose fits) fault is = absurd cc
@@ -134,6 +146,7 @@ module _ (r : Report) (fx fy : ℕ) (a b : Option (List ℕ)) (x y : ℕ) where
     only_scene (cut_off bytes s told given c rose) fault is = absurd cc
     only_scene (finishes bytes s told given c run) fault is = absurd cc
     only_scene (stops bytes s told given c run) fault is = absurd cc
+    only_scene (breaks bytes s told given c run) fault is = absurd cc
 
     is_faulty : Fate (Some all) → (fault : SceneFault) → length all ≤ most_bytes → scene_of all ≡ Err fault → (r.cause ≡ Scene fault) ⊎ ((r.cause ≡ Read) ⊎ (r.cause ≡ Memory))
     is_faulty (no_file c rose fits) fault few faulty = inr (inl c)
@@ -143,6 +156,7 @@ module _ (r : Report) (fx fy : ℕ) (a b : Option (List ℕ)) (x y : ℕ) where
     is_faulty (cut_off bytes s told given c rose) fault few faulty = absurd (ok_no_err s fault (same_scene bytes _ _ told.0 given faulty))
     is_faulty (finishes bytes s told given c run) fault few faulty = absurd (ok_no_err s fault (same_scene bytes _ _ told.0 given faulty))
     is_faulty (stops bytes s told given c run) fault few faulty = absurd (ok_no_err s fault (same_scene bytes _ _ told.0 given faulty))
+    is_faulty (breaks bytes s told given c run) fault few faulty = absurd (ok_no_err s fault (same_scene bytes _ _ told.0 given faulty))
 
     of_scene : (bytes : List ℕ) (s s2 : SceneParts) → bytes ≡ all → scene_of bytes ≡ Ok s → scene_of all ≡ Ok s2 → IsWhole s r a b → IsWhole s2 r a b
     of_scene bytes s s2 is one two run = subst (λ (z : SceneParts). IsWhole z r a b) (same_ok s s2 (same_scene bytes _ _ is one two)) run
@@ -155,6 +169,7 @@ module _ (r : Report) (fx fy : ℕ) (a b : Option (List ℕ)) (x y : ℕ) where
     is_done (cut_off bytes s1 told given c rose) s gives is = absurd cc
     is_done (finishes bytes s1 told given c run) s gives is = of_scene bytes s1 s told.0 given gives run
     is_done (stops bytes s1 told given c run) s gives is = of_scene bytes s1 s told.0 given gives run
+    is_done (breaks bytes s1 told given c run) s gives is = of_scene bytes s1 s told.0 given gives run
 
     is_limit : Fate (Some all) → (s : SceneParts) → scene_of all ≡ Ok s → r.cause ≡ Limit → IsWhole s r a b
     is_limit (no_file c rose fits) s gives is = absurd cc
@@ -164,6 +179,17 @@ module _ (r : Report) (fx fy : ℕ) (a b : Option (List ℕ)) (x y : ℕ) where
     is_limit (cut_off bytes s1 told given c rose) s gives is = absurd cc
     is_limit (finishes bytes s1 told given c run) s gives is = of_scene bytes s1 s told.0 given gives run
     is_limit (stops bytes s1 told given c run) s gives is = of_scene bytes s1 s told.0 given gives run
+    is_limit (breaks bytes s1 told given c run) s gives is = of_scene bytes s1 s told.0 given gives run
+
+    is_abort : Fate (Some all) → (s : SceneParts) → scene_of all ≡ Ok s → r.cause ≡ Aborted → IsWhole s r a b
+    is_abort (no_file c rose fits) s gives is = absurd cc
+    is_abort (big c more) s gives is = absurd cc
+    is_abort (poor c none fits) s gives is = absurd cc
+    is_abort (bad bytes f told given c) s gives is = absurd cc
+    is_abort (cut_off bytes s1 told given c rose) s gives is = absurd cc
+    is_abort (finishes bytes s1 told given c run) s gives is = of_scene bytes s1 s told.0 given gives run
+    is_abort (stops bytes s1 told given c run) s gives is = of_scene bytes s1 s told.0 given gives run
+    is_abort (breaks bytes s1 told given c run) s gives is = of_scene bytes s1 s told.0 given gives run
 
     is_complete : Fate (Some all) → (s : SceneParts) → length all ≤ most_bytes → scene_of all ≡ Ok s → (Rose fx fy → ⊥) → (Rose x y → ⊥) → ((r.cause ≡ Memory) × (r.history ≡ None)) ⊎ IsWhole s r a b
     is_complete (no_file c rose fits) s few gives no_fault no_write = absurd (no_fault rose)
@@ -173,6 +199,7 @@ module _ (r : Report) (fx fy : ℕ) (a b : Option (List ℕ)) (x y : ℕ) where
     is_complete (cut_off bytes s1 told given c rose) s few gives no_fault no_write = absurd (no_write rose)
     is_complete (finishes bytes s1 told given c run) s few gives no_fault no_write = inr (of_scene bytes s1 s told.0 given gives run)
     is_complete (stops bytes s1 told given c run) s few gives no_fault no_write = inr (of_scene bytes s1 s told.0 given gives run)
+    is_complete (breaks bytes s1 told given c run) s few gives no_fault no_write = inr (of_scene bytes s1 s told.0 given gives run)
 
     file_exact : Fate (Some all) → IsFileExact all r fx fy a b x y
     file_exact fate = record {
@@ -181,6 +208,7 @@ module _ (r : Report) (fx fy : ℕ) (a b : Option (List ℕ)) (x y : ℕ) where
       faulty = is_faulty fate;
       done = is_done fate;
       limit = is_limit fate;
+      abort = is_abort fate;
       complete = is_complete fate;
     }
 

@@ -3,11 +3,11 @@ use Rattle.std.specs.Prelude.{◌≡◌, ◌⊎◌, ℕ, ◌<◌, ◌≤◌, Lis
 use Rattle.so_io.specs.Count.{Rose}
 use Rattle.so_scene.specs.declared.parts.SceneParts.{SceneParts}
 use Rattle.so_scene.specs.declared.fault.SceneFault.{SceneFault}
-use Rattle.so_scene.specs.declared.fault.SceneFault.TheVariants.{NotJson, NotBuilt}
+use Rattle.so_scene.specs.Faults.{fault_words}
 use Rattle.so_history.specs.declared.lines.Mode.TheVariants.{Plain}
 use Rattle.so_history.specs.Kept.{Kept}
 use Rattle.so_env.specs.declared.outcome.Cause.{Cause}
-use Rattle.so_env.specs.declared.outcome.Cause.TheVariants.{Done, Usage, Limit, Scene, Read, Long, Write, Memory}
+use Rattle.so_env.specs.declared.outcome.Cause.TheVariants.{Done, Usage, Limit, Aborted, Scene, Read, Long, Write, Memory}
 use Rattle.so_env.specs.Prints.{Printed, HasRisen, IsSimulated}
 use Rattle.so_scene_json.specs.Scene.{scene_of}
 use Rattle.so_scene.specs.declared.fault.SceneRefusal.{SceneRefusal}
@@ -25,6 +25,7 @@ abbrev pub status_of : Cause → ℕ
 status_of Done = 0
 status_of (Usage k) = 2
 status_of Limit = 3
+status_of Aborted = 5
 status_of (Scene fault) = 65
 status_of Read = 66
 status_of Long = 66
@@ -36,16 +37,16 @@ abbrev pub refusal_cause : SceneRefusal → Cause
 refusal_cause (Fault fault) = Scene fault
 refusal_cause NoMemory = Memory
 
--- the line of a fault of the scene, with its place: the root
+-- the line of a fault of the scene, with its place
 abbrev pub fault_line : SceneFault → List ℕ
-fault_line NotJson = codes "sorun: scene: not_json\n"
-fault_line NotBuilt = codes "sorun: scene: not_built at /\n"
+fault_line fault = codes "sorun: scene: " ++ fault_words fault ++ codes "\n"
 
 -- the line of a cause, for a history of so many entries
 abbrev pub cause_line : Cause → ℕ → List ℕ
 cause_line Done n = []
 cause_line (Usage k) n = codes "sorun: usage error at word " ++ decimal k ++ codes "\n"
 cause_line Limit n = codes "sorun: limit reached after " ++ decimal n ++ codes " entries\n"
+cause_line Aborted n = codes "sorun: aborted\n"
 cause_line (Scene fault) n = fault_line fault
 cause_line Read n = codes "sorun: cannot read file\n"
 cause_line Long n = codes "sorun: file too long\n"

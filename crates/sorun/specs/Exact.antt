@@ -6,11 +6,12 @@ use Rattle.so_scene.specs.declared.parts.SceneParts.{SceneParts}
 use Rattle.so_scene.specs.declared.fault.SceneFault.{SceneFault}
 use Rattle.so_history.specs.declared.lines.Mode.TheVariants.{Plain}
 use Rattle.so_history.specs.Kept.{Kept}
-use Rattle.so_history.specs.Steps.{finished, Legal}
+use Rattle.so_history.specs.Steps.{finished, is_over, Legal}
+use Rattle.so_history.specs.Coops.{aborted}
 use Rattle.so_history.specs.Chain.{IsChain}
 use Rattle.so_history.specs.Facts.{HasFacts}
 use Rattle.so_history.specs.Text.{text}
-use Rattle.so_env.specs.declared.outcome.Cause.TheVariants.{Done, Usage, Limit, Scene, Read, Long, Write, Memory}
+use Rattle.so_env.specs.declared.outcome.Cause.TheVariants.{Done, Usage, Limit, Aborted, Scene, Read, Long, Write, Memory}
 use Rattle.so_history.specs.Chain.{StopsAtLimit}
 use Rattle.sorun.specs.Answers.{all_units, most_bytes}
 use Rattle.so_scene_json.specs.Scene.{scene_of}
@@ -24,7 +25,10 @@ pub record IsWhole (s : SceneParts) (r : Report) (a b : Option (List ℕ)) : Typ
   pub legal : Legal s kept.entries
   pub facts : HasFacts s kept.entries
   pub printed : Appends a b (text s Plain kept.entries)
-  pub cause : ((r.cause ≡ Done) × (finished s kept.entries ≡ true)) ⊎ ((r.cause ≡ Limit) × (finished s kept.entries ≡ false) × StopsAtLimit s all_units kept.entries)
+  pub cause :
+      ((r.cause ≡ Done) × (finished s kept.entries ≡ true))
+      ⊎ (((r.cause ≡ Aborted) × (finished s kept.entries ≡ false) × (aborted kept.entries ≡ true))
+      ⊎ ((r.cause ≡ Limit) × (is_over s kept.entries ≡ false) × StopsAtLimit s all_units kept.entries))
 
 -- the cause where the file's bytes are told
 pub record IsFileExact (bytes : List ℕ) (r : Report) (fx fy : ℕ) (a b : Option (List ℕ)) (x y : ℕ) : Type 0 where
@@ -33,6 +37,7 @@ pub record IsFileExact (bytes : List ℕ) (r : Report) (fx fy : ℕ) (a b : Opti
   pub faulty : (fault : SceneFault) → length bytes ≤ most_bytes → scene_of bytes ≡ Err fault → (r.cause ≡ Scene fault) ⊎ ((r.cause ≡ Read) ⊎ (r.cause ≡ Memory))
   pub done : (s : SceneParts) → scene_of bytes ≡ Ok s → r.cause ≡ Done → IsWhole s r a b
   pub limit : (s : SceneParts) → scene_of bytes ≡ Ok s → r.cause ≡ Limit → IsWhole s r a b
+  pub abort : (s : SceneParts) → scene_of bytes ≡ Ok s → r.cause ≡ Aborted → IsWhole s r a b
   pub complete : (s : SceneParts) → length bytes ≤ most_bytes → scene_of bytes ≡ Ok s → (Rose fx fy → ⊥) → (Rose x y → ⊥) → ((r.cause ≡ Memory) × (r.history ≡ None)) ⊎ IsWhole s r a b
 
 pub record IsExact (words : Result (List ℕ) ℕ) (told : List ℕ → Option (List ℕ)) (r : Report) (fx fy : ℕ) (a b : Option (List ℕ)) (x y : ℕ) : Type 0 where

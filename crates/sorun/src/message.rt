@@ -7,7 +7,7 @@ use so_env::Cause;
 use so_history::History;
 use so_io::{Sink, put_all};
 use so_lines::{LineBuf, put, put_word};
-use so_scene::SceneFault;
+use so_scene::{SceneFault, put_fault};
 
 /// How many entries a history has.
 pub(crate) fn entries_of(history: &Option<History>) -> u32
@@ -46,7 +46,8 @@ fn put_cause(line: &mut LineBuf, cause: &Cause, entries: u32)
             put_word(line, b"sorun: limit reached after ", entries);
             put(line, b" entries\n");
         }
-        Cause::Scene(fault) => put_fault(line, *fault),
+        Cause::Scene(fault) => put_scene_fault(line, fault),
+        Cause::Aborted => put(line, b"sorun: aborted\n"),
         Cause::Read => put(line, b"sorun: cannot read file\n"),
         Cause::Long => put(line, b"sorun: file too long\n"),
         Cause::Memory => put(line, b"sorun: out of memory\n"),
@@ -55,12 +56,11 @@ fn put_cause(line: &mut LineBuf, cause: &Cause, entries: u32)
 }
 
 /// Makes the line of a fault of the scene.
-fn put_fault(line: &mut LineBuf, fault: SceneFault)
+fn put_scene_fault(line: &mut LineBuf, fault: &SceneFault)
     requires { line.old.items ≡ [] }
-    ensures { line.new.items ≡ fault_line fault }
+    ensures { line.new.items ≡ fault_line fault.now }
 {
-    match fault {
-        SceneFault::NotJson => put(line, b"sorun: scene: not_json\n"),
-        SceneFault::NotBuilt => put(line, b"sorun: scene: not_built at /\n"),
-    }
+    put(line, b"sorun: scene: ");
+    put_fault(line, fault);
+    put(line, b"\n");
 }

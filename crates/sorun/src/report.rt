@@ -29,6 +29,7 @@ pub(crate) fn status_of(cause: &Cause) -> u8
         Cause::Done => 0,
         Cause::Usage(_) => 2,
         Cause::Limit => 3,
+        Cause::Aborted => 5,
         Cause::Scene(_) => 65,
         Cause::Read => 66,
         Cause::Long => 66,
