@@ -47,12 +47,12 @@ module _ (r : Report) (fx fy : ℕ) (a b : Option (List ℕ)) (x y : ℕ) where
     | inl over ↦ (let done : r.cause ≡ Done = cause ∙ rw over refl in
         finishes bytes s is given done record { kept = h; has = has; chain = run.chain; legal = run.legal; facts = has_facts s h.entries run.legal; printed = printed; cause = inl (done, over) })
     | inr going ↦ elim (cases_Bool (aborted h.entries)) [
-        | inl broken ↦ (let is_aborted : r.cause ≡ Aborted = cause ∙ rw (going, broken) refl in
-            breaks bytes s is given is_aborted record { kept = h; has = has; chain = run.chain; legal = run.legal; facts = has_facts s h.entries run.legal; printed = printed; cause = inr (inl (is_aborted, going, broken)) })
-        | inr unbroken ↦ (let limit : r.cause ≡ Limit = cause ∙ rw (going, unbroken) refl in
-            let open_end : is_over s h.entries ≡ false = rw (going, unbroken) refl in
-            stops bytes s is given limit record { kept = h; has = has; chain = run.chain; legal = run.legal; facts = has_facts s h.entries run.legal; printed = printed; cause = inr (inr (limit, open_end, run.at_limit open_end)) })
-      ]
+      | inl broken ↦ (let is_aborted : r.cause ≡ Aborted = cause ∙ rw (going, broken) refl in
+          breaks bytes s is given is_aborted record { kept = h; has = has; chain = run.chain; legal = run.legal; facts = has_facts s h.entries run.legal; printed = printed; cause = inr (inl (is_aborted, going, broken)) })
+      | inr unbroken ↦ (let limit : r.cause ≡ Limit = cause ∙ rw (going, unbroken) refl in
+          let open_end : is_over s h.entries ≡ false = rw (going, unbroken) refl in
+          stops bytes s is given limit record { kept = h; has = has; chain = run.chain; legal = run.legal; facts = has_facts s h.entries run.legal; printed = printed; cause = inr (inr (limit, open_end, run.at_limit open_end)) })
+    ]
   ]
 
   run_fate : (told : Option (List ℕ)) (bytes : List ℕ) (s : SceneParts) → IsToldBytes told bytes → scene_of bytes ≡ Ok s → (h : Option Kept) → r.history ≡ h → RunAnswers h s r.cause r.pieces a b x y → Fate told

@@ -21,6 +21,18 @@ const TWO: &str =
 const NUMBERS: &str =
     "{\"version\":1,\"coops\":[{\"name\":\"main\",\"agents\":[{\"name\":\"quiet\"},{\"name\":\"loud\",\"start\":[[\"log\",\"n\",-1,0,9223372036854775807],[\"log\",\"\"]]}]}]}";
 
+/// A message to another agent, which asks for a stop.
+const PING: &str =
+    "{\"version\":1,\"messages\":[{\"name\":\"ping\"}],\"coops\":[{\"name\":\"main\",\"agents\":[{\"name\":\"a\",\"start\":[[\"send\",\"b\",\"ping\",7]]},{\"name\":\"b\",\"on\":[{\"msg\":\"ping\",\"do\":[[\"log\",\"got\",\"m0\"],[\"stop\"]]}]}]}]}";
+
+/// An exception.
+const THROW: &str =
+    "{\"version\":1,\"coops\":[{\"name\":\"main\",\"agents\":[{\"name\":\"a\",\"start\":[[\"throw\",3]]}]}]}";
+
+/// A message to an agent that isn't there.
+const STRANGER: &str =
+    "{\"version\":1,\"messages\":[{\"name\":\"ping\"}],\"coops\":[{\"name\":\"main\",\"agents\":[{\"name\":\"a\",\"start\":[[\"send\",\"b\",\"ping\"]]}]}]}";
+
 /// A scene file, words, which writes fail, and what the program says.
 #[derive(Clone, Copy)]
 struct Case<'a> {
@@ -69,8 +81,23 @@ fn run(alloc: Global, texts: &[&str], bytes: &[u8], failing: &[u64]) -> Result<W
     Ok(Written { report, out, err })
 }
 
-fn cases() -> [Case<'static>; 13] {
+fn cases() -> [Case<'static>; 16] {
     [
+        told(&["sim", "s.json"], PING, 0, "b: got 7\n", ""),
+        told(
+            &["sim", "s.json"],
+            THROW,
+            5,
+            "abort: exception a thrown 3\n",
+            "sorun: aborted\n",
+        ),
+        told(
+            &["sim", "s.json"],
+            STRANGER,
+            65,
+            "",
+            "sorun: scene: unknown_name at /coops/0/agents/0/start/0\n",
+        ),
         told(&["sim", "s.json"], HELLO, 0, "hello: hello\n", ""),
         told(&["sim", "s.json"], TWO, 0, "b: up\na: up\n", ""),
         told(
@@ -113,7 +140,7 @@ fn cases() -> [Case<'static>; 13] {
             "{}",
             65,
             "",
-            "sorun: scene: not_built at /\n",
+            "sorun: scene: missing at /version\n",
         ),
         told(&[], HELLO, 2, "", "sorun: usage error at word 0\n"),
         told(
@@ -194,17 +221,17 @@ fn a_failed_write_leaves_the_whole_history(rt: HostRuntime) -> Result<(), Fail> 
 #[test]
 fn a_run_ends_where_its_units_do(rt: HostRuntime) -> Result<(), Fail> {
     let cases = [
-        (HELLO, 9, Cause::Limit, 7),
-        (HELLO, 10, Cause::Limit, 8),
-        (HELLO, 11, Cause::Done, 9),
-        (TWO, 17, Cause::Limit, 13),
-        (TWO, 18, Cause::Done, 14),
+        (HELLO, 9, false, 7),
+        (HELLO, 10, false, 8),
+        (HELLO, 11, true, 9),
+        (TWO, 17, false, 13),
+        (TWO, 18, true, 14),
     ];
-    for (file, units, cause, entries) in cases {
+    for (file, units, done, entries) in cases {
         let scene = read_scene(rt.alloc(), file.as_bytes()).map_err(|_| "no scene")?;
         let mut out = sink(rt.alloc(), &[])?;
         let outcome = simulate(rt.alloc(), &scene, units, Mode::Plain, &mut out);
-        assert_eq!(rt; outcome.cause, cause);
+        assert_eq!(rt; matches!(outcome.cause, Cause::Done), done);
         assert_eq!(rt; entries_of(&outcome.history), entries);
     }
     Ok(())
