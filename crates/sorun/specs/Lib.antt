@@ -1,4 +1,6 @@
 pub mod Words
+pub mod Commands
+pub mod Sentences
 pub mod Answers
 pub mod Exact
 pub mod Usage

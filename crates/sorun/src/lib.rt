@@ -2,6 +2,7 @@
 #![tactic(auto)]
 
 mod answer;
+mod commands;
 mod message;
 mod report;
 mod top;

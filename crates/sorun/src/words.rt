@@ -4,7 +4,7 @@ ghost use Rattle.std.specs.Prelude.{◌≡◌, Ok, Err, MatchResult};
 ghost use Rattle.sorun.specs.Words.{texts, is_file, file_of_words, after_sim, after_file};
 
 /// Tells whether a word names a file.
-fn is_file(word: &str) -> bool
+pub(crate) fn is_file(word: &str) -> bool
     ensures { result ≡ is_file word.now }
 {
     match word.as_bytes() {

@@ -1,0 +1,60 @@
+-- The sentences of the command line, and where words leave them.
+use Rattle.std.specs.Prelude.{◌≡◌, ◌⊎◌, ◌↔◌, ℕ, ◌+◌, ◌<◌, ◌≤◌, List, [], ◌∷◌, ◌++◌, length, take, Bool, true, false, Option, Some, None, unwrap_or, Result, Ok, Err, codes, decimal, IfSome}
+use Rattle.sorun.specs.Words.{is_file}
+use Rattle.sorun.specs.Commands.{Command, Check, Sim, most_limit, usual_limit, command_of}
+
+-- the option that sets a limit
+abbrev pub limit_word : ℕ → List ℕ
+limit_word n = codes "--limit=" ++ decimal n
+
+-- the words of an option, none where it isn't given
+abbrev pub trace_words : Bool → List (List ℕ)
+trace_words true = codes "--trace" ∷ []
+trace_words false = []
+
+abbrev pub limit_words : Option ℕ → List (List ℕ)
+limit_words (Some n) = limit_word n ∷ []
+limit_words None = []
+
+-- options, each at most once, in any order
+pub record AreOptions (trace : Bool) (limit : Option ℕ) (ws : List (List ℕ)) : Type 0 where
+  pub within : IfSome limit (λ n. n ≤ most_limit)
+  pub order : (ws ≡ trace_words trace ++ limit_words limit) ⊎ (ws ≡ limit_words limit ++ trace_words trace)
+
+-- a command's name, options and a file
+pub record IsOptioned (name file : List ℕ) (trace : Bool) (limit : ℕ) (ws : List (List ℕ)) : Type 0 where
+  pub options : List (List ℕ)
+  pub given : Option ℕ
+  pub are : AreOptions trace given options
+  pub limited : limit ≡ unwrap_or given usual_limit
+  pub is_file : is_file file ≡ true
+  pub is : ws ≡ name ∷ options ++ file ∷ []
+
+-- a command's name and a file
+pub record IsPlain (name file : List ℕ) (ws : List (List ℕ)) : Type 0 where
+  pub is_file : is_file file ≡ true
+  pub is : ws ≡ name ∷ file ∷ []
+
+-- the words say this command
+abbrev pub IsSentenceOf : Command → List (List ℕ) → Type 0
+IsSentenceOf (Check file) ws = IsPlain (codes "check") file ws
+IsSentenceOf (Sim file trace limit) ws = IsOptioned (codes "sim") file trace limit ws
+
+pub record IsSentence (ws : List (List ℕ)) : Type 0 where
+  pub command : Command
+  pub says : IsSentenceOf command ws
+
+-- with some more words they are a sentence
+pub record Begins (ws : List (List ℕ)) : Type 0 where
+  pub rest : List (List ℕ)
+  pub sentence : IsSentence (ws ++ rest)
+
+-- the words before this one begin a sentence, and with it they begin none, or there is no more and they are none
+pub record IsFaultAt (k : ℕ) (ws : List (List ℕ)) : Type 0 where
+  pub front : Begins (take k ws)
+  pub ends : ((k < length ws) × (Begins (take (k + 1) ws) → ⊥)) ⊎ ((k ≡ length ws) × (IsSentence ws → ⊥))
+
+-- `command_of` reads the sentences, and finds their faults
+pub record AreRead (ws : List (List ℕ)) : Type 0 where
+  pub sentence : (c : Command) → (command_of ws ≡ Ok c) ↔ IsSentenceOf c ws
+  pub fault : (k : ℕ) → (command_of ws ≡ Err k) ↔ IsFaultAt k ws
