@@ -1,7 +1,24 @@
 -- The options at the front of words.
-use Rattle.std.proofs.Common.{◌≡◌, ℕ, List, ◌∷◌, Option, Some, None, refl}
-use Rattle.sorun.specs.Commands.{with_option, options_of}
+use Rattle.std.proofs.Common.{◌≡◌, ◌⊎◌, inl, inr, ℕ, ◌≤◌, List, [], ◌∷◌, ◌++◌, length, take, Bool, true, false, Option, Some, None, refl, sym, ◌∙◌, ap, subst, codes, IfSome, if◌then◌else◌, append_assoc}
+use Rattle.std.specs.Str.{bytes_eq}
+use Rattle.std.proofs.lemmas.Bool.{cases_Bool}
+use Rattle.std.proofs.lemmas.List.{append-nil}
+use Rattle.std.proofs.lemmas.Option.{none-some, same_Some}
+use Rattle.std.proofs.lemmas.Slice.Eq.{bytes_eq-Decides}
+use Rattle.sorun.specs.Words.{is_file}
+use Rattle.sorun.specs.Commands.{with_option, options_of, no_options, with_limit, most_limit, count_of, limit_of}
+use Rattle.sorun.specs.Sentences.{AreOptions, trace_words, limit_words, limit_word}
 use Rattle.sorun.specs.declared.commands.Options.{Options}
+use Rattle.sorun.proofs.LimitLaws.{limit_is, limit-word}
+
+no_word : (w : List ℕ) (ws : List (List ℕ)) → w ∷ ws ≡ [] → ⊥
+no_word w ws is = cc
+
+first_is : (w v : List ℕ) (ws vs : List (List ℕ)) → w ∷ ws ≡ v ∷ vs → w ≡ v
+first_is w v ws vs is = cc
+
+both : (b : Bool) → b ≡ false → b ≡ true → ⊥
+both b off on = cc
 
 -- they end at a word that is none that may still come
 pub options_end : (o : Options) (w : List ℕ) (ws : List (List ℕ)) → with_option o w ≡ None → options_of o (w ∷ ws) ≡ (o, w ∷ ws)
@@ -12,3 +29,147 @@ options_end o w ws none = rw (none, options_of) refl
 pub options_go_on : (o more : Options) (w : List ℕ) (ws : List (List ℕ)) → with_option o w ≡ Some more → options_of o (w ∷ ws) ≡ options_of more ws
 unfolding options_of
 options_go_on o more w ws one = rw (one, options_of) refl
+
+abbrev options : Bool → Option ℕ → Options
+options trace limit = record { trace = trace; limit = limit }
+
+trace_adds : (limit : Option ℕ) → with_option (record { trace = false; limit = limit }) (codes "--trace") ≡ Some (record { trace = true; limit = limit })
+unfolding with_option
+trace_adds limit = refl
+
+limit_adds : (trace : Bool) (n : ℕ) → n ≤ most_limit → with_option (record { trace = trace; limit = None }) (limit_word n) ≡ Some (record { trace = trace; limit = Some n })
+unfolding with_option
+limit_adds trace n few = ap (with_limit (record { trace = trace; limit = None })) (limit-word n few)
+
+-- options given in either order are read
+trace_first : (trace : Bool) (limit : Option ℕ) (ws : List (List ℕ)) → IfSome limit (λ n. n ≤ most_limit) → options_of no_options ((trace_words trace ++ limit_words limit) ++ ws) ≡ options_of (record { trace = trace; limit = limit }) ws
+trace_first false None ws few = refl
+trace_first true None ws few = options_go_on no_options (record { trace = true; limit = None }) (codes "--trace") ws (trace_adds None)
+trace_first false (Some n) ws few = options_go_on no_options (record { trace = false; limit = Some n }) (limit_word n) ws (limit_adds false n few)
+trace_first true (Some n) ws few =
+    options_go_on no_options (record { trace = true; limit = None }) (codes "--trace") (limit_word n ∷ ws) (trace_adds None) ∙
+    options_go_on (record { trace = true; limit = None }) (record { trace = true; limit = Some n }) (limit_word n) ws (limit_adds true n few)
+
+limit_first : (trace : Bool) (limit : Option ℕ) (ws : List (List ℕ)) → IfSome limit (λ n. n ≤ most_limit) → options_of no_options ((limit_words limit ++ trace_words trace) ++ ws) ≡ options_of (record { trace = trace; limit = limit }) ws
+limit_first false None ws few = refl
+limit_first true None ws few = options_go_on no_options (record { trace = true; limit = None }) (codes "--trace") ws (trace_adds None)
+limit_first false (Some n) ws few = options_go_on no_options (record { trace = false; limit = Some n }) (limit_word n) ws (limit_adds false n few)
+limit_first true (Some n) ws few =
+    options_go_on no_options (record { trace = false; limit = Some n }) (limit_word n) (codes "--trace" ∷ ws) (limit_adds false n few) ∙
+    options_go_on (record { trace = false; limit = Some n }) (record { trace = true; limit = Some n }) (codes "--trace") ws (trace_adds (Some n))
+
+pub options_read : (trace : Bool) (limit : Option ℕ) (front ws : List (List ℕ)) → AreOptions trace limit front → options_of no_options (front ++ ws) ≡ options_of (record { trace = trace; limit = limit }) ws
+options_read trace limit front ws are = elim are.order [
+  | inl is ↦ ap (λ (vs : List (List ℕ)). options_of no_options (vs ++ ws)) is ∙ trace_first trace limit ws are.within
+  | inr is ↦ ap (λ (vs : List (List ℕ)). options_of no_options (vs ++ ws)) is ∙ limit_first trace limit ws are.within
+]
+
+-- there are as many words as options
+trace_count : (trace : Bool) (limit : Option ℕ) → length (trace_words trace ++ limit_words limit) ≡ count_of (record { trace = trace; limit = limit })
+trace_count false None = refl
+trace_count true None = refl
+trace_count false (Some n) = refl
+trace_count true (Some n) = refl
+
+limit_count : (trace : Bool) (limit : Option ℕ) → length (limit_words limit ++ trace_words trace) ≡ count_of (record { trace = trace; limit = limit })
+limit_count false None = refl
+limit_count true None = refl
+limit_count false (Some n) = refl
+limit_count true (Some n) = refl
+
+pub length-options : (trace : Bool) (limit : Option ℕ) (front : List (List ℕ)) → AreOptions trace limit front → length front ≡ count_of (record { trace = trace; limit = limit })
+length-options trace limit front are = elim are.order [
+  | inl is ↦ ap length is ∙ trace_count trace limit
+  | inr is ↦ ap length is ∙ limit_count trace limit
+]
+
+-- the words before an option that may still come are the other's
+no_trace : (limit : Option ℕ) (front : List (List ℕ)) → AreOptions false limit front → front ≡ limit_words limit
+no_trace limit front are = elim are.order [
+  | inl is ↦ is
+  | inr is ↦ is ∙ append-nil (limit_words limit)
+]
+
+no_limit : (trace : Bool) (front : List (List ℕ)) → AreOptions trace None front → front ≡ trace_words trace
+no_limit trace front are = elim are.order [
+  | inl is ↦ is ∙ append-nil (trace_words trace)
+  | inr is ↦ is
+]
+
+with_trace : (trace : Bool) (limit : Option ℕ) (more : Options) (front : List (List ℕ)) → AreOptions trace limit front → ◌≡◌ {A = Option Options} (if trace then None else Some (record { trace = true; limit = limit })) (Some more) → AreOptions more.trace more.limit (front ++ codes "--trace" ∷ [])
+with_trace true limit more front are is = absurd (none-some more is)
+with_trace false limit more front are is =
+    subst (λ (o : Options). AreOptions o.trace o.limit (front ++ codes "--trace" ∷ [])) (same_Some (options true limit) more is)
+    record { within = are.within; order = inr (ap (λ (vs : List (List ℕ)). vs ++ codes "--trace" ∷ []) (no_trace limit front are)) }
+
+with_limit_word : (trace : Bool) (limit : Option ℕ) (more : Options) (front : List (List ℕ)) (n : ℕ) → n ≤ most_limit → AreOptions trace limit front → with_limit (record { trace = trace; limit = limit }) (Some n) ≡ Some more → AreOptions more.trace more.limit (front ++ limit_word n ∷ [])
+with_limit_word trace (Some m) more front n few are is = absurd (none-some more is)
+with_limit_word trace None more front n few are is =
+    subst (λ (o : Options). AreOptions o.trace o.limit (front ++ limit_word n ∷ [])) (same_Some (options trace (Some n)) more is)
+    record { within = few; order = inl (ap (λ (vs : List (List ℕ)). vs ++ limit_word n ∷ []) (no_limit trace front are)) }
+
+with_given : (trace : Bool) (limit found : Option ℕ) (more : Options) (w : List ℕ) (front : List (List ℕ)) → limit_of w ≡ found → AreOptions trace limit front → with_limit (record { trace = trace; limit = limit }) found ≡ Some more → AreOptions more.trace more.limit (front ++ w ∷ [])
+with_given trace limit None more w front found are is = absurd (none-some more is)
+with_given trace limit (Some n) more w front found are is =
+    let parts = limit_is w n found in
+    subst (λ (v : List ℕ). AreOptions more.trace more.limit (front ++ v ∷ [])) (sym parts.1) (with_limit_word trace limit more front n parts.0 are is)
+
+options_more : (o more : Options) (w : List ℕ) (front : List (List ℕ)) → AreOptions o.trace o.limit front → with_option o w ≡ Some more → AreOptions more.trace more.limit (front ++ w ∷ [])
+unfolding with_option
+options_more o more w front are is = elim (cases_Bool (bytes_eq w (codes "--trace"))) [
+  | inl on ↦ subst (λ (v : List ℕ). AreOptions more.trace more.limit (front ++ v ∷ [])) (sym ((bytes_eq-Decides w (codes "--trace")).0 on)) (with_trace o.trace o.limit more front are (rw on at is))
+  | inr off ↦ with_given o.trace o.limit (limit_of w) more w front refl are (rw off at is)
+]
+
+-- the options at the front of words, the other words, and that what begins as those do holds no more
+pub record Split (start : Options) (front ws : List (List ℕ)) : Type 0 where
+  pub options : Options
+  pub before : List (List ℕ)
+  pub rest : List (List ℕ)
+  pub are : AreOptions options.trace options.limit (front ++ before)
+  pub is : ws ≡ before ++ rest
+  pub found : options_of start ws ≡ (options, rest)
+  pub ended : (vs : List (List ℕ)) → take 1 vs ≡ take 1 rest → options_of options vs ≡ (options, vs)
+
+none_left : (o : Options) (vs : List (List ℕ)) → take 1 vs ≡ [] → options_of o vs ≡ (o, vs)
+unfolding options_of
+none_left o [] is = refl
+none_left o (v ∷ vs) is = absurd (no_word v [] is)
+
+none_more : (o : Options) (w : List ℕ) (vs : List (List ℕ)) → with_option o w ≡ None → take 1 vs ≡ w ∷ [] → options_of o vs ≡ (o, vs)
+none_more o w [] none is = absurd (no_word w [] (sym is))
+none_more o w (v ∷ vs) none is = options_end o v vs (ap (with_option o) (first_is v w [] [] is) ∙ none)
+
+pub split : (o : Options) (front ws : List (List ℕ)) → AreOptions o.trace o.limit front → Split o front ws
+unfolding options_of
+split o front [] are = record {
+  options = o; before = []; rest = []; are = subst (AreOptions o.trace o.limit) (sym (append-nil front)) are; is = refl; found = refl;
+  ended = none_left o
+}
+split o front (w ∷ ws) are = elim (with_option o w) as (λ v. with_option o w ≡ v → Split o front (w ∷ ws)) [
+  | None ↦ λ none. record {
+      options = o; before = []; rest = w ∷ ws; are = subst (AreOptions o.trace o.limit) (sym (append-nil front)) are; is = refl;
+      found = options_end o w ws none; ended = λ vs first. none_more o w vs none first
+    }
+  | Some more ↦ λ one.
+      let s = split more (front ++ w ∷ []) ws (options_more o more w front are one) in
+      record {
+        options = s.options; before = w ∷ s.before; rest = s.rest;
+        are = subst (AreOptions s.options.trace s.options.limit) (append_assoc front (w ∷ []) s.before) s.are;
+        is = ap (λ (vs : List (List ℕ)). w ∷ vs) s.is; found = options_go_on o more w ws one ∙ s.found; ended = s.ended
+      }
+] refl
+
+-- a file is no option
+pub file-no_option : (o : Options) (file : List ℕ) → is_file file ≡ true → with_option o file ≡ None
+unfolding with_option
+file-no_option o file is =
+    let other : bytes_eq file (codes "--trace") ≡ false = elim (cases_Bool (bytes_eq file (codes "--trace"))) [
+      | inl on ↦ absurd (both (is_file file) (ap is_file ((bytes_eq-Decides file (codes "--trace")).0 on)) is)
+      | inr off ↦ off
+    ] in
+    let unlimited : limit_of file ≡ None = elim (limit_of file) as (λ v. limit_of file ≡ v → v ≡ None) [
+      | None ↦ λ none. refl
+      | Some n ↦ λ one. absurd (both (is_file file) (ap is_file (limit_is file n one).1) is)
+    ] refl in
+    rw other (ap (with_limit o) unlimited)
