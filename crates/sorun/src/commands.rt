@@ -2,7 +2,7 @@
 
 ghost use Rattle.std.specs.Prelude.{◌≡◌, ◌≤◌, ◌+◌, ℕ, ◌++◌, codes, decimal, Ok, Err, IfSome, IfNone, MatchResult};
 ghost use Rattle.sorun.specs.Words.{texts};
-ghost use Rattle.sorun.specs.Sentences.{limit_word};
+ghost use Rattle.sorun.specs.Sentences.{limit_word, AreRead};
 ghost use Rattle.sorun.specs.Commands.{meant, most_limit, no_options, with_limit, with_option, options_of, count_of, file_at, sim_after, command_of};
 
 use crate::words::is_file;
@@ -149,8 +149,12 @@ fn sim_of(words: &[String]) -> Result<Command<'_>, u32>
 
 /// The command of a sentence, or the place of the words' fault: the number, from 0, of the first
 /// word with which they begin no sentence, or how many words there are where they only lack more.
+#[tactic(auto, using(crate::proofs::FaultLaws::are_read))]
 pub(crate) fn command_of(words: &[String]) -> Result<Command<'_>, u32>
-    ensures { MatchResult result (λ c. command_of (texts words.now) ≡ Ok (meant c)) (λ k. command_of (texts words.now) ≡ Err k) }
+    ensures value { MatchResult result (λ c. command_of (texts words.now) ≡ Ok (meant c)) (λ k. command_of (texts words.now) ≡ Err k) }
+
+    // Exactly the sentences have a command, and exactly the first faulty word is the fault.
+    ensures read { AreRead (texts words.now) }
 {
     match words {
         [] => Err(0),
