@@ -5,6 +5,7 @@ mod answer;
 mod commands;
 mod message;
 mod report;
+mod summary;
 mod top;
 mod words;
 
