@@ -44,18 +44,21 @@ too_long front k j file (w ∷ ws) named a is =
     let len = length-append front (file ∷ w ∷ ws) in
     subst (λ (n : ℕ). IsFaultAt n (front ++ file ∷ w ∷ ws)) (err_is (k + 1) j is) record {
       front = subst Begins (sym (some_more front (file ∷ w ∷ ws) k 1 (k + 1) a.len refl)) record {
-        rest = []; sentence = subst IsSentence (sym (append-nil (front ++ file ∷ []))) (a.sentence file named)
+        rest = [];
+        sentence = subst IsSentence (sym (append-nil (front ++ file ∷ []))) (a.sentence file named);
       };
-      ends = inl (omega (arith, len, a.len),
+      ends = inl (
+        omega (arith, len, a.len),
         begins_none front (file ∷ w ∷ []) (file ∷ w ∷ ws) k (k + 1) (k + 1 + 1) a (λ rest. refl) (λ rest. rw named refl)
-        (some_more front (file ∷ w ∷ ws) k 2 (k + 1 + 1) a.len (omega arith)))
+            (some_more front (file ∷ w ∷ ws) k 2 (k + 1 + 1) a.len (omega arith)),
+      );
     }
 
 fault_after : (front ws : List (List ℕ)) (k j : ℕ) → Awaits front ws k → file_at k ws ≡ Err j → IsFaultAt j (front ++ ws)
 fault_after front [] k j a is =
     subst (λ (n : ℕ). IsFaultAt n (front ++ [])) (err_is k j is) record {
       front = front_begins front [] k a;
-      ends = inr (sym a.len ∙ ap length (sym (append-nil front)), a.refused [] k refl refl)
+      ends = inr (sym a.len ∙ ap length (sym (append-nil front)), a.refused [] k refl refl);
     }
 fault_after front (w ∷ ws) k j a is = elim (cases_Bool (is_file w)) [
   | inl named ↦ too_long front k j w ws named a (rw named at is)
@@ -63,8 +66,10 @@ fault_after front (w ∷ ws) k j a is = elim (cases_Bool (is_file w)) [
       let len = length-append front (w ∷ ws) in
       subst (λ (n : ℕ). IsFaultAt n (front ++ w ∷ ws)) (err_is k j (rw other at is)) record {
         front = front_begins front (w ∷ ws) k a;
-        ends = inl (omega (arith, len, a.len),
-          begins_none front (w ∷ []) (w ∷ ws) k k (k + 1) a (λ rest. refl) (λ rest. rw other refl) (some_more front (w ∷ ws) k 1 (k + 1) a.len refl))
+        ends = inl (
+          omega (arith, len, a.len),
+          begins_none front (w ∷ []) (w ∷ ws) k k (k + 1) a (λ rest. refl) (λ rest. rw other refl) (some_more front (w ∷ ws) k 1 (k + 1) a.len refl),
+        );
       }
 ]
 
@@ -73,7 +78,7 @@ check_awaits : (ws : List (List ℕ)) → Awaits (codes "check" ∷ []) ws 1
 check_awaits ws = record {
   len = refl;
   sentence = λ file named. record { command = Check file; says = record { is_file = named; is = refl } };
-  refused = λ vs j first is. no_sentence (codes "check" ∷ vs) j (ap check_of is)
+  refused = λ vs j first is. no_sentence (codes "check" ∷ vs) j (ap check_of is);
 }
 
 check_fault : (ws : List (List ℕ)) (k : ℕ) (r : Result (List ℕ) ℕ) → file_at 1 ws ≡ r → check_of r ≡ Err k → IsFaultAt k (codes "check" ∷ ws)
@@ -86,10 +91,10 @@ sim_awaits o before ws are ended = record {
   len = let len = length-options o.trace o.limit before are in omega (arith, len);
   sentence = λ file named. record {
     command = Sim file o.trace (unwrap_or o.limit usual_limit);
-    says = record { options = before; given = o.limit; are = are; limited = refl; is_file = named; is = refl }
+    says = record { options = before; given = o.limit; are = are; limited = refl; is_file = named; is = refl };
   };
   refused = λ vs j first is. no_sentence (codes "sim" ∷ before ++ vs) j
-    (ap sim_after (options_read o.trace o.limit before vs are ∙ ended vs first) ∙ ap (sim_of o) is)
+      (ap sim_after (options_read o.trace o.limit before vs are ∙ ended vs first) ∙ ap (sim_of o) is);
 }
 
 sim_file_fault : (o : Options) (before ws : List (List ℕ)) (k : ℕ) (r : Result (List ℕ) ℕ) → Awaits (codes "sim" ∷ before) ws (count_of o + 1) → file_at (count_of o + 1) ws ≡ r → sim_of o r ≡ Err k → IsFaultAt k (codes "sim" ∷ before ++ ws)
@@ -126,10 +131,10 @@ begins_fewer : (ws : List (List ℕ)) (j k : ℕ) → j ≤ k → Begins (take k
 begins_fewer ws j k few b = record {
   rest = drop j (take k ws) ++ b.rest;
   sentence = subst IsSentence
-    (ap (λ (vs : List (List ℕ)). vs ++ b.rest) (sym (take-append-drop j (take k ws))) ∙
-     append_assoc (take j (take k ws)) (drop j (take k ws)) b.rest ∙
-     ap (λ (vs : List (List ℕ)). vs ++ (drop j (take k ws) ++ b.rest)) (take-take j k ws few))
-    b.sentence
+      (ap (λ (vs : List (List ℕ)). vs ++ b.rest) (sym (take-append-drop j (take k ws))) ∙
+      append_assoc (take j (take k ws)) (drop j (take k ws)) b.rest ∙
+      ap (λ (vs : List (List ℕ)). vs ++ (drop j (take k ws) ++ b.rest)) (take-take j k ws few))
+      b.sentence;
 }
 
 within : (ws : List (List ℕ)) (k : ℕ) → IsFaultAt k ws → k ≤ length ws
@@ -162,5 +167,5 @@ is_fault ws k (Err j) is f = ap (λ (n : ℕ). Err n) (one_fault ws j k (fault w
 pub are_read : (ws : List (List ℕ)) → AreRead ws
 are_read ws = record {
   sentence = λ c. (says c ws, said c ws);
-  fault = λ k. (fault ws k, is_fault ws k (command_of ws) refl)
+  fault = λ k. (fault ws k, is_fault ws k (command_of ws) refl);
 }

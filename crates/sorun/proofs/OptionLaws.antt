@@ -143,20 +143,34 @@ none_more o w (v ∷ vs) none is = options_end o v vs (ap (with_option o) (first
 pub split : (o : Options) (front ws : List (List ℕ)) → AreOptions o.trace o.limit front → Split o front ws
 unfolding options_of
 split o front [] are = record {
-  options = o; before = []; rest = []; are = subst (AreOptions o.trace o.limit) (sym (append-nil front)) are; is = refl; found = refl;
-  ended = none_left o
+  options = o;
+  before = [];
+  rest = [];
+  are = subst (AreOptions o.trace o.limit) (sym (append-nil front)) are;
+  is = refl;
+  found = refl;
+  ended = none_left o;
 }
 split o front (w ∷ ws) are = elim (with_option o w) as (λ v. with_option o w ≡ v → Split o front (w ∷ ws)) [
   | None ↦ λ none. record {
-      options = o; before = []; rest = w ∷ ws; are = subst (AreOptions o.trace o.limit) (sym (append-nil front)) are; is = refl;
-      found = options_end o w ws none; ended = λ vs first. none_more o w vs none first
-    }
+    options = o;
+    before = [];
+    rest = w ∷ ws;
+    are = subst (AreOptions o.trace o.limit) (sym (append-nil front)) are;
+    is = refl;
+    found = options_end o w ws none;
+    ended = λ vs first. none_more o w vs none first;
+  }
   | Some more ↦ λ one.
       let s = split more (front ++ w ∷ []) ws (options_more o more w front are one) in
       record {
-        options = s.options; before = w ∷ s.before; rest = s.rest;
+        options = s.options;
+        before = w ∷ s.before;
+        rest = s.rest;
         are = subst (AreOptions s.options.trace s.options.limit) (append_assoc front (w ∷ []) s.before) s.are;
-        is = ap (λ (vs : List (List ℕ)). w ∷ vs) s.is; found = options_go_on o more w ws one ∙ s.found; ended = s.ended
+        is = ap (λ (vs : List (List ℕ)). w ∷ vs) s.is;
+        found = options_go_on o more w ws one ∙ s.found;
+        ended = s.ended;
       }
 ] refl
 
