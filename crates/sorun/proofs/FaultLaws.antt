@@ -7,8 +7,8 @@ use Rattle.std.proofs.lemmas.List.{append-nil, take_at, take-append-drop, take-t
 use Rattle.std.proofs.Math.Seq.{take-append-add}
 use Rattle.std.proofs.lemmas.Slice.Eq.{bytes_eq-Decides}
 use Rattle.sorun.specs.Words.{is_file}
-use Rattle.sorun.specs.Commands.{Command, Check, Sim, command_of, check_of, sim_of, sim_after, file_at, file_then, options_of, no_options, count_of, usual_limit}
-use Rattle.sorun.specs.Sentences.{AreOptions, IsSentenceOf, IsSentence, Begins, IsFaultAt, AreRead}
+use Rattle.sorun.specs.Commands.{Command, Check, Sim, command_of, plain, optioned, after_options, file_at, file_then, options_of, no_options, count_of, usual_limit}
+use Rattle.sorun.specs.Sentences.{AreOptions, IsPlain, IsOptioned, IsSentenceOf, IsSentence, Begins, IsFaultAt, AreRead}
 use Rattle.sorun.specs.declared.commands.Options.{Options}
 use Rattle.sorun.proofs.OptionLaws.{options_read, length-options, split}
 use Rattle.sorun.proofs.SentenceLaws.{says, said, no_sentence}
@@ -73,39 +73,45 @@ fault_after front (w ∷ ws) k j a is = elim (cases_Bool (is_file w)) [
       }
 ]
 
--- a file comes after `check`
-check_awaits : (ws : List (List ℕ)) → Awaits (codes "check" ∷ []) ws 1
-check_awaits ws = record {
+-- a file comes after the name of a command of a file alone
+plain_awaits : (name : List ℕ) (command : List ℕ → Command) (ws : List (List ℕ)) → ((file : List ℕ) (vs : List (List ℕ)) → IsPlain name file vs → IsSentenceOf (command file) vs) → ((vs : List (List ℕ)) → command_of (name ∷ vs) ≡ plain command (file_at 1 vs)) → Awaits (name ∷ []) ws 1
+plain_awaits name command ws says reads = record {
   len = refl;
-  sentence = λ file named. record { command = Check file; says = record { is_file = named; is = refl } };
-  refused = λ vs j first is. no_sentence (codes "check" ∷ vs) j (ap check_of is);
+  sentence = λ file named. record { command = command file; says = says file (name ∷ file ∷ []) record { is_file = named; is = refl } };
+  refused = λ vs j first is. no_sentence (name ∷ vs) j (reads vs ∙ ap (plain command) is)
 }
 
-check_fault : (ws : List (List ℕ)) (k : ℕ) (r : Result (List ℕ) ℕ) → file_at 1 ws ≡ r → check_of r ≡ Err k → IsFaultAt k (codes "check" ∷ ws)
-check_fault ws k (Ok file) found is = absurd (ok_no_err (Check file) k is)
-check_fault ws k (Err j) found is = fault_after (codes "check" ∷ []) ws 1 k (check_awaits ws) (found ∙ ap (λ (n : ℕ). Err n) (err_is {A = Command} j k is))
+plain_fault : (name : List ℕ) (command : List ℕ → Command) (ws : List (List ℕ)) (k : ℕ) (r : Result (List ℕ) ℕ) → Awaits (name ∷ []) ws 1 → file_at 1 ws ≡ r → plain command r ≡ Err k → IsFaultAt k (name ∷ ws)
+plain_fault name command ws k (Ok file) a found is = absurd (ok_no_err (command file) k is)
+plain_fault name command ws k (Err j) a found is = fault_after (name ∷ []) ws 1 k a (found ∙ ap (λ (n : ℕ). Err n) (err_is {A = Command} j k is))
 
--- and after `sim` and options
-sim_awaits : (o : Options) (before ws : List (List ℕ)) → AreOptions o.trace o.limit before → ((vs : List (List ℕ)) → take 1 vs ≡ take 1 ws → options_of o vs ≡ (o, vs)) → Awaits (codes "sim" ∷ before) ws (count_of o + 1)
-sim_awaits o before ws are ended = record {
+check_fault : (ws : List (List ℕ)) (k : ℕ) → plain Check (file_at 1 ws) ≡ Err k → IsFaultAt k (codes "check" ∷ ws)
+check_fault ws k is = plain_fault (codes "check") Check ws k (file_at 1 ws) (plain_awaits (codes "check") Check ws (λ file vs s. s) (λ vs. refl)) refl is
+
+-- and after the name and the options of one with options
+optioned_awaits : (name : List ℕ) (command : List ℕ → Bool → ℕ → Command) (o : Options) (before ws : List (List ℕ)) → ((file : List ℕ) (trace : Bool) (limit : ℕ) (vs : List (List ℕ)) → IsOptioned name file trace limit vs → IsSentenceOf (command file trace limit) vs) → ((vs : List (List ℕ)) → command_of (name ∷ vs) ≡ after_options command (options_of no_options vs)) → AreOptions o.trace o.limit before → ((vs : List (List ℕ)) → take 1 vs ≡ take 1 ws → options_of o vs ≡ (o, vs)) → Awaits (name ∷ before) ws (count_of o + 1)
+optioned_awaits name command o before ws says reads are ended = record {
   len = let len = length-options o.trace o.limit before are in omega (arith, len);
   sentence = λ file named. record {
-    command = Sim file o.trace (unwrap_or o.limit usual_limit);
-    says = record { options = before; given = o.limit; are = are; limited = refl; is_file = named; is = refl };
+    command = command file o.trace (unwrap_or o.limit usual_limit);
+    says = says file o.trace (unwrap_or o.limit usual_limit) (name ∷ before ++ file ∷ []) record { options = before; given = o.limit; are = are; limited = refl; is_file = named; is = refl }
   };
-  refused = λ vs j first is. no_sentence (codes "sim" ∷ before ++ vs) j
-      (ap sim_after (options_read o.trace o.limit before vs are ∙ ended vs first) ∙ ap (sim_of o) is);
+  refused = λ vs j first is. no_sentence (name ∷ before ++ vs) j
+    (reads (before ++ vs) ∙ ap (after_options command) (options_read o.trace o.limit before vs are ∙ ended vs first) ∙ ap (optioned command o) is)
 }
 
-sim_file_fault : (o : Options) (before ws : List (List ℕ)) (k : ℕ) (r : Result (List ℕ) ℕ) → Awaits (codes "sim" ∷ before) ws (count_of o + 1) → file_at (count_of o + 1) ws ≡ r → sim_of o r ≡ Err k → IsFaultAt k (codes "sim" ∷ before ++ ws)
-sim_file_fault o before ws k (Ok file) a found is = absurd (ok_no_err (Sim file o.trace (unwrap_or o.limit usual_limit)) k is)
-sim_file_fault o before ws k (Err j) a found is = fault_after (codes "sim" ∷ before) ws (count_of o + 1) k a (found ∙ ap (λ (n : ℕ). Err n) (err_is {A = Command} j k is))
+optioned_fault : (name : List ℕ) (command : List ℕ → Bool → ℕ → Command) (o : Options) (before ws : List (List ℕ)) (k : ℕ) (r : Result (List ℕ) ℕ) → Awaits (name ∷ before) ws (count_of o + 1) → file_at (count_of o + 1) ws ≡ r → optioned command o r ≡ Err k → IsFaultAt k (name ∷ before ++ ws)
+optioned_fault name command o before ws k (Ok file) a found is = absurd (ok_no_err (command file o.trace (unwrap_or o.limit usual_limit)) k is)
+optioned_fault name command o before ws k (Err j) a found is = fault_after (name ∷ before) ws (count_of o + 1) k a (found ∙ ap (λ (n : ℕ). Err n) (err_is {A = Command} j k is))
 
-sim_fault : (ws : List (List ℕ)) (k : ℕ) → sim_after (options_of no_options ws) ≡ Err k → IsFaultAt k (codes "sim" ∷ ws)
-sim_fault ws k is =
+after_options_fault : (name : List ℕ) (command : List ℕ → Bool → ℕ → Command) (ws : List (List ℕ)) (k : ℕ) → ((file : List ℕ) (trace : Bool) (limit : ℕ) (vs : List (List ℕ)) → IsOptioned name file trace limit vs → IsSentenceOf (command file trace limit) vs) → ((vs : List (List ℕ)) → command_of (name ∷ vs) ≡ after_options command (options_of no_options vs)) → after_options command (options_of no_options ws) ≡ Err k → IsFaultAt k (name ∷ ws)
+after_options_fault name command ws k says reads is =
     let s = split no_options [] ws record { within = tt; order = inl refl } in
-    subst (λ (vs : List (List ℕ)). IsFaultAt k (codes "sim" ∷ vs)) (sym s.is)
-    (sim_file_fault s.options s.before s.rest k (file_at (count_of s.options + 1) s.rest) (sim_awaits s.options s.before s.rest s.are s.ended) refl (sym (ap sim_after s.found) ∙ is))
+    subst (λ (vs : List (List ℕ)). IsFaultAt k (name ∷ vs)) (sym s.is)
+    (optioned_fault name command s.options s.before s.rest k (file_at (count_of s.options + 1) s.rest) (optioned_awaits name command s.options s.before s.rest says reads s.are s.ended) refl (sym (ap (after_options command) s.found) ∙ is))
+
+sim_fault : (ws : List (List ℕ)) (k : ℕ) → after_options Sim (options_of no_options ws) ≡ Err k → IsFaultAt k (codes "sim" ∷ ws)
+sim_fault ws k is = after_options_fault (codes "sim") Sim ws k (λ file trace limit vs s. s) (λ vs. refl) is
 
 begins_nothing : Begins []
 begins_nothing = record { rest = codes "check" ∷ codes "f" ∷ []; sentence = record { command = Check (codes "f"); says = record { is_file = refl; is = refl } } }
@@ -113,7 +119,7 @@ begins_nothing = record { rest = codes "check" ∷ codes "f" ∷ []; sentence = 
 no_name : (name : List ℕ) (ws : List (List ℕ)) → ((vs : List (List ℕ)) → command_of (name ∷ vs) ≡ Err 0) → IsFaultAt 0 (name ∷ ws)
 no_name name ws none = record { front = begins_nothing; ends = inl (omega arith, λ b. no_sentence (name ∷ b.rest) 0 (none b.rest) b.sentence) }
 
-named_fault : (name : List ℕ) (ws : List (List ℕ)) (k : ℕ) → bytes_eq name (codes "check") ≡ false → (if bytes_eq name (codes "sim") then sim_after (options_of no_options ws) else Err 0) ≡ Err k → IsFaultAt k (name ∷ ws)
+named_fault : (name : List ℕ) (ws : List (List ℕ)) (k : ℕ) → bytes_eq name (codes "check") ≡ false → (if bytes_eq name (codes "sim") then after_options Sim (options_of no_options ws) else Err 0) ≡ Err k → IsFaultAt k (name ∷ ws)
 named_fault name ws k unlike is = elim (cases_Bool (bytes_eq name (codes "sim"))) [
   | inl on ↦ subst (λ (v : List ℕ). IsFaultAt k (v ∷ ws)) (sym ((bytes_eq-Decides name (codes "sim")).0 on)) (sim_fault ws k (rw on at is))
   | inr off ↦ subst (λ (n : ℕ). IsFaultAt n (name ∷ ws)) (err_is {A = Command} 0 k (rw off at is)) (no_name name ws (λ vs. rw (unlike, off) refl))
@@ -122,7 +128,7 @@ named_fault name ws k unlike is = elim (cases_Bool (bytes_eq name (codes "sim"))
 pub fault : (ws : List (List ℕ)) (k : ℕ) → command_of ws ≡ Err k → IsFaultAt k ws
 fault [] k is = subst (λ (n : ℕ). IsFaultAt n []) (err_is {A = Command} 0 k is) record { front = begins_nothing; ends = inr (refl, no_sentence [] 0 refl) }
 fault (name ∷ ws) k is = elim (cases_Bool (bytes_eq name (codes "check"))) [
-  | inl on ↦ subst (λ (v : List ℕ). IsFaultAt k (v ∷ ws)) (sym ((bytes_eq-Decides name (codes "check")).0 on)) (check_fault ws k (file_at 1 ws) refl (rw on at is))
+  | inl on ↦ subst (λ (v : List ℕ). IsFaultAt k (v ∷ ws)) (sym ((bytes_eq-Decides name (codes "check")).0 on)) (check_fault ws k (rw on at is))
   | inr off ↦ named_fault name ws k off (rw off at is)
 ]
 

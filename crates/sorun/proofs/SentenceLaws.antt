@@ -7,13 +7,10 @@ use Rattle.std.proofs.lemmas.List.{append-nil, take_at, take-append-drop}
 use Rattle.std.proofs.Math.Seq.{take-append-add}
 use Rattle.std.proofs.lemmas.Slice.Eq.{bytes_eq-Decides}
 use Rattle.sorun.specs.Words.{is_file}
-use Rattle.sorun.specs.Commands.{Command, Check, Sim, command_of, check_of, sim_of, sim_after, file_at, file_then, options_of, no_options, count_of, usual_limit}
+use Rattle.sorun.specs.Commands.{Command, Check, Sim, command_of, plain, optioned, after_options, file_at, file_then, options_of, no_options, count_of, usual_limit}
 use Rattle.sorun.specs.Sentences.{AreOptions, IsPlain, IsOptioned, IsSentenceOf, IsSentence, Begins, IsFaultAt, AreRead}
 use Rattle.sorun.specs.declared.commands.Options.{Options}
 use Rattle.sorun.proofs.OptionLaws.{options_read, length-options, Split, split, file-no_option, options_end}
-
-Words : Type 0
-Words = List (List ℕ)
 
 both : (b : Bool) → b ≡ false → b ≡ true → ⊥
 both b off on = cc
@@ -46,53 +43,57 @@ file_last k file (f ∷ ws) is = elim (cases_Bool (is_file f)) [
 last-file : (k : ℕ) (file : List ℕ) → is_file file ≡ true → file_at k (file ∷ []) ≡ Ok file
 last-file k file named = rw named refl
 
--- what `check` reads it says
-check_says : (c : Command) (ws : List (List ℕ)) (r : Result (List ℕ) ℕ) → file_at 1 ws ≡ r → check_of r ≡ Ok c → IsSentenceOf c (codes "check" ∷ ws)
-check_says c ws (Err k) found is = absurd (ok_no_err c k (sym is))
-check_says c ws (Ok file) found is =
+-- what a command of a file alone reads it says
+plain_says : (name : List ℕ) (command : List ℕ → Command) (c : Command) (ws : List (List ℕ)) (r : Result (List ℕ) ℕ) → ((file : List ℕ) → IsPlain name file (name ∷ ws) → IsSentenceOf (command file) (name ∷ ws)) → file_at 1 ws ≡ r → plain command r ≡ Ok c → IsSentenceOf c (name ∷ ws)
+plain_says name command c ws (Err k) says found is = absurd (ok_no_err c k (sym is))
+plain_says name command c ws (Ok file) says found is =
     let last = file_last 1 file ws found in
-    subst (λ (d : Command). IsSentenceOf d (codes "check" ∷ ws)) (ok_is (Check file) c is) record { is_file = last.is_file; is = ap (λ (vs : List (List ℕ)). codes "check" ∷ vs) last.is }
+    subst (λ (d : Command). IsSentenceOf d (name ∷ ws)) (ok_is (command file) c is)
+    (says file record { is_file = last.is_file; is = ap (λ (vs : List (List ℕ)). name ∷ vs) last.is })
 
--- what `sim` reads it says
-sim_file_says : (c : Command) (o : Options) (before rest : List (List ℕ)) (r : Result (List ℕ) ℕ) → AreOptions o.trace o.limit before → file_at (count_of o + 1) rest ≡ r → sim_of o r ≡ Ok c → IsSentenceOf c (codes "sim" ∷ before ++ rest)
-sim_file_says c o before rest (Err k) are found is = absurd (ok_no_err c k (sym is))
-sim_file_says c o before rest (Ok file) are found is =
+-- and what one with options reads
+optioned_says : (name : List ℕ) (command : List ℕ → Bool → ℕ → Command) (c : Command) (o : Options) (before rest : List (List ℕ)) (r : Result (List ℕ) ℕ) → ((file : List ℕ) (trace : Bool) (limit : ℕ) → IsOptioned name file trace limit (name ∷ before ++ rest) → IsSentenceOf (command file trace limit) (name ∷ before ++ rest)) → AreOptions o.trace o.limit before → file_at (count_of o + 1) rest ≡ r → optioned command o r ≡ Ok c → IsSentenceOf c (name ∷ before ++ rest)
+optioned_says name command c o before rest (Err k) says are found is = absurd (ok_no_err c k (sym is))
+optioned_says name command c o before rest (Ok file) says are found is =
     let last = file_last (count_of o + 1) file rest found in
-    subst (λ (d : Command). IsSentenceOf d (codes "sim" ∷ before ++ rest)) (ok_is (Sim file o.trace (unwrap_or o.limit usual_limit)) c is)
-    record { options = before; given = o.limit; are = are; limited = refl; is_file = last.is_file; is = ap (λ (vs : List (List ℕ)). codes "sim" ∷ before ++ vs) last.is }
+    subst (λ (d : Command). IsSentenceOf d (name ∷ before ++ rest)) (ok_is (command file o.trace (unwrap_or o.limit usual_limit)) c is)
+    (says file o.trace (unwrap_or o.limit usual_limit)
+      record { options = before; given = o.limit; are = are; limited = refl; is_file = last.is_file; is = ap (λ (vs : List (List ℕ)). name ∷ before ++ vs) last.is })
 
-no_front : AreOptions false None []
-no_front = record { within = tt; order = inl refl }
-
-sim_says : (c : Command) (ws : List (List ℕ)) → sim_after (options_of no_options ws) ≡ Ok c → IsSentenceOf c (codes "sim" ∷ ws)
-sim_says c ws is =
-    let s = split no_options [] ws no_front in
-    subst (λ (vs : List (List ℕ)). IsSentenceOf c (codes "sim" ∷ vs)) (sym s.is)
-    (sim_file_says c s.options s.before s.rest (file_at (count_of s.options + 1) s.rest) s.are refl (sym (ap sim_after s.found) ∙ is))
+after_options_says : (name : List ℕ) (command : List ℕ → Bool → ℕ → Command) (c : Command) (ws : List (List ℕ)) → ((file : List ℕ) (trace : Bool) (limit : ℕ) (vs : List (List ℕ)) → IsOptioned name file trace limit vs → IsSentenceOf (command file trace limit) vs) → after_options command (options_of no_options ws) ≡ Ok c → IsSentenceOf c (name ∷ ws)
+after_options_says name command c ws says is =
+    let s = split no_options [] ws record { within = tt; order = inl refl } in
+    subst (λ (vs : List (List ℕ)). IsSentenceOf c (name ∷ vs)) (sym s.is)
+    (optioned_says name command c s.options s.before s.rest (file_at (count_of s.options + 1) s.rest) (λ file trace limit. says file trace limit (name ∷ s.before ++ s.rest)) s.are refl (sym (ap (after_options command) s.found) ∙ is))
 
 -- the command that was read is said
-named_says : (c : Command) (name : List ℕ) (ws : List (List ℕ)) → (if bytes_eq name (codes "sim") then sim_after (options_of no_options ws) else Err 0) ≡ Ok c → IsSentenceOf c (name ∷ ws)
+named_says : (c : Command) (name : List ℕ) (ws : List (List ℕ)) → (if bytes_eq name (codes "sim") then after_options Sim (options_of no_options ws) else Err 0) ≡ Ok c → IsSentenceOf c (name ∷ ws)
 named_says c name ws is = elim (cases_Bool (bytes_eq name (codes "sim"))) [
-  | inl on ↦ subst (λ (v : List ℕ). IsSentenceOf c (v ∷ ws)) (sym ((bytes_eq-Decides name (codes "sim")).0 on)) (sim_says c ws (rw on at is))
+  | inl on ↦ subst (λ (v : List ℕ). IsSentenceOf c (v ∷ ws)) (sym ((bytes_eq-Decides name (codes "sim")).0 on)) (after_options_says (codes "sim") Sim c ws (λ file trace limit vs s. s) (rw on at is))
   | inr off ↦ absurd (ok_no_err c 0 (sym (rw off at is)))
 ]
 
 pub says : (c : Command) (ws : List (List ℕ)) → command_of ws ≡ Ok c → IsSentenceOf c ws
 says c [] is = absurd (ok_no_err c 0 (sym is))
 says c (name ∷ ws) is = elim (cases_Bool (bytes_eq name (codes "check"))) [
-  | inl on ↦ subst (λ (v : List ℕ). IsSentenceOf c (v ∷ ws)) (sym ((bytes_eq-Decides name (codes "check")).0 on)) (check_says c ws (file_at 1 ws) refl (rw on at is))
+  | inl on ↦ subst (λ (v : List ℕ). IsSentenceOf c (v ∷ ws)) (sym ((bytes_eq-Decides name (codes "check")).0 on)) (plain_says (codes "check") Check c ws (file_at 1 ws) (λ file s. s) refl (rw on at is))
   | inr off ↦ named_says c name ws (rw off at is)
 ]
 
--- the command that is said is read
-pub said : (c : Command) (ws : List (List ℕ)) → IsSentenceOf c ws → command_of ws ≡ Ok c
-said (Check file) ws s = ap command_of s.is ∙ ap check_of (last-file 1 file s.is_file)
-said (Sim file trace limit) ws s =
+-- a command that is said with options is read
+optioned_said : (command : List ℕ → Bool → ℕ → Command) (name file : List ℕ) (trace : Bool) (limit : ℕ) (ws : List (List ℕ)) → ((vs : List (List ℕ)) → command_of (name ∷ vs) ≡ after_options command (options_of no_options vs)) → IsOptioned name file trace limit ws → command_of ws ≡ Ok (command file trace limit)
+optioned_said command name file trace limit ws reads s =
     let o : Options = record { trace = trace; limit = s.given } in
     ap command_of s.is ∙
-    ap sim_after (options_read trace s.given s.options (file ∷ []) s.are ∙ options_end o file [] (file-no_option o file s.is_file)) ∙
-    ap (sim_of o) (last-file (count_of o + 1) file s.is_file) ∙
-    ap (λ (n : ℕ). Ok (Sim file trace n)) (sym s.limited)
+    reads (s.options ++ file ∷ []) ∙
+    ap (after_options command) (options_read trace s.given s.options (file ∷ []) s.are ∙ options_end o file [] (file-no_option o file s.is_file)) ∙
+    ap (optioned command o) (last-file (count_of o + 1) file s.is_file) ∙
+    ap (λ (n : ℕ). Ok (command file trace n)) (sym s.limited)
+
+-- the command that is said is read
+pub said : (c : Command) (ws : List (List ℕ)) → IsSentenceOf c ws → command_of ws ≡ Ok c
+said (Check file) ws s = ap command_of s.is ∙ ap (plain Check) (last-file 1 file s.is_file)
+said (Sim file trace limit) ws s = optioned_said Sim (codes "sim") file trace limit ws (λ vs. refl) s
 
 -- words that are read as a fault are no sentence
 pub no_sentence : (ws : List (List ℕ)) (k : ℕ) → command_of ws ≡ Err k → IsSentence ws → ⊥

@@ -58,30 +58,33 @@ options_of options (w ∷ ws) = elim (with_option options w) [ None ↦ (options
 abbrev pub count_of : Options → ℕ
 count_of options = (if options.trace then 1 else 0) + (if is_some options.limit then 1 else 0)
 
--- the word at k, where it is a file and the last word
+-- a file before these words: it is to be the last word
 abbrev pub file_then : ℕ → List ℕ → List (List ℕ) → Result (List ℕ) ℕ
 file_then k file [] = Ok file
 file_then k file (w ∷ ws) = Err (k + 1)
 
+-- the file that the words from place k on are, or the place of their fault
 abbrev pub file_at : ℕ → List (List ℕ) → Result (List ℕ) ℕ
 file_at k [] = Err k
 file_at k (file ∷ ws) = if is_file file then file_then k file ws else Err k
 
-abbrev pub check_of : Result (List ℕ) ℕ → Result Command ℕ
-check_of (Ok file) = Ok (Check file)
-check_of (Err k) = Err k
+-- a command of a file alone
+abbrev pub plain : (List ℕ → Command) → Result (List ℕ) ℕ → Result Command ℕ
+plain command (Ok file) = Ok (command file)
+plain command (Err k) = Err k
 
-abbrev pub sim_of : Options → Result (List ℕ) ℕ → Result Command ℕ
-sim_of options (Ok file) = Ok (Sim file options.trace (unwrap_or options.limit usual_limit))
-sim_of options (Err k) = Err k
+-- a command of a file with options
+abbrev pub optioned : (List ℕ → Bool → ℕ → Command) → Options → Result (List ℕ) ℕ → Result Command ℕ
+optioned command options (Ok file) = Ok (command file options.trace (unwrap_or options.limit usual_limit))
+optioned command options (Err k) = Err k
 
--- a command of the words after `sim`, with its options and its file
-abbrev pub sim_after : Options × List (List ℕ) → Result Command ℕ
-sim_after (options, ws) = sim_of options (file_at (count_of options + 1) ws)
+-- and of the words that follow its name and its options
+abbrev pub after_options : (List ℕ → Bool → ℕ → Command) → Options × List (List ℕ) → Result Command ℕ
+after_options command (options, ws) = optioned command options (file_at (count_of options + 1) ws)
 
 -- the command of a sentence, or the number of the first word with which the words begin none, or how many there are where they only lack more
 abbrev pub command_of : List (List ℕ) → Result Command ℕ
 command_of [] = Err 0
 command_of (name ∷ ws) =
-    if bytes_eq name (codes "check") then check_of (file_at 1 ws) else
-    if bytes_eq name (codes "sim") then sim_after (options_of no_options ws) else Err 0
+    if bytes_eq name (codes "check") then plain Check (file_at 1 ws) else
+    if bytes_eq name (codes "sim") then after_options Sim (options_of no_options ws) else Err 0

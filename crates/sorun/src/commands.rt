@@ -3,7 +3,7 @@
 ghost use Rattle.std.specs.Prelude.{◌≡◌, ◌≤◌, ◌+◌, ℕ, ◌++◌, codes, decimal, Ok, Err, IfSome, IfNone, MatchResult};
 ghost use Rattle.sorun.specs.Words.{texts};
 ghost use Rattle.sorun.specs.Sentences.{limit_word, AreRead};
-ghost use Rattle.sorun.specs.Commands.{meant, most_limit, no_options, with_limit, with_option, options_of, count_of, file_at, sim_after, command_of};
+ghost use Rattle.sorun.specs.Commands.{Sim, meant, most_limit, no_options, with_limit, with_option, options_of, count_of, file_at, after_options, command_of};
 
 use crate::words::is_file;
 use itoa::Buffer;
@@ -141,7 +141,7 @@ fn file_at(place: u32, words: &[String]) -> Result<&str, u32>
 
 /// The command of the words after `sim`.
 fn sim_of(words: &[String]) -> Result<Command<'_>, u32>
-    ensures { MatchResult result (λ c. sim_after (options_of no_options (texts words.now)) ≡ Ok (meant c)) (λ k. sim_after (options_of no_options (texts words.now)) ≡ Err k) }
+    ensures { MatchResult result (λ c. after_options Sim (options_of no_options (texts words.now)) ≡ Ok (meant c)) (λ k. after_options Sim (options_of no_options (texts words.now)) ≡ Err k) }
 {
     let (options, rest) = options_of(Options::NONE, words);
     let file = file_at(options.count() + 1, rest)?;
