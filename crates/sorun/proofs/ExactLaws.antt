@@ -9,12 +9,11 @@ use Rattle.so_history.specs.declared.lines.Mode.TheVariants.{Plain}
 use Rattle.so_history.specs.Kept.{Kept}
 use Rattle.so_history.specs.Steps.{finished}
 use Rattle.so_history.specs.Text.{text}
-use Rattle.so_history.specs.Facts.{HasFacts}
 use Rattle.so_history.proofs.FactLaws.{has_facts}
 use Rattle.so_env.specs.declared.outcome.Cause.{Cause}
 use Rattle.so_env.specs.declared.outcome.Cause.TheVariants.{Done, Usage, Limit, Scene, Read, Long, Write, Memory}
 use Rattle.so_env.specs.Prints.{Printed, HasRisen, IsSimulated, cause_of}
-use Rattle.sorun.specs.Answers.{all_units, most_bytes, IsRefused, IsRun, RunAnswers, SceneAnswers, FileAnswers, could_not_read, too_long, wanting, was_read, WordsAnswers}
+use Rattle.sorun.specs.Answers.{all_units, most_bytes, IsRun, RunAnswers, SceneAnswers, FileAnswers, could_not_read, too_long, wanting, was_read, WordsAnswers}
 use Rattle.sorun.specs.Exact.{IsWhole, IsFileExact, IsExact, FactsOf, RunHasFacts}
 use Rattle.so_scene_json.specs.Scene.{scene_of}
 use Rattle.sorun.specs.declared.report.Report.{Report}

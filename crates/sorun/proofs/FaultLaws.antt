@@ -1,6 +1,6 @@
 -- Where words leave the sentences.
-use Rattle.std.proofs.Common.{◌≡◌, ◌⊎◌, inl, inr, ℕ, ◌+◌, ◌<◌, ◌≤◌, List, [], ◌∷◌, ◌++◌, length, take, drop, Bool, true, false, Option, Some, None, Result, Ok, Err, refl, sym, ◌∙◌, ap, subst, codes, if◌then◌else◌, append_assoc, length-append, arith}
-use Rattle.std.specs.Prelude.{unwrap_or, ◌↔◌}
+use Rattle.std.proofs.Common.{◌≡◌, inl, inr, ℕ, ◌+◌, ◌<◌, ◌≤◌, List, [], ◌∷◌, ◌++◌, length, take, drop, Bool, true, false, Result, Ok, Err, refl, sym, ◌∙◌, ap, subst, codes, if◌then◌else◌, append_assoc, length-append, arith}
+use Rattle.std.specs.Prelude.{unwrap_or}
 use Rattle.std.specs.Str.{bytes_eq}
 use Rattle.std.proofs.lemmas.Bool.{cases_Bool, cases_lt, cases_eq}
 use Rattle.std.proofs.lemmas.List.{append-nil, take_at, take-append-drop, take-take}
@@ -8,10 +8,10 @@ use Rattle.std.proofs.Math.Seq.{take-append-add}
 use Rattle.std.proofs.lemmas.Slice.Eq.{bytes_eq-Decides}
 use Rattle.sorun.specs.Words.{is_file}
 use Rattle.sorun.specs.Commands.{Command, Check, Sim, command_of, plain, optioned, after_options, file_at, file_then, options_of, no_options, count_of, usual_limit}
-use Rattle.sorun.specs.Sentences.{AreOptions, IsPlain, IsOptioned, IsSentenceOf, IsSentence, Begins, IsFaultAt, AreRead}
+use Rattle.sorun.specs.Sentences.{AreOptions, IsSentence, Begins, IsFaultAt, AreRead}
 use Rattle.sorun.specs.declared.commands.Options.{Options}
-use Rattle.sorun.proofs.OptionLaws.{options_read, length-options, split}
-use Rattle.sorun.proofs.SentenceLaws.{says, said, no_sentence}
+use Rattle.sorun.proofs.OptionLaws.{no_front, options_read, length-options, split}
+use Rattle.sorun.proofs.SentenceLaws.{IsPlainRow, IsOptionedRow, check_row, sim_row, says, said, no_sentence}
 
 err_is : {A : Type 0} (j k : ℕ) → ◌≡◌ {A = Result A ℕ} (Err j) (Err k) → j ≡ k
 err_is j k is = cc
@@ -74,44 +74,40 @@ fault_after front (w ∷ ws) k j a is = elim (cases_Bool (is_file w)) [
 ]
 
 -- a file comes after the name of a command of a file alone
-plain_awaits : (name : List ℕ) (command : List ℕ → Command) (ws : List (List ℕ)) → ((file : List ℕ) (vs : List (List ℕ)) → IsPlain name file vs → IsSentenceOf (command file) vs) → ((vs : List (List ℕ)) → command_of (name ∷ vs) ≡ plain command (file_at 1 vs)) → Awaits (name ∷ []) ws 1
-plain_awaits name command ws says reads = record {
+plain_awaits : (name : List ℕ) (command : List ℕ → Command) (ws : List (List ℕ)) → IsPlainRow name command → Awaits (name ∷ []) ws 1
+plain_awaits name command ws row = record {
   len = refl;
-  sentence = λ file named. record { command = command file; says = says file (name ∷ file ∷ []) record { is_file = named; is = refl } };
-  refused = λ vs j first is. no_sentence (name ∷ vs) j (reads vs ∙ ap (plain command) is)
+  sentence = λ file named. record { command = command file; says = row.says file (name ∷ file ∷ []) record { is_file = named; is = refl } };
+  refused = λ vs j first is. no_sentence (name ∷ vs) j (row.reads vs ∙ ap (plain command) is);
 }
 
 plain_fault : (name : List ℕ) (command : List ℕ → Command) (ws : List (List ℕ)) (k : ℕ) (r : Result (List ℕ) ℕ) → Awaits (name ∷ []) ws 1 → file_at 1 ws ≡ r → plain command r ≡ Err k → IsFaultAt k (name ∷ ws)
 plain_fault name command ws k (Ok file) a found is = absurd (ok_no_err (command file) k is)
 plain_fault name command ws k (Err j) a found is = fault_after (name ∷ []) ws 1 k a (found ∙ ap (λ (n : ℕ). Err n) (err_is {A = Command} j k is))
 
-check_fault : (ws : List (List ℕ)) (k : ℕ) → plain Check (file_at 1 ws) ≡ Err k → IsFaultAt k (codes "check" ∷ ws)
-check_fault ws k is = plain_fault (codes "check") Check ws k (file_at 1 ws) (plain_awaits (codes "check") Check ws (λ file vs s. s) (λ vs. refl)) refl is
-
 -- and after the name and the options of one with options
-optioned_awaits : (name : List ℕ) (command : List ℕ → Bool → ℕ → Command) (o : Options) (before ws : List (List ℕ)) → ((file : List ℕ) (trace : Bool) (limit : ℕ) (vs : List (List ℕ)) → IsOptioned name file trace limit vs → IsSentenceOf (command file trace limit) vs) → ((vs : List (List ℕ)) → command_of (name ∷ vs) ≡ after_options command (options_of no_options vs)) → AreOptions o.trace o.limit before → ((vs : List (List ℕ)) → take 1 vs ≡ take 1 ws → options_of o vs ≡ (o, vs)) → Awaits (name ∷ before) ws (count_of o + 1)
-optioned_awaits name command o before ws says reads are ended = record {
-  len = let len = length-options o.trace o.limit before are in omega (arith, len);
-  sentence = λ file named. record {
-    command = command file o.trace (unwrap_or o.limit usual_limit);
-    says = says file o.trace (unwrap_or o.limit usual_limit) (name ∷ before ++ file ∷ []) record { options = before; given = o.limit; are = are; limited = refl; is_file = named; is = refl }
-  };
-  refused = λ vs j first is. no_sentence (name ∷ before ++ vs) j
-    (reads (before ++ vs) ∙ ap (after_options command) (options_read o.trace o.limit before vs are ∙ ended vs first) ∙ ap (optioned command o) is)
-}
+optioned_awaits : (name : List ℕ) (command : List ℕ → Bool → ℕ → Command) (o : Options) (before ws : List (List ℕ)) → IsOptionedRow name command → AreOptions o.trace o.limit before → ((vs : List (List ℕ)) → take 1 vs ≡ take 1 ws → options_of o vs ≡ (o, vs)) → Awaits (name ∷ before) ws (count_of o + 1)
+optioned_awaits name command o before ws row are ended =
+    let limit = unwrap_or o.limit usual_limit in
+    record {
+      len = let len = length-options o.trace o.limit before are in omega (arith, len);
+      sentence = λ file named. record {
+        command = command file o.trace limit;
+        says = row.says file o.trace limit (name ∷ before ++ file ∷ []) record { options = before; given = o.limit; are = are; limited = refl; is_file = named; is = refl };
+      };
+      refused = λ vs j first is. no_sentence (name ∷ before ++ vs) j
+          (row.reads (before ++ vs) ∙ ap (after_options command) (options_read o.trace o.limit before vs are ∙ ended vs first) ∙ ap (optioned command o) is);
+    }
 
 optioned_fault : (name : List ℕ) (command : List ℕ → Bool → ℕ → Command) (o : Options) (before ws : List (List ℕ)) (k : ℕ) (r : Result (List ℕ) ℕ) → Awaits (name ∷ before) ws (count_of o + 1) → file_at (count_of o + 1) ws ≡ r → optioned command o r ≡ Err k → IsFaultAt k (name ∷ before ++ ws)
 optioned_fault name command o before ws k (Ok file) a found is = absurd (ok_no_err (command file o.trace (unwrap_or o.limit usual_limit)) k is)
 optioned_fault name command o before ws k (Err j) a found is = fault_after (name ∷ before) ws (count_of o + 1) k a (found ∙ ap (λ (n : ℕ). Err n) (err_is {A = Command} j k is))
 
-after_options_fault : (name : List ℕ) (command : List ℕ → Bool → ℕ → Command) (ws : List (List ℕ)) (k : ℕ) → ((file : List ℕ) (trace : Bool) (limit : ℕ) (vs : List (List ℕ)) → IsOptioned name file trace limit vs → IsSentenceOf (command file trace limit) vs) → ((vs : List (List ℕ)) → command_of (name ∷ vs) ≡ after_options command (options_of no_options vs)) → after_options command (options_of no_options ws) ≡ Err k → IsFaultAt k (name ∷ ws)
-after_options_fault name command ws k says reads is =
-    let s = split no_options [] ws record { within = tt; order = inl refl } in
+after_options_fault : (name : List ℕ) (command : List ℕ → Bool → ℕ → Command) (ws : List (List ℕ)) (k : ℕ) → IsOptionedRow name command → after_options command (options_of no_options ws) ≡ Err k → IsFaultAt k (name ∷ ws)
+after_options_fault name command ws k row is =
+    let s = split no_options [] ws no_front in
     subst (λ (vs : List (List ℕ)). IsFaultAt k (name ∷ vs)) (sym s.is)
-    (optioned_fault name command s.options s.before s.rest k (file_at (count_of s.options + 1) s.rest) (optioned_awaits name command s.options s.before s.rest says reads s.are s.ended) refl (sym (ap (after_options command) s.found) ∙ is))
-
-sim_fault : (ws : List (List ℕ)) (k : ℕ) → after_options Sim (options_of no_options ws) ≡ Err k → IsFaultAt k (codes "sim" ∷ ws)
-sim_fault ws k is = after_options_fault (codes "sim") Sim ws k (λ file trace limit vs s. s) (λ vs. refl) is
+    (optioned_fault name command s.options s.before s.rest k (file_at (count_of s.options + 1) s.rest) (optioned_awaits name command s.options s.before s.rest row s.are s.ended) refl (sym (ap (after_options command) s.found) ∙ is))
 
 begins_nothing : Begins []
 begins_nothing = record { rest = codes "check" ∷ codes "f" ∷ []; sentence = record { command = Check (codes "f"); says = record { is_file = refl; is = refl } } }
@@ -121,14 +117,14 @@ no_name name ws none = record { front = begins_nothing; ends = inl (omega arith,
 
 named_fault : (name : List ℕ) (ws : List (List ℕ)) (k : ℕ) → bytes_eq name (codes "check") ≡ false → (if bytes_eq name (codes "sim") then after_options Sim (options_of no_options ws) else Err 0) ≡ Err k → IsFaultAt k (name ∷ ws)
 named_fault name ws k unlike is = elim (cases_Bool (bytes_eq name (codes "sim"))) [
-  | inl on ↦ subst (λ (v : List ℕ). IsFaultAt k (v ∷ ws)) (sym ((bytes_eq-Decides name (codes "sim")).0 on)) (sim_fault ws k (rw on at is))
+  | inl on ↦ subst (λ (v : List ℕ). IsFaultAt k (v ∷ ws)) (sym ((bytes_eq-Decides name (codes "sim")).0 on)) (after_options_fault (codes "sim") Sim ws k sim_row (rw on at is))
   | inr off ↦ subst (λ (n : ℕ). IsFaultAt n (name ∷ ws)) (err_is {A = Command} 0 k (rw off at is)) (no_name name ws (λ vs. rw (unlike, off) refl))
 ]
 
 pub fault : (ws : List (List ℕ)) (k : ℕ) → command_of ws ≡ Err k → IsFaultAt k ws
 fault [] k is = subst (λ (n : ℕ). IsFaultAt n []) (err_is {A = Command} 0 k is) record { front = begins_nothing; ends = inr (refl, no_sentence [] 0 refl) }
 fault (name ∷ ws) k is = elim (cases_Bool (bytes_eq name (codes "check"))) [
-  | inl on ↦ subst (λ (v : List ℕ). IsFaultAt k (v ∷ ws)) (sym ((bytes_eq-Decides name (codes "check")).0 on)) (check_fault ws k (rw on at is))
+  | inl on ↦ subst (λ (v : List ℕ). IsFaultAt k (v ∷ ws)) (sym ((bytes_eq-Decides name (codes "check")).0 on)) (plain_fault (codes "check") Check ws k (file_at 1 ws) (plain_awaits (codes "check") Check ws check_row) refl (rw on at is))
   | inr off ↦ named_fault name ws k off (rw off at is)
 ]
 

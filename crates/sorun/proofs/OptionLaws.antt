@@ -1,5 +1,5 @@
 -- The options at the front of words.
-use Rattle.std.proofs.Common.{◌≡◌, ◌⊎◌, inl, inr, ℕ, ◌≤◌, List, [], ◌∷◌, ◌++◌, length, take, Bool, true, false, Option, Some, None, refl, sym, ◌∙◌, ap, subst, codes, IfSome, if◌then◌else◌, append_assoc}
+use Rattle.std.proofs.Common.{◌≡◌, inl, inr, ℕ, ◌≤◌, List, [], ◌∷◌, ◌++◌, length, take, Bool, true, false, Option, Some, None, refl, sym, ◌∙◌, ap, subst, codes, IfSome, if◌then◌else◌, append_assoc}
 use Rattle.std.specs.Str.{bytes_eq}
 use Rattle.std.proofs.lemmas.Bool.{cases_Bool}
 use Rattle.std.proofs.lemmas.List.{append-nil}
@@ -32,6 +32,9 @@ options_go_on o more w ws one = rw (one, options_of) refl
 
 abbrev options : Bool → Option ℕ → Options
 options trace limit = record { trace = trace; limit = limit }
+
+pub no_front : AreOptions false None []
+no_front = record { within = tt; order = inl refl }
 
 trace_adds : (limit : Option ℕ) → with_option (record { trace = false; limit = limit }) (codes "--trace") ≡ Some (record { trace = true; limit = limit })
 unfolding with_option

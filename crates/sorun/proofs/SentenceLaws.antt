@@ -1,16 +1,14 @@
 -- The command of words is the one that they say, and where there is none their fault is found.
-use Rattle.std.proofs.Common.{◌≡◌, ◌⊎◌, inl, inr, ℕ, ◌+◌, ◌<◌, ◌≤◌, List, [], ◌∷◌, ◌++◌, length, take, drop, Bool, true, false, Option, Some, None, Result, Ok, Err, refl, sym, ◌∙◌, ap, subst, codes, if◌then◌else◌, append_assoc, length-append, arith}
-use Rattle.std.specs.Prelude.{unwrap_or, ◌↔◌}
+use Rattle.std.proofs.Common.{◌≡◌, inl, inr, ℕ, ◌+◌, List, [], ◌∷◌, ◌++◌, Bool, true, false, Result, Ok, Err, refl, sym, ◌∙◌, ap, subst, codes, if◌then◌else◌}
+use Rattle.std.specs.Prelude.{unwrap_or}
 use Rattle.std.specs.Str.{bytes_eq}
-use Rattle.std.proofs.lemmas.Bool.{cases_Bool, cases_lt, cases_eq}
-use Rattle.std.proofs.lemmas.List.{append-nil, take_at, take-append-drop}
-use Rattle.std.proofs.Math.Seq.{take-append-add}
+use Rattle.std.proofs.lemmas.Bool.{cases_Bool}
 use Rattle.std.proofs.lemmas.Slice.Eq.{bytes_eq-Decides}
 use Rattle.sorun.specs.Words.{is_file}
 use Rattle.sorun.specs.Commands.{Command, Check, Sim, command_of, plain, optioned, after_options, file_at, file_then, options_of, no_options, count_of, usual_limit}
-use Rattle.sorun.specs.Sentences.{AreOptions, IsPlain, IsOptioned, IsSentenceOf, IsSentence, Begins, IsFaultAt, AreRead}
+use Rattle.sorun.specs.Sentences.{AreOptions, IsPlain, IsOptioned, IsSentenceOf, IsSentence}
 use Rattle.sorun.specs.declared.commands.Options.{Options}
-use Rattle.sorun.proofs.OptionLaws.{options_read, length-options, Split, split, file-no_option, options_end}
+use Rattle.sorun.proofs.OptionLaws.{no_front, options_read, split, file-no_option, options_end}
 
 both : (b : Bool) → b ≡ false → b ≡ true → ⊥
 both b off on = cc
@@ -43,57 +41,75 @@ file_last k file (f ∷ ws) is = elim (cases_Bool (is_file f)) [
 last-file : (k : ℕ) (file : List ℕ) → is_file file ≡ true → file_at k (file ∷ []) ≡ Ok file
 last-file k file named = rw named refl
 
+-- what is known of the row of a command of a file alone, and of one with options
+pub record IsPlainRow (name : List ℕ) (command : List ℕ → Command) : Type 0 where
+  pub says : (file : List ℕ) (ws : List (List ℕ)) → IsPlain name file ws → IsSentenceOf (command file) ws
+  pub reads : (ws : List (List ℕ)) → command_of (name ∷ ws) ≡ plain command (file_at 1 ws)
+
+pub record IsOptionedRow (name : List ℕ) (command : List ℕ → Bool → ℕ → Command) : Type 0 where
+  pub says : (file : List ℕ) (trace : Bool) (limit : ℕ) (ws : List (List ℕ)) → IsOptioned name file trace limit ws → IsSentenceOf (command file trace limit) ws
+  pub reads : (ws : List (List ℕ)) → command_of (name ∷ ws) ≡ after_options command (options_of no_options ws)
+
+pub check_row : IsPlainRow (codes "check") Check
+check_row = record { says = λ file ws s. s; reads = λ ws. refl }
+
+pub sim_row : IsOptionedRow (codes "sim") Sim
+sim_row = record { says = λ file trace limit ws s. s; reads = λ ws. refl }
+
 -- what a command of a file alone reads it says
-plain_says : (name : List ℕ) (command : List ℕ → Command) (c : Command) (ws : List (List ℕ)) (r : Result (List ℕ) ℕ) → ((file : List ℕ) → IsPlain name file (name ∷ ws) → IsSentenceOf (command file) (name ∷ ws)) → file_at 1 ws ≡ r → plain command r ≡ Ok c → IsSentenceOf c (name ∷ ws)
-plain_says name command c ws (Err k) says found is = absurd (ok_no_err c k (sym is))
-plain_says name command c ws (Ok file) says found is =
+plain_says : (name : List ℕ) (command : List ℕ → Command) (c : Command) (ws : List (List ℕ)) (r : Result (List ℕ) ℕ) → IsPlainRow name command → file_at 1 ws ≡ r → plain command r ≡ Ok c → IsSentenceOf c (name ∷ ws)
+plain_says name command c ws (Err k) row found is = absurd (ok_no_err c k (sym is))
+plain_says name command c ws (Ok file) row found is =
     let last = file_last 1 file ws found in
     subst (λ (d : Command). IsSentenceOf d (name ∷ ws)) (ok_is (command file) c is)
-    (says file record { is_file = last.is_file; is = ap (λ (vs : List (List ℕ)). name ∷ vs) last.is })
+    (row.says file (name ∷ ws) record { is_file = last.is_file; is = ap (λ (vs : List (List ℕ)). name ∷ vs) last.is })
 
 -- and what one with options reads
-optioned_says : (name : List ℕ) (command : List ℕ → Bool → ℕ → Command) (c : Command) (o : Options) (before rest : List (List ℕ)) (r : Result (List ℕ) ℕ) → ((file : List ℕ) (trace : Bool) (limit : ℕ) → IsOptioned name file trace limit (name ∷ before ++ rest) → IsSentenceOf (command file trace limit) (name ∷ before ++ rest)) → AreOptions o.trace o.limit before → file_at (count_of o + 1) rest ≡ r → optioned command o r ≡ Ok c → IsSentenceOf c (name ∷ before ++ rest)
-optioned_says name command c o before rest (Err k) says are found is = absurd (ok_no_err c k (sym is))
-optioned_says name command c o before rest (Ok file) says are found is =
+optioned_says : (name : List ℕ) (command : List ℕ → Bool → ℕ → Command) (c : Command) (o : Options) (before rest : List (List ℕ)) (r : Result (List ℕ) ℕ) → IsOptionedRow name command → AreOptions o.trace o.limit before → file_at (count_of o + 1) rest ≡ r → optioned command o r ≡ Ok c → IsSentenceOf c (name ∷ before ++ rest)
+optioned_says name command c o before rest (Err k) row are found is = absurd (ok_no_err c k (sym is))
+optioned_says name command c o before rest (Ok file) row are found is =
     let last = file_last (count_of o + 1) file rest found in
-    subst (λ (d : Command). IsSentenceOf d (name ∷ before ++ rest)) (ok_is (command file o.trace (unwrap_or o.limit usual_limit)) c is)
-    (says file o.trace (unwrap_or o.limit usual_limit)
-      record { options = before; given = o.limit; are = are; limited = refl; is_file = last.is_file; is = ap (λ (vs : List (List ℕ)). name ∷ before ++ vs) last.is })
+    let limit = unwrap_or o.limit usual_limit in
+    subst (λ (d : Command). IsSentenceOf d (name ∷ before ++ rest)) (ok_is (command file o.trace limit) c is)
+    (row.says file o.trace limit (name ∷ before ++ rest)
+    record { options = before; given = o.limit; are = are; limited = refl; is_file = last.is_file; is = ap (λ (vs : List (List ℕ)). name ∷ before ++ vs) last.is })
 
-after_options_says : (name : List ℕ) (command : List ℕ → Bool → ℕ → Command) (c : Command) (ws : List (List ℕ)) → ((file : List ℕ) (trace : Bool) (limit : ℕ) (vs : List (List ℕ)) → IsOptioned name file trace limit vs → IsSentenceOf (command file trace limit) vs) → after_options command (options_of no_options ws) ≡ Ok c → IsSentenceOf c (name ∷ ws)
-after_options_says name command c ws says is =
-    let s = split no_options [] ws record { within = tt; order = inl refl } in
+after_options_says : (name : List ℕ) (command : List ℕ → Bool → ℕ → Command) (c : Command) (ws : List (List ℕ)) → IsOptionedRow name command → after_options command (options_of no_options ws) ≡ Ok c → IsSentenceOf c (name ∷ ws)
+after_options_says name command c ws row is =
+    let s = split no_options [] ws no_front in
     subst (λ (vs : List (List ℕ)). IsSentenceOf c (name ∷ vs)) (sym s.is)
-    (optioned_says name command c s.options s.before s.rest (file_at (count_of s.options + 1) s.rest) (λ file trace limit. says file trace limit (name ∷ s.before ++ s.rest)) s.are refl (sym (ap (after_options command) s.found) ∙ is))
+    (optioned_says name command c s.options s.before s.rest (file_at (count_of s.options + 1) s.rest) row s.are refl (sym (ap (after_options command) s.found) ∙ is))
 
 -- the command that was read is said
 named_says : (c : Command) (name : List ℕ) (ws : List (List ℕ)) → (if bytes_eq name (codes "sim") then after_options Sim (options_of no_options ws) else Err 0) ≡ Ok c → IsSentenceOf c (name ∷ ws)
 named_says c name ws is = elim (cases_Bool (bytes_eq name (codes "sim"))) [
-  | inl on ↦ subst (λ (v : List ℕ). IsSentenceOf c (v ∷ ws)) (sym ((bytes_eq-Decides name (codes "sim")).0 on)) (after_options_says (codes "sim") Sim c ws (λ file trace limit vs s. s) (rw on at is))
+  | inl on ↦ subst (λ (v : List ℕ). IsSentenceOf c (v ∷ ws)) (sym ((bytes_eq-Decides name (codes "sim")).0 on)) (after_options_says (codes "sim") Sim c ws sim_row (rw on at is))
   | inr off ↦ absurd (ok_no_err c 0 (sym (rw off at is)))
 ]
 
 pub says : (c : Command) (ws : List (List ℕ)) → command_of ws ≡ Ok c → IsSentenceOf c ws
 says c [] is = absurd (ok_no_err c 0 (sym is))
 says c (name ∷ ws) is = elim (cases_Bool (bytes_eq name (codes "check"))) [
-  | inl on ↦ subst (λ (v : List ℕ). IsSentenceOf c (v ∷ ws)) (sym ((bytes_eq-Decides name (codes "check")).0 on)) (plain_says (codes "check") Check c ws (file_at 1 ws) (λ file s. s) refl (rw on at is))
+  | inl on ↦ subst (λ (v : List ℕ). IsSentenceOf c (v ∷ ws)) (sym ((bytes_eq-Decides name (codes "check")).0 on)) (plain_says (codes "check") Check c ws (file_at 1 ws) check_row refl (rw on at is))
   | inr off ↦ named_says c name ws (rw off at is)
 ]
 
--- a command that is said with options is read
-optioned_said : (command : List ℕ → Bool → ℕ → Command) (name file : List ℕ) (trace : Bool) (limit : ℕ) (ws : List (List ℕ)) → ((vs : List (List ℕ)) → command_of (name ∷ vs) ≡ after_options command (options_of no_options vs)) → IsOptioned name file trace limit ws → command_of ws ≡ Ok (command file trace limit)
-optioned_said command name file trace limit ws reads s =
+-- a command that is said is read
+plain_said : (name : List ℕ) (command : List ℕ → Command) (file : List ℕ) (ws : List (List ℕ)) → IsPlainRow name command → IsPlain name file ws → command_of ws ≡ Ok (command file)
+plain_said name command file ws row s = ap command_of s.is ∙ row.reads (file ∷ []) ∙ ap (plain command) (last-file 1 file s.is_file)
+
+optioned_said : (name : List ℕ) (command : List ℕ → Bool → ℕ → Command) (file : List ℕ) (trace : Bool) (limit : ℕ) (ws : List (List ℕ)) → IsOptionedRow name command → IsOptioned name file trace limit ws → command_of ws ≡ Ok (command file trace limit)
+optioned_said name command file trace limit ws row s =
     let o : Options = record { trace = trace; limit = s.given } in
     ap command_of s.is ∙
-    reads (s.options ++ file ∷ []) ∙
+    row.reads (s.options ++ file ∷ []) ∙
     ap (after_options command) (options_read trace s.given s.options (file ∷ []) s.are ∙ options_end o file [] (file-no_option o file s.is_file)) ∙
     ap (optioned command o) (last-file (count_of o + 1) file s.is_file) ∙
     ap (λ (n : ℕ). Ok (command file trace n)) (sym s.limited)
 
--- the command that is said is read
 pub said : (c : Command) (ws : List (List ℕ)) → IsSentenceOf c ws → command_of ws ≡ Ok c
-said (Check file) ws s = ap command_of s.is ∙ ap (plain Check) (last-file 1 file s.is_file)
-said (Sim file trace limit) ws s = optioned_said Sim (codes "sim") file trace limit ws (λ vs. refl) s
+said (Check file) ws s = plain_said (codes "check") Check file ws check_row s
+said (Sim file trace limit) ws s = optioned_said (codes "sim") Sim file trace limit ws sim_row s
 
 -- words that are read as a fault are no sentence
 pub no_sentence : (ws : List (List ℕ)) (k : ℕ) → command_of ws ≡ Err k → IsSentence ws → ⊥

@@ -1,5 +1,5 @@
 -- The sentences of the command line, and where words leave them.
-use Rattle.std.specs.Prelude.{◌≡◌, ◌⊎◌, ◌↔◌, ℕ, ◌+◌, ◌<◌, ◌≤◌, List, [], ◌∷◌, ◌++◌, length, take, Bool, true, false, Option, Some, None, unwrap_or, Result, Ok, Err, codes, decimal, IfSome}
+use Rattle.std.specs.Prelude.{◌≡◌, ◌⊎◌, ◌↔◌, ℕ, ◌+◌, ◌<◌, ◌≤◌, List, [], ◌∷◌, ◌++◌, length, take, Bool, true, false, Option, Some, None, unwrap_or, Ok, Err, codes, decimal, IfSome}
 use Rattle.sorun.specs.Words.{is_file}
 use Rattle.sorun.specs.Commands.{Command, Check, Sim, most_limit, usual_limit, command_of}
 

@@ -1,4 +1,4 @@
-use Rattle.std.proofs.Common.{◌≡◌, ℕ, List, ◌++◌, codes, decimal, refl, sym, ◌∙◌, ap, append_assoc}
+use Rattle.std.proofs.Common.{◌≡◌, ℕ, List, ◌++◌, codes, decimal, refl, ◌∙◌, ap, append_assoc}
 use Rattle.sorun.proofs.summary.put_scene.Goals as goal
 
 -- parts that were appended one after another
