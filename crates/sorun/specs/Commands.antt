@@ -37,12 +37,12 @@ limit_of word = number_after (codes "--limit=") most_limit word
 abbrev pub no_options : Options
 no_options = record { trace = false; limit = None }
 
--- a limit beside these options, where none was given
+-- these options and a limit, where none was given before
 abbrev pub with_limit : Options → Option ℕ → Option Options
 with_limit options None = None
 with_limit options (Some n) = if is_some options.limit then None else Some (record options { limit = Some n })
 
--- a word's option beside these, none where the word is no option, or one that was given
+-- these options and a word's, none where the word is no option, or one that was given
 unfoldable pub with_option : Options → List ℕ → Option Options
 with_option options word =
     if bytes_eq word (codes "--trace")
@@ -78,7 +78,7 @@ abbrev pub optioned : (List ℕ → Bool → ℕ → Command) → Options → Re
 optioned command options (Ok file) = Ok (command file options.trace (unwrap_or options.limit usual_limit))
 optioned command options (Err k) = Err k
 
--- and of the words that follow its name and its options
+-- the same of the options that were read and the words after them
 abbrev pub after_options : (List ℕ → Bool → ℕ → Command) → Options × List (List ℕ) → Result Command ℕ
 after_options command (options, ws) = optioned command options (file_at (count_of options + 1) ws)
 

@@ -7,7 +7,7 @@ use Rattle.sorun.specs.Commands.{Command, Check, Sim, most_limit, usual_limit, c
 abbrev pub limit_word : ℕ → List ℕ
 limit_word n = codes "--limit=" ++ decimal n
 
--- the words of an option, none where it isn't given
+-- the words of each option, none where it isn't given
 abbrev pub trace_words : Bool → List (List ℕ)
 trace_words true = codes "--trace" ∷ []
 trace_words false = []
@@ -21,7 +21,7 @@ pub record AreOptions (trace : Bool) (limit : Option ℕ) (ws : List (List ℕ))
   pub within : IfSome limit (λ n. n ≤ most_limit)
   pub order : (ws ≡ trace_words trace ++ limit_words limit) ⊎ (ws ≡ limit_words limit ++ trace_words trace)
 
--- a command's name, options and a file
+-- a command's name, options in any order, and a file; a limit that isn't given is the usual one
 pub record IsOptioned (name file : List ℕ) (trace : Bool) (limit : ℕ) (ws : List (List ℕ)) : Type 0 where
   pub options : List (List ℕ)
   pub given : Option ℕ
@@ -40,6 +40,7 @@ abbrev pub IsSentenceOf : Command → List (List ℕ) → Type 0
 IsSentenceOf (Check file) ws = IsPlain (codes "check") file ws
 IsSentenceOf (Sim file trace limit) ws = IsOptioned (codes "sim") file trace limit ws
 
+-- they say some command
 pub record IsSentence (ws : List (List ℕ)) : Type 0 where
   pub command : Command
   pub says : IsSentenceOf command ws
@@ -54,7 +55,7 @@ pub record IsFaultAt (k : ℕ) (ws : List (List ℕ)) : Type 0 where
   pub front : Begins (take k ws)
   pub ends : ((k < length ws) × (Begins (take (k + 1) ws) → ⊥)) ⊎ ((k ≡ length ws) × (IsSentence ws → ⊥))
 
--- `command_of` reads the sentences, and finds their faults
+-- `command_of` gives exactly the command that the words say, and exactly the place of their fault
 pub record AreRead (ws : List (List ℕ)) : Type 0 where
   pub sentence : (c : Command) → (command_of ws ≡ Ok c) ↔ IsSentenceOf c ws
   pub fault : (k : ℕ) → (command_of ws ≡ Err k) ↔ IsFaultAt k ws

@@ -49,7 +49,7 @@ impl Options {
         u32::from(self.trace) + u32::from(self.limit.is_some())
     }
 
-    /// A word's option beside these, `None` where the word is no option, or one that was given.
+    /// These options and a word's, `None` where the word is no option, or one that was given.
     fn with(self, word: &str) -> Option<Options>
         ensures { result ≡ with_option self word.now }
     {
@@ -59,23 +59,20 @@ impl Options {
             }
             return Some(Options {
                 trace: true,
-                limit: self.limit,
+                ..self
             });
         }
         self.with_limit(limit_of(word))
     }
 
-    /// A limit beside these options, where none was given.
+    /// These options and a limit, where none was given before.
     fn with_limit(self, limit: Option<u32>) -> Option<Options>
         ensures { result ≡ with_limit self limit }
     {
         if limit.is_none() || self.limit.is_some() {
             return None;
         }
-        Some(Options {
-            trace: self.trace,
-            limit,
-        })
+        Some(Options { limit, ..self })
     }
 }
 
