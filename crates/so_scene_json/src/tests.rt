@@ -498,11 +498,12 @@ fn parts_are_found_by_number(rt: HostRuntime) {
         assert!(rt; scene.text(TextId(1)) == b"down".as_slice());
     }
     if scene.agents() == 2 {
+        let rows = scene.agent(AgentId(0)).rows.as_slice();
         let mbox = direct_mbox(AgentId(0));
-        assert!(rt; scene.row(AgentId(0), mbox, MsgId(2)) == Some(RowId(0)));
-        assert!(rt; scene.row(AgentId(0), mbox, MsgId(1)) == Some(RowId(1)));
-        assert!(rt; scene.row(AgentId(0), mbox, MsgId(0)).is_none());
-        assert!(rt; scene.row(AgentId(1), mbox, MsgId(2)).is_none());
+        assert!(rt; rows.len() == 2);
+        assert!(rt; rows.iter().all(|row| row.mbox == mbox));
+        assert!(rt; rows.iter().map(|row| row.msg.0).eq([2, 1]));
+        assert!(rt; scene.agent(AgentId(1)).rows.as_slice().is_empty());
         assert!(rt; scene.agent(AgentId(1)).name.bytes() == b"b".as_slice());
     } else {
         assert!(rt; false);
