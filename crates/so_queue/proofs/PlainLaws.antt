@@ -5,7 +5,7 @@ use Rattle.std.proofs.lemmas.Bool.{cases_eq, eq-eqb, ne_eqb}
 use Rattle.so_queue.specs.declared.plain.Waiting.{Waiting}
 use Rattle.so_queue.specs.Queues.{list_at, head_of, behind_head}
 use Rattle.so_queue.specs.Plain.{on_slot, lists_on, waiting_at, IsFirstOn, IsPlaceOf}
-use Rattle.so_queue.proofs.Lists.{length-each_below, get_or-each_below, each_below-set, each_below-replicate}
+use Rattle.so_lists.proofs.EachBelow.{length-each_below, get_or-each_below, each_below-set, each_below-replicate}
 
 -- the list of a slot
 pub list_on : (slots : ℕ) (ws : List Waiting) (s : ℕ) → s < slots → list_at (lists_on slots ws) s ≡ on_slot ws s

@@ -2,7 +2,7 @@
 use Rattle.std.specs.Prelude.{◌≡◌, ◌≢◌, ℕ, ◌<◌, Bool, nat_eq, List, length, slice_index_or, Option, Some, None, map, filter}
 use Rattle.so_ids.specs.declared.DemandId.{DemandId}
 use Rattle.so_queue.specs.declared.plain.Waiting.{Waiting}
-use Rattle.so_queue.specs.Lists.{each_below}
+use Rattle.so_lists.specs.Lists.{each_below}
 
 abbrev pub is_on : ℕ → Waiting → Bool
 is_on s w = nat_eq w.slot s
