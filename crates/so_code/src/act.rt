@@ -1,14 +1,17 @@
 //! What one instruction does.
 
 ghost use Rattle.std.specs.Prelude.{◌≡◌, ◌+◌, ◌-◌, ◌<◌, ◌≤◌, ◌↔◌, IsTrue, ◌^◌};
-ghost use Rattle.so_code.specs.Machine.{act, does, fails, put_if, is_done, plan_left, plan_goes_on, ended, next_by};
+ghost use Rattle.so_code.specs.Machine.{act, does, fails, put_if, is_done, plan_left, plan_goes_on, ended, goes_on, next_by, with_todo};
+ghost use Rattle.so_code.specs.Values.{put};
 ghost use Rattle.so_code.specs.Valid.{IsDest, HasParts};
 ghost use Rattle.so_code.specs.Places.{reach};
+ghost use Rattle.so_code.specs.declared.effect.Effect.TheVariants.{Switch, Receive};
 
 use crate::effect::{Effect, FailKind, Move};
 use crate::frame::{Frame, Todo};
 use crate::instr::{Body, Dest, Instr};
 use crate::values::{difference_of, holds, product_of, sum_of};
+use so_ids::StateId;
 
 impl Frame {
     /// Asks for an effect, and waits for its answer.
@@ -26,11 +29,23 @@ impl Frame {
         Some(Move::Fail(kind))
     }
 
-    fn next_by(&mut self, n: u32)
+    /// Goes on, so many instructions further.
+    fn next_by(&mut self, n: u32) -> Option<Move>
         requires { self.old.place + n < 2 ^ 32 }
-        ensures { self.new ≡ next_by n self.old }
+        ensures { (result, self.new) ≡ goes_on (next_by n self.old) }
     {
         self.place += n;
+        None
+    }
+
+    /// Writes a number, and goes on.
+    fn set(&mut self, to: Dest, n: i64) -> Option<Move>
+        requires dest { IsDest to }
+        requires room { self.old.place + 1 < 2 ^ 32 }
+        ensures { (result, self.new) ≡ goes_on (next_by 1 (put self.old to n)) }
+    {
+        self.put(to, n);
+        self.next_by(1)
     }
 
     /// Writes a number that fits, and goes on.
@@ -41,11 +56,7 @@ impl Frame {
     {
         match n {
             None => self.fails(FailKind::Overflow),
-            Some(n) => {
-                self.put(to, n);
-                self.next_by(1);
-                None
-            }
+            Some(n) => self.set(to, n),
         }
     }
 
@@ -92,6 +103,35 @@ impl Frame {
         }
     }
 
+    /// Asks for a switch, after which it comes back behind this instruction.
+    fn switch(&mut self, to: StateId) -> Option<Move>
+        requires { self.old.place + 1 < 2 ^ 32 }
+        ensures { (result, self.new) ≡ does (Switch to) (record self.old { back = Some (self.old.place + 1) }) }
+    {
+        self.back = Some(self.place + 1);
+        self.does(Effect::Switch { to })
+    }
+
+    /// Begins a receive of at most so many messages, and puts the own message aside.
+    fn receive(&mut self, handle_n: u32, extract_n: u32) -> Option<Move>
+        ensures { (result, self.new) ≡ does (Receive self.old.place) (record self.old { receive = self.old.place; handles_left = handle_n; extracts_left = extract_n; aside = self.old.msg }) }
+    {
+        self.receive = self.place;
+        self.handles_left = handle_n;
+        self.extracts_left = extract_n;
+        self.aside = self.msg;
+        self.does(Effect::Receive { place: self.place })
+    }
+
+    /// Leaves a handler of a receive: one message less, and the next take.
+    fn back(&mut self) -> Option<Move>
+        ensures { (result, self.new) ≡ goes_on (with_todo Todo.Take (record self.old { handles_left = self.old.handles_left - 1 })) }
+    {
+        self.handles_left = self.handles_left.saturating_sub(1);
+        self.todo = Todo::Take;
+        None
+    }
+
     /// One instruction.
     pub(crate) fn act(&mut self, instr: Instr) -> Option<Move>
         requires parts { HasParts instr }
@@ -101,54 +141,49 @@ impl Frame {
         ensures { (result, self.new) ≡ act instr self.old }
     {
         match instr {
-            Instr::Set { to, a } => {
-                let n = self.value(a);
-                self.put(to, n);
-                self.next_by(1);
-                None
-            }
+            Instr::Set { to, a } => self.set(to, self.value(a)),
             Instr::Add { to, a, b } => self.put_if(to, sum_of(self.value(a), self.value(b))),
             Instr::Sub { to, a, b } => self.put_if(to, difference_of(self.value(a), self.value(b))),
             Instr::Mul { to, a, b } => self.put_if(to, product_of(self.value(a), self.value(b))),
             Instr::If { a, cmp, b, count } => {
                 if holds(cmp, self.value(a), self.value(b)) {
-                    self.next_by(1);
+                    self.next_by(1)
                 } else {
-                    self.next_by(count + 1);
+                    self.next_by(count + 1)
                 }
-                None
             }
-            Instr::Skip { count } => {
-                self.next_by(count + 1);
-                None
-            }
+            Instr::Skip { count } => self.next_by(count + 1),
             Instr::Throw { a } => self.fails(FailKind::Thrown(self.value(a))),
-            Instr::Log { text, args } => {
-                let payload = self.payload(args);
-                self.does(Effect::Log { text, payload })
-            }
-            Instr::Send { target, msg, args } => {
-                let payload = self.payload(args);
-                self.does(Effect::Send {
-                    target,
-                    msg,
-                    payload,
-                })
-            }
+            Instr::Switch { to } => self.switch(to),
+            Instr::Stop => self.does(Effect::Stop),
+            Instr::Receive {
+                handle_n,
+                extract_n,
+                ..
+            } => self.receive(handle_n, extract_n),
+            Instr::Case { .. } => self.next_by(1),
+            Instr::Back => self.back(),
+            Instr::End { body } => self.ended(body),
+            Instr::Log { text, args } => self.does(Effect::Log {
+                text,
+                payload: self.payload(args),
+            }),
+            Instr::Send { target, msg, args } => self.does(Effect::Send {
+                target,
+                msg,
+                payload: self.payload(args),
+            }),
             Instr::Delayed {
                 target,
                 msg,
                 ms,
                 args,
-            } => {
-                let payload = self.payload(args);
-                self.does(Effect::Delayed {
-                    target,
-                    msg,
-                    payload,
-                    ms,
-                })
-            }
+            } => self.does(Effect::Delayed {
+                target,
+                msg,
+                payload: self.payload(args),
+                ms,
+            }),
             Instr::Timer {
                 slot,
                 target,
@@ -156,51 +191,22 @@ impl Frame {
                 ms,
                 period,
                 args,
-            } => {
-                let payload = self.payload(args);
-                self.does(Effect::Timer {
-                    slot,
-                    target,
-                    msg,
-                    payload,
-                    ms,
-                    period,
-                })
-            }
+            } => self.does(Effect::Timer {
+                slot,
+                target,
+                msg,
+                payload: self.payload(args),
+                ms,
+                period,
+            }),
             Instr::Cancel { slot } => self.does(Effect::Cancel { slot }),
-            Instr::Switch { to } => {
-                self.back = Some(self.place + 1);
-                self.does(Effect::Switch { to })
-            }
             Instr::Subscribe { row } => self.does(Effect::Subscribe { row }),
             Instr::Unsubscribe { row } => self.does(Effect::Unsubscribe { row }),
             Instr::SetFilter { filter } => self.does(Effect::SetFilter { filter }),
             Instr::DropFilter { filter } => self.does(Effect::DropFilter { filter }),
             Instr::Register { coop } => self.does(Effect::Register { coop }),
             Instr::Deregister { coop } => self.does(Effect::Deregister { coop }),
-            Instr::Stop => self.does(Effect::Stop),
             Instr::Close { chain, keep } => self.does(Effect::Close { chain, keep }),
-            Instr::Receive {
-                handle_n,
-                extract_n,
-                ..
-            } => {
-                self.receive = self.place;
-                self.handles_left = handle_n;
-                self.extracts_left = extract_n;
-                self.aside = self.msg;
-                self.does(Effect::Receive { place: self.place })
-            }
-            Instr::Case { .. } => {
-                self.next_by(1);
-                None
-            }
-            Instr::Back => {
-                self.handles_left = self.handles_left.saturating_sub(1);
-                self.todo = Todo::Take;
-                None
-            }
-            Instr::End { body } => self.ended(body),
         }
     }
 }
