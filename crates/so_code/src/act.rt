@@ -10,7 +10,7 @@ ghost use Rattle.so_code.specs.declared.effect.Effect.TheVariants.{Switch, Recei
 use crate::effect::{Effect, FailKind, Move};
 use crate::frame::{Frame, Todo};
 use crate::instr::{Body, Dest, Instr};
-use crate::values::{difference_of, holds, product_of, sum_of};
+use crate::values::{difference_of, product_of, sum_of};
 use so_ids::StateId;
 
 impl Frame {
@@ -146,7 +146,7 @@ impl Frame {
             Instr::Sub { to, a, b } => self.put_if(to, difference_of(self.value(a), self.value(b))),
             Instr::Mul { to, a, b } => self.put_if(to, product_of(self.value(a), self.value(b))),
             Instr::If { a, cmp, b, count } => {
-                if holds(cmp, self.value(a), self.value(b)) {
+                if cmp.holds(self.value(a), self.value(b)) {
                     self.next_by(1)
                 } else {
                     self.next_by(count + 1)

@@ -514,3 +514,20 @@ fn a_script_and_a_box_move_as_their_code(rt: HostRuntime) -> Result<(), Fail> {
     assert_eq!(rt; frame, third);
     Ok(())
 }
+
+#[test]
+fn a_comparison_holds_as_it_reads(rt: HostRuntime) {
+    let cases = [
+        (Cmp::Eq, [false, true, false]),
+        (Cmp::Ne, [true, false, true]),
+        (Cmp::Lt, [true, false, false]),
+        (Cmp::Le, [true, true, false]),
+        (Cmp::Gt, [false, false, true]),
+        (Cmp::Ge, [false, true, true]),
+    ];
+    for (cmp, [less, equal, greater]) in cases {
+        assert_eq!(rt; cmp.holds(-1, 2), less);
+        assert_eq!(rt; cmp.holds(3, 3), equal);
+        assert_eq!(rt; cmp.holds(5, 4), greater);
+    }
+}

@@ -27,16 +27,19 @@ pub(crate) fn product_of(a: i64, b: i64) -> Option<i64>
     a.checked_mul(b)
 }
 
-pub(crate) fn holds(cmp: Cmp, a: i64, b: i64) -> bool
-    ensures { result ≡ holds cmp a b }
-{
-    match cmp {
-        Cmp::Eq => a == b,
-        Cmp::Ne => a != b,
-        Cmp::Lt => a < b,
-        Cmp::Le => a <= b,
-        Cmp::Gt => b < a,
-        Cmp::Ge => b <= a,
+impl Cmp {
+    /// Tells whether the comparison holds of two numbers.
+    pub fn holds(self, a: i64, b: i64) -> bool
+        ensures { result ≡ holds self a b }
+    {
+        match self {
+            Cmp::Eq => a == b,
+            Cmp::Ne => a != b,
+            Cmp::Lt => a < b,
+            Cmp::Le => a <= b,
+            Cmp::Gt => b < a,
+            Cmp::Ge => b <= a,
+        }
     }
 }
 

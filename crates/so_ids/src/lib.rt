@@ -201,6 +201,15 @@ pub struct Sent {
     pub first: Option<AgentId>,
 }
 
+/// An event that a delivery queues for an agent.
+#[derive(Clone, Copy, Debug, PartialEq, Eq)]
+pub struct Queued {
+    pub agent: AgentId,
+    pub mbox: MboxId,
+    pub msg: MsgId,
+    pub payload: Payload,
+}
+
 /// What a put into a chain did.
 #[derive(Clone, Copy, Debug, PartialEq, Eq)]
 pub enum Put {
@@ -274,3 +283,43 @@ pub struct NoMemory;
 /// A call of the outside failed.
 #[derive(Clone, Copy, Debug, PartialEq, Eq)]
 pub struct Failed;
+
+#[cfg(test)]
+mod tests {
+    use super::*;
+
+    fn demand(place: u32, k: u32) -> DemandId {
+        DemandId {
+            place: Place(place),
+            k,
+        }
+    }
+
+    #[test]
+    fn main_is_party_0_and_the_lanes_follow(rt: HostRuntime) {
+        assert_eq!(rt; PartyId::MAIN, PartyId(0));
+        assert_eq!(rt; LaneId(0).party(), PartyId(1));
+        assert_eq!(rt; LaneId(255).party(), PartyId(256));
+    }
+
+    #[test]
+    fn demands_compare_by_place_and_then_by_number(rt: HostRuntime) {
+        let cases = [
+            (demand(0, 0), demand(0, 1), true),
+            (demand(0, 9), demand(1, 0), true),
+            (demand(2, 0), demand(1, 5), false),
+            (demand(3, 3), demand(3, 3), false),
+        ];
+        for (a, b, before) in cases {
+            assert_eq!(rt; a.is_before(b), before);
+            assert_eq!(rt; a.is(b), a == b);
+        }
+    }
+
+    #[test]
+    fn there_are_eight_priorities(rt: HostRuntime) {
+        assert!(rt; Priority::of(0).is_some());
+        assert!(rt; Priority::of(7).is_some());
+        assert!(rt; Priority::of(8).is_none());
+    }
+}
