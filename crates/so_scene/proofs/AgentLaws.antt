@@ -9,7 +9,8 @@ use Rattle.so_lists.specs.Lists.{each_below}
 use Rattle.so_lists.proofs.EachBelow.{all-each_below}
 use Rattle.so_scene.specs.declared.parts.CoopDef.{CoopDef}
 use Rattle.so_scene.specs.declared.parts.SceneParts.{SceneParts}
-use Rattle.so_scene.specs.Parts.{no_coop, coop_of, agents_of, IsCoop, IsScene}
+use Rattle.so_scene.specs.Parts.{no_coop, coop_of, agents_of}
+use Rattle.so_scene.specs.Checked.{IsCoop, IsScene}
 
 in_range : (s : SceneParts) (c : CoopDef) → IsCoop s c → AllByRecursion (λ (a : AgentId). a.0 < length s.agents) (each_below (λ k. record { 0 = c.first.0 + k }) c.count)
 in_range s c is = all-each_below (λ (a : AgentId). a.0 < length s.agents) (λ k. record { 0 = c.first.0 + k }) c.count (λ i l. omega (arith, is.first, is.count))

@@ -3,7 +3,7 @@ use Rattle.std.proofs.Common.{◌≡◌, ◌<◌, length, true, arith, refl}
 use Rattle.so_ids.specs.declared.AgentId.{AgentId}
 use Rattle.so_ids.specs.declared.LaneId.{LaneId}
 use Rattle.so_scene.specs.declared.parts.SceneParts.{SceneParts}
-use Rattle.so_scene.specs.Parts.{IsScene}
+use Rattle.so_scene.specs.Checked.{IsScene}
 use Rattle.so_scene.specs.Lanes.{lanes, keys, key_of, serves}
 
 pub record SomeLane (s : SceneParts) (a : AgentId) : Type 0 where

@@ -1,3 +1,4 @@
 pub mod AgentLaws
+pub mod DefinitionLaws
 pub mod LaneLaws
 pub mod Positions

@@ -1,3 +1,6 @@
+pub mod Checked
+pub mod Definition
+pub mod Delivery
 pub mod Faults
 pub mod Lanes
 pub mod Names

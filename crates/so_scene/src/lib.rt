@@ -1,6 +1,7 @@
 //! The checked scene: its parts by number, and how it lays agents out on lanes.
 #![tactic(auto)]
 
+mod definition;
 mod fault;
 mod items;
 mod lanes;
@@ -11,10 +12,11 @@ mod print;
 mod scene;
 mod words;
 
+pub use definition::is_twice;
 pub use fault::{SceneFault, SceneRefusal};
 pub use items::Items;
 pub use names::Names;
-pub use parts::{AgentDef, CoopDef, MessageDef, SceneParts};
+pub use parts::{AgentDef, CoopDef, FilterDef, MessageDef, SceneParts};
 pub use place::{Field, PlaceStep, ScenePlace};
 pub use print::{put_fault, put_place};
 pub use scene::{Scene, direct_mbox};

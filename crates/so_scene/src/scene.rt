@@ -1,13 +1,15 @@
 //! A scene whose parts were checked.
 
 ghost use Rattle.std.specs.Prelude.{◌≡◌, ◌<◌, ◌≤◌, ◌+◌, length};
-ghost use Rattle.so_scene.specs.Parts.{message_of, agent_of, coop_of, text_of, direct_mbox, IsScene};
+ghost use Rattle.so_scene.specs.Parts.{message_of, agent_of, coop_of, text_of, direct_mbox, mboxes, mbox_name};
+ghost use Rattle.so_scene.specs.Checked.{IsScene};
 
 use crate::parts::{AgentDef, CoopDef, MessageDef, SceneParts};
+use crate::words::Name;
 use so_ids::{AgentId, CoopId, MboxId, MsgId, TextId};
 use std::marker::Model;
 
-/// A scene: agents of one cooperation, and the texts that they log.
+/// A scene: agents of one cooperation, the mboxes by which they talk, and the texts that they log.
 #[derive(Debug, Drop)]
 pub struct Scene {
     parts: SceneParts,
@@ -15,7 +17,7 @@ pub struct Scene {
 
 impl Model for Scene {
     ghost use Rattle.so_scene.specs.declared.parts.SceneParts.{SceneParts};
-    ghost use Rattle.so_scene.specs.Parts.{IsScene};
+    ghost use Rattle.so_scene.specs.Checked.{IsScene};
 
     ghost Value = { SceneParts };
 
@@ -55,6 +57,13 @@ impl Scene {
         self.parts.agents.len() as u32
     }
 
+    /// How many mboxes there are: the direct one of each agent, and the named ones.
+    pub fn mboxes(&self) -> u32
+        ensures { result ≡ mboxes self.now }
+    {
+        self.agents() + self.parts.mboxes.len() as u32
+    }
+
     /// How many cooperations there are.
     pub fn coops(&self) -> u32
         ensures { result ≡ length self.now.coops }
@@ -81,9 +90,24 @@ impl Scene {
     pub fn agent(&self, agent: AgentId) -> &AgentDef
         requires { agent.0 < length self.now.agents }
         ensures value { result.now ≡ agent_of self.now agent }
-        ensures few { length result.now.rows ≤ 128 }
+        ensures few_rows { length result.now.rows ≤ 128 }
+        ensures few_filters { length result.now.filters ≤ 32 }
     {
         &self.parts.agents.as_slice()[agent.0 as usize]
+    }
+
+    /// The name of a mbox by its number. A direct one has its agent's.
+    pub fn mbox(&self, mbox: MboxId) -> &Name
+        requires { mbox.0 < mboxes self.now }
+        ensures { result.now ≡ mbox_name self.now mbox }
+    {
+        let agents = self.parts.agents.as_slice();
+        let at = mbox.0 as usize;
+        if at < agents.len() {
+            &agents[at].name
+        } else {
+            &self.parts.mboxes.as_slice()[at - agents.len()]
+        }
     }
 
     /// A cooperation by its number. Its agents are agents of the scene.

@@ -36,6 +36,27 @@ pub struct Row {
     pub active: bool,
 }
 
+impl RowKind {
+    /// Tells whether it is a dead-letter row's.
+    pub fn is_dead(self) -> bool
+        ensures { result ≡ is_dead self }
+    {
+        match self {
+            RowKind::Run | RowKind::Switch(_) | RowKind::Transfer(_) | RowKind::Suppress => false,
+            RowKind::Dead => true,
+        }
+    }
+}
+
+impl Row {
+    /// Tells whether it is for events of the type from the mbox.
+    pub fn is_for(&self, mbox: MboxId, msg: MsgId) -> bool
+        ensures { result ≡ is_for mbox msg self.now }
+    {
+        self.mbox == mbox && self.msg == msg
+    }
+}
+
 /// What an agent's table chooses for an event of the type from the mbox, in the leaf. `active` tells
 /// which of the rows are active. The first active row of the leaf decides, without one that of its
 /// parent, and so on; where no state has one, the first active dead-letter row decides.
@@ -84,8 +105,8 @@ fn row_in(rows: &[Row], active: &[bool], mbox: MboxId, msg: MsgId, s: StateId) -
     ensures within { IfSome result (λ k. k < length rows.now) }
 {
     rows.iter().zip(active).position(|(row, on)| *on
-        && is_for(mbox, msg, row)
-        && !is_dead(row.kind)
+        && row.is_for(mbox, msg)
+        && !row.kind.is_dead()
         && row.state == s)
 }
 
@@ -95,22 +116,7 @@ fn dead_row(rows: &[Row], active: &[bool], mbox: MboxId, msg: MsgId) -> Option<u
     ensures row { result ≡ dead_row rows.now active.now mbox msg }
     ensures within { IfSome result (λ k. k < length rows.now) }
 {
-    rows.iter().zip(active).position(|(row, on)| *on && is_for(mbox, msg, row) && is_dead(row.kind))
-}
-
-fn is_for(mbox: MboxId, msg: MsgId, row: &Row) -> bool
-    ensures { result ≡ is_for mbox msg row.now }
-{
-    row.mbox == mbox && row.msg == msg
-}
-
-fn is_dead(kind: RowKind) -> bool
-    ensures { result ≡ is_dead kind }
-{
-    match kind {
-        RowKind::Run | RowKind::Switch(_) | RowKind::Transfer(_) | RowKind::Suppress => false,
-        RowKind::Dead => true,
-    }
+    rows.iter().zip(active).position(|(row, on)| *on && row.is_for(mbox, msg) && row.kind.is_dead())
 }
 
 /// What a row of this number, state and kind chooses.
