@@ -101,9 +101,9 @@ impl Scene {
 pub fn is_twice(rows: &[Row], active: &[bool], row: &Row) -> bool
     ensures { result ≡ is_twice rows.now active.now row.now }
 {
-    rows.iter()
-        .zip(active)
-        .any(|(other, on)| *on && other.is_for(row.mbox, row.msg) && same_kind(row, other))
+    rows.iter().zip(active).any(|(other, on)| *on
+        && other.is_for(row.mbox, row.msg)
+        && same_kind(row, other))
 }
 
 /// The same, where those rows are active that are so from the start.
@@ -111,9 +111,9 @@ pub fn is_twice(rows: &[Row], active: &[bool], row: &Row) -> bool
 fn clashes_before(before: &[Row], row: &Row) -> bool
     ensures { result ≡ is_twice before.now (active_first before.now) row.now }
 {
-    before
-        .iter()
-        .any(|other| other.active && other.is_for(row.mbox, row.msg) && same_kind(row, other))
+    before.iter().any(|other| other.active
+        && other.is_for(row.mbox, row.msg)
+        && same_kind(row, other))
 }
 
 /// Both are dead-letter rows, or neither is and they are of one state.
