@@ -1,4 +1,4 @@
 pub mod AgentLaws
-pub mod DefinitionLaws
+pub mod FirstFault
 pub mod LaneLaws
 pub mod Positions

@@ -1,5 +1,5 @@
 -- The rules that an agent's subscriptions and filters keep, so that it may be registered.
-use Rattle.std.specs.Prelude.{ℕ, List, [], ◌∷◌, length, take, map, zip, slice_get, nat_lt, Bool, true, false, not, ◌&&◌, ◌||◌, ◌==◌, Option, Some, None, if◌then◌else◌}
+use Rattle.std.specs.Prelude.{ℕ, List, length, take, zip, slice_get, nat_lt, Bool, not, ◌&&◌, ◌||◌, ◌==◌, Option, Some, None, if◌then◌else◌}
 use Rattle.std.specs.List.{list_any}
 use Rattle.std.specs.Option.{option_and_then}
 use Rattle.so_ids.specs.declared.AgentId.{AgentId}
@@ -33,15 +33,15 @@ clashes row other = other.1 && (is_for row.mbox row.msg other.0 && same_kind row
 abbrev pub is_twice : List Row → List Bool → Row → Bool
 is_twice rows active row = list_any (clashes row) (zip rows active)
 
--- which rows are active from the start
-abbrev pub active_first : List Row → List Bool
-active_first rows = map (λ (row : Row). row.active) rows
+-- the same of a row that is active from the start
+abbrev pub clashes_first : Row → Row → Bool
+clashes_first row other = clashes row (other, other.active)
 
 -- the fault of a row that follows these
 abbrev pub row_fault_after : SceneParts → AgentId → List Row → Row → Option DefFault
 row_fault_after s a before row =
     if is_not_owner s a row then Some NotOwner
-    else (if row.active && is_twice before (active_first before) row then Some Twice else None)
+    else (if row.active && list_any (clashes_first row) before then Some Twice else None)
 
 abbrev pub row_fault : SceneParts → AgentId → ℕ → Option DefFault
 row_fault s a k = option_and_then (row_fault_after s a (take k (rows_of s a))) (slice_get (rows_of s a) k)
