@@ -6,6 +6,8 @@ use Rattle.std.proofs.lemmas.Bool.{and_parts, false≢true}
 use Rattle.so_ids.specs.declared.CoopId.{CoopId}
 use Rattle.so_ids.specs.declared.LaneId.{LaneId}
 use Rattle.so_ids.specs.declared.MsgId.{MsgId}
+use Rattle.so_ids.specs.declared.AgentId.{AgentId}
+use Rattle.so_ids.specs.declared.Payload.{Payload}
 use Rattle.so_ids.specs.declared.Target.{Target}
 use Rattle.so_ids.specs.declared.Target.TheVariants.{Mbox, Chain}
 use Rattle.so_ids.specs.declared.Reason.{Reason}
@@ -19,12 +21,13 @@ use Rattle.so_code.specs.declared.effect.Effect.{Effect}
 use Rattle.so_code.specs.declared.effect.Effect.TheVariants as effect
 use Rattle.so_code.specs.declared.effect.Move.{Move}
 use Rattle.so_code.specs.declared.effect.Move.TheVariants.{Do, Done, Fail}
-use Rattle.so_scene.specs.Parts.{IsTarget, IsScene}
+use Rattle.so_scene.specs.Parts.{mboxes}
+use Rattle.so_scene.specs.Checked.{IsTarget, IsScene}
 use Rattle.so_scene.specs.Lanes.{lanes, key_of}
 use Rattle.so_scene.proofs.LaneLaws.{some_lane}
 use Rattle.so_history.specs.declared.entry.Entry.{Entry}
 use Rattle.so_history.specs.declared.entry.EntryKind.{EntryKind}
-use Rattle.so_history.specs.declared.entry.EntryKind.TheVariants.{Register, Begin, Act, End, Leaving, Left, Stop, Abort}
+use Rattle.so_history.specs.declared.entry.EntryKind.TheVariants.{Register, Begin, Skip, Act, End, Leaving, Left, Stop, Abort}
 use Rattle.so_history.specs.declared.entry.StopCause.{StopCause}
 use Rattle.so_history.specs.declared.entry.StopCause.TheVariants.{Asked, Idle}
 use Rattle.so_history.specs.declared.entry.Demand.{Demand}
@@ -34,7 +37,7 @@ use Rattle.so_history.specs.Coops.{the_coop, tried, present, leaving, stopped, s
 use Rattle.so_history.specs.Units.{fits}
 use Rattle.so_history.specs.Order.{is_free, may_take, pick}
 use Rattle.so_history.specs.Steps.{NamesEffect, may_leave, may_stop, is_idle, finished, is_over, answer_to_send, answer_of, entry_of, Legal}
-use Rattle.so_history.specs.Chain.{by_main, signed, next_of, turn_entry, turn_on, begin_entry, registration, leaving_entry, left_entry, stop_entry, tidying, lane_entry, first, fitting, next_entry, StopsAtLimit}
+use Rattle.so_history.specs.Chain.{by_main, signed, next_of, turn_entry, turn_on, taking_entry, registration, leaving_entry, left_entry, stop_entry, tidying, lane_entry, first, fitting, next_entry, StopsAtLimit}
 use Rattle.so_history.proofs.DemandLaws.{pick-free, waiting_of}
 use Rattle.so_history.proofs.TurnLaws.{turn_of, at_looked_up, running_nowhere, running_at-nil}
 use Rattle.so_history.proofs.CourseLaws.{has_course}
@@ -75,6 +78,7 @@ tidied s h e t = of_tidying (may_stop s h Asked) (has_reason h) (may_leave s h) 
 pub not_tidied : (kind : EntryKind) → IsTidying kind → ((coop : CoopId) (reason : Reason) → kind ≡ Leaving coop reason → ⊥) → ((coop : CoopId) → kind ≡ Left coop → ⊥) → ((cause : StopCause) → kind ≡ Stop cause → ⊥) → ⊥
 not_tidied (Leaving coop reason) t a b c = a coop reason refl
 not_tidied (Left coop) t a b c = b coop refl
+not_tidied (Skip lane demand why) t a b c = t
 not_tidied (Stop cause) t a b c = c cause refl
 not_tidied (Abort cause) t a b c = t
 not_tidied (Register coop) t a b c = t
@@ -111,16 +115,16 @@ nothing_picked : (s : SceneParts) (h : List Entry) (lane : LaneId) → is_empty 
 unfolding pick
 nothing_picked s h lane e = none_cond (is_free h lane) _ (nothing_found s h lane (waiting s h) e)
 
-no_begin : (s : SceneParts) (h : List Entry) (lane : LaneId) → is_empty (waiting s h) ≡ true → begin_entry s h lane ≡ None
+no_begin : (s : SceneParts) (h : List Entry) (lane : LaneId) → is_empty (waiting s h) ≡ true → taking_entry s h lane ≡ None
 no_begin s h lane e = rw (nothing_picked s h lane e) refl
 
 -- where no turn runs, the first step is a registration, else what is to be tidied, else a Begin
 pub first-free : (s : SceneParts) (h : List Entry) → ((l : ℕ) → l < lanes s → running_at lane_number h l ≡ []) →
-    first s h ≡ or_else (registration h) (or_else (tidying s h) (first_below (λ l. begin_entry s h (record { 0 = l })) (lanes s)))
+    first s h ≡ or_else (registration h) (or_else (tidying s h) (first_below (λ l. taking_entry s h (record { 0 = l })) (lanes s)))
 unfolding first tidying
 first-free s h free =
     let none : first_below (λ l. turn_entry s h (turn_on h (record { 0 = l }))) (lanes s) ≡ None = first_below-none _ (lanes s) (λ l k. ap (λ ts. turn_entry s h (head ts)) (free l k)) in
-    let begins : (e : Entry) → stop_entry s h Idle ≡ Some e → first_below (λ l. begin_entry s h (record { 0 = l })) (lanes s) ≡ None =
+    let begins : (e : Entry) → stop_entry s h Idle ≡ Some e → first_below (λ l. taking_entry s h (record { 0 = l })) (lanes s) ≡ None =
     λ e stop. first_below-none _ (lanes s) (λ l k. no_begin s h (record { 0 = l }) (idle_waits s h (stops_idle (not (stopped h)) (not (stop_asked h)) (is_idle s h) e stop))) in
     rw none (ap (or_else (registration h)) (sym (regroup (stop_entry s h Asked) (leaving_entry h) (left_entry s h) (stop_entry s h Idle) _ (or_else-swap (stop_entry s h Idle) _ begins))))
 
@@ -130,7 +134,7 @@ unfolding first
 first-turn s h lane x l e before = rw (first_below-some (λ i. turn_entry s h (turn_on h (record { 0 = i }))) (lanes s) lane x l e (λ i k. ap (λ ts. turn_entry s h (head ts)) (before i k))) refl
 
 -- the entry of a lane where no turn runs on it
-pub lane_entry-free : (s : SceneParts) (h : List Entry) (lane : LaneId) → running_on h lane ≡ [] → lane_entry s h lane ≡ begin_entry s h lane
+pub lane_entry-free : (s : SceneParts) (h : List Entry) (lane : LaneId) → running_on h lane ≡ [] → lane_entry s h lane ≡ taking_entry s h lane
 unfolding lane_entry
 lane_entry-free s h lane free = rw free refl
 
@@ -143,27 +147,31 @@ lane_entry-turn s h lane x e = rw e refl
 abbrev HasMove : SceneParts → List Entry → Started → Type 0
 HasMove s h t = (x : Entry) × (turn_entry s h (Some t) ≡ Some x)
 
-send_answered : (s : SceneParts) (h : List Entry) (target : Target) (msg : MsgId) → IsTarget (length s.agents) target → (a : Answer) × (answer_to_send s h target msg ≡ Some a)
-send_answered s h (Mbox mbox) msg named = (_, refl)
-send_answered s h (Chain chain) msg named = absurd named
+send_answered : (s : SceneParts) (h : List Entry) (target : Target) (msg : MsgId) (payload : Payload) → IsTarget (mboxes s) target → (a : Answer) × (answer_to_send s h target msg payload ≡ Some a)
+send_answered s h (Mbox mbox) msg payload named = (_, refl)
+send_answered s h (Chain chain) msg payload named = absurd named
 
 -- an effect that names parts of the scene has an answer
-pub answered_named : (s : SceneParts) (h : List Entry) (e : Effect) → NamesEffect s e → (a : Answer) × (answer_of s h e ≡ Some a)
-answered_named s h (effect.Log text payload) named = (_, refl)
-answered_named s h (effect.Send target msg payload) named = send_answered s h target msg named.0
-answered_named s h effect.Stop named = (_, refl)
-answered_named s h other named = absurd named
+pub answered_named : (s : SceneParts) (h : List Entry) (agent : AgentId) (e : Effect) → NamesEffect s agent e → (a : Answer) × (answer_of s h agent e ≡ Some a)
+answered_named s h agent (effect.Log text payload) named = (_, refl)
+answered_named s h agent (effect.Send target msg payload) named = send_answered s h target msg payload named.0
+answered_named s h agent (effect.Subscribe row) named = (_, refl)
+answered_named s h agent (effect.Unsubscribe row) named = (_, refl)
+answered_named s h agent (effect.SetFilter filter) named = (_, refl)
+answered_named s h agent (effect.DropFilter filter) named = (_, refl)
+answered_named s h agent effect.Stop named = (_, refl)
+answered_named s h agent other named = absurd named
 
-moved_entry : (s : SceneParts) (h : List Entry) (place : ℕ) (m : Move) → ((e : Effect) → m ≡ Do e → NamesEffect s e) → (k : EntryKind) × (entry_of s h place m ≡ Some k)
-moved_entry s h place (Do e) named = let a = answered_named s h e (named e refl) in (_, ap (option_map (Act (record { 0 = place }) e)) a.1)
-moved_entry s h place Done named = (_, refl)
-moved_entry s h place (Fail kind) named = (_, refl)
+moved_entry : (s : SceneParts) (h : List Entry) (agent : AgentId) (place : ℕ) (m : Move) → ((e : Effect) → m ≡ Do e → NamesEffect s agent e) → (k : EntryKind) × (entry_of s h agent place m ≡ Some k)
+moved_entry s h agent place (Do e) named = let a = answered_named s h agent e (named e refl) in (_, ap (option_map (Act (record { 0 = place }) e)) a.1)
+moved_entry s h agent place Done named = (_, refl)
+moved_entry s h agent place (Fail kind) named = (_, refl)
 
 pub has_move : (s : SceneParts) (h : List Entry) (t : Started) → IsScene s → Legal s h → turn_of h t.place ≡ Some t → HasMove s h t
 has_move s h t scene legal at =
     let it = has_course s h t at in
     let sound = course_sound s scene h t.place it.reached legal it.has in
-    let k = moved_entry s h t.place (move_of s it.reached).0 (names_parts s scene it.reached sound) in
+    let k = moved_entry s h it.reached.agent t.place (move_of s it.reached).0 (names_parts s scene it.reached sound) in
     (_, ap (option_and_then (next_of s h t)) it.has ∙ ap (option_map (signed t.by)) k.1)
 
 -- a lane that has no move has no turn
@@ -246,7 +254,7 @@ goes_on s h scene legal none =
     let rest = or_else-none (tidying s h) _ parts.1 in
     let unpicked : (l : ℕ) → l < lanes s → find (may_take s h (record { 0 = l })) (waiting s h) ≡ None =
     λ l k.
-    let entry : begin_entry s h (record { 0 = l }) ≡ None = none-first_below (λ i. begin_entry s h (record { 0 = i })) (lanes s) rest.1 l k in
+    let entry : taking_entry s h (record { 0 = l }) ≡ None = none-first_below (λ i. taking_entry s h (record { 0 = i })) (lanes s) rest.1 l k in
     sym (pick-free s h (record { 0 = l }) (ap is_empty (free l k))) ∙ option_map-none _ (pick s h (record { 0 = l })) entry in
     over s h (nothing_waits s h (waiting s h) scene quiet (waiting_of s h scene) unpicked) quiet (registered_none h parts.0) (tidied_none s h rest.0)
 

@@ -1,5 +1,5 @@
 -- Cooperations: what their entries queue, and that agents start first and finish last.
-use Rattle.std.proofs.Common.{◌≡◌, ℕ, ◌+◌, ◌<◌, List, [], ◌∷◌, ◌++◌, length, Bool, true, false, not, cond, inl, inr, Option, Some, None, arith, refl, sym, ◌∙◌, ap, subst}
+use Rattle.std.proofs.Common.{◌≡◌, ℕ, ◌+◌, ◌<◌, List, [], ◌∷◌, ◌++◌, length, Bool, true, false, cond, inl, inr, map, Option, Some, None, arith, refl, sym, ◌∙◌, ap, subst}
 use Rattle.std.specs.Prelude.{◌==◌}
 use Rattle.std.specs.List.{filter, last_or, AllByRecursion}
 use Rattle.std.proofs.lemmas.List.{append-nil}
@@ -13,6 +13,7 @@ use Rattle.so_ids.specs.declared.Reason.{Reason}
 use Rattle.so_ids.specs.declared.MboxId.{MboxId}
 use Rattle.so_ids.specs.declared.MsgId.{MsgId}
 use Rattle.so_ids.specs.declared.Place.{Place}
+use Rattle.so_ids.specs.declared.Payload.{Payload}
 use Rattle.so_code.specs.declared.effect.Answer.{Answer}
 use Rattle.so_code.specs.declared.effect.Effect.{Effect}
 use Rattle.so_lists.specs.Lists.{is_empty, head}
@@ -22,18 +23,19 @@ use Rattle.so_scene.specs.declared.parts.SceneParts.{SceneParts}
 use Rattle.so_scene.specs.Parts.{agents_of}
 use Rattle.so_history.specs.declared.entry.Entry.{Entry}
 use Rattle.so_history.specs.declared.entry.EntryKind.{EntryKind}
-use Rattle.so_history.specs.declared.entry.EntryKind.TheVariants.{Register, Begin, Act, End, Leaving, Left, Stop, Abort}
+use Rattle.so_history.specs.declared.entry.EntryKind.TheVariants.{Register, Begin, Skip, Act, End, Leaving, Left, Stop, Abort}
 use Rattle.so_history.specs.declared.entry.Demand.{Demand}
 use Rattle.so_history.specs.declared.entry.DemandKind.{DemandKind}
-use Rattle.so_history.specs.declared.entry.DemandKind.TheVariants.{Start, Finish, Event}
+use Rattle.so_history.specs.declared.entry.DemandKind.TheVariants.{Start, Finish}
 use Rattle.so_history.specs.Places.{entry_at, before}
-use Rattle.so_history.specs.Demands.{ask_each, asked_by, demands_from, queued_by, demands, waiting}
+use Rattle.so_history.specs.Demands.{ask_each, ask, asked_by, demands_from, queued_by, demands, waiting}
 use Rattle.so_history.specs.Turns.{running}
-use Rattle.so_history.specs.Delivery.{registered, is_subscribed, receivers, is_leaving, reached}
+use Rattle.so_history.specs.Delivery.{registered, delivered}
+use Rattle.so_scene.specs.Delivery.{events}
 use Rattle.so_history.specs.Coops.{the_coop, tried, tried_by, present, present_by, leaving, leaving_by, stopped, has_reason}
 use Rattle.so_history.specs.Steps.{may_leave, IsLeaving, IsRow, Legal}
 use Rattle.so_history.specs.Facts.{StandsAt, queued_at, WholeCoops, demands_for, StartsAndFinishes}
-use Rattle.so_history.proofs.AskedLaws.{effect_asks, reached_leaving, reached_absent}
+use Rattle.so_history.proofs.AskedLaws.{effect_asks, delivered_of, events_leaving, events_absent}
 use Rattle.so_history.proofs.DemandLaws.{queued_here, demands_early}
 use Rattle.so_history.proofs.PlaceLaws.{Where, is_last, is_early, place_of_entry, before-last, before-early, steps_at}
 
@@ -100,21 +102,14 @@ none_of : (a : AgentId) (p k q m : ℕ) (u v : DemandKind) (agents : List AgentI
 none_of a p k q m u v [] e = refl
 none_of a p k q m u v (x ∷ agents) e = cond_none (x.0 == a.0) _ _ _ _ e (none_of a p (k + 1) q (m + 1) u v agents)
 
--- nor of an agent that isn't among them
-cond_filtered : (b : Bool) (x y : Demand) (xs ys zs : List Demand) (t : Bool) → cond b (x ∷ xs) xs ≡ [] → (xs ≡ [] → ys ≡ []) → (xs ≡ [] → zs ≡ []) → cond t (cond b (y ∷ ys) ys) zs ≡ []
-cond_filtered true x y xs ys zs t e f g = absurd cc
-cond_filtered false x y xs ys zs true e f g = f e
-cond_filtered false x y xs ys zs false e f g = g e
+-- nor is anything asked of it where all that are asked are among them
+stranger_case : (b : Bool) (x : Demand) (xs : List Demand) → cond b (x ∷ xs) xs ≡ [] → (b ≡ false) × (xs ≡ [])
+stranger_case true x xs e = absurd cc
+stranger_case false x xs e = (refl, e)
 
-asked_of-cond : (a : AgentId) (q m : ℕ) (v : DemandKind) (b : Bool) (xs ys : List AgentId) → asked_of a q m v (cond b xs ys) ≡ cond b (asked_of a q m v xs) (asked_of a q m v ys)
-asked_of-cond a q m v true xs ys = refl
-asked_of-cond a q m v false xs ys = refl
-
-none_among : (a : AgentId) (p k q m : ℕ) (u v : DemandKind) (test : AgentId → Bool) (agents : List AgentId) → asked_of a p k u agents ≡ [] → asked_of a q m v (filter test agents) ≡ []
-none_among a p k q m u v test [] e = refl
-none_among a p k q m u v test (x ∷ agents) e =
-    asked_of-cond a q m v (test x) (x ∷ filter test agents) (filter test agents)
-    ∙ cond_filtered (x.0 == a.0) _ _ _ _ _ (test x) e (none_among a p (k + 1) q (m + 1) u v test agents) (none_among a p (k + 1) q m u v test agents)
+not_among : (a : AgentId) (p k : ℕ) (u : DemandKind) (agents : List AgentId) → asked_of a p k u agents ≡ [] → AllByRecursion (λ (x : AgentId). (x.0 == a.0) ≡ false) agents
+not_among a p k u [] e = tt
+not_among a p k u (x ∷ agents) e = let both = stranger_case (x.0 == a.0) _ _ e in (both.0, not_among a p (k + 1) u agents both.1)
 
 abbrev IsStranger : SceneParts → AgentId → Type 0
 IsStranger s a = asked_of a 0 0 Start (agents_of s the_coop) ≡ []
@@ -131,16 +126,16 @@ leaving_coop : (s : SceneParts) (h : List Entry) (by : PartyId) (coop : CoopId) 
 unfolding coop_in
 leaving_coop s h by coop reason row = ap coop_in row.is
 
-none_registered : (s : SceneParts) (h : List Entry) (a : AgentId) (kind : DemandKind) (test : AgentId → Bool) → IsStranger s a → asked_of a (length h) 0 kind (filter test (registered s h)) ≡ []
-none_registered s h a kind test none =
+registered_others : (s : SceneParts) (h : List Entry) (a : AgentId) → IsStranger s a → AllByRecursion (λ (x : AgentId). (x.0 == a.0) ≡ false) (registered s h)
+registered_others s h a none =
     elim (cases_Bool (present h)) [
-      | inl y ↦ rw y (none_among a 0 0 (length h) 0 Start kind test (agents_of s the_coop) none)
-      | inr f ↦ rw f refl
+      | inl y ↦ rw y (not_among a 0 0 Start (agents_of s the_coop) none)
+      | inr f ↦ rw f tt
     ]
 
-none_reached : (s : SceneParts) (h : List Entry) (a : AgentId) (mbox : MboxId) (msg : MsgId) (kind : DemandKind) → IsStranger s a → asked_of a (length h) 0 kind (reached s h mbox msg) ≡ []
-unfolding receivers
-none_reached s h a mbox msg kind none = none_among a (length h) 0 (length h) 0 kind kind (λ x. not (is_leaving s h x)) (receivers s h mbox msg) (none_registered s h a kind (is_subscribed s h mbox msg) none)
+none_delivered : (s : SceneParts) (h : List Entry) (a : AgentId) (mbox : MboxId) (msg : MsgId) (payload : Payload) → IsStranger s a → filter (λ (d : Demand). d.agent.0 == a.0) (demands_from (length h) 0 (map ask (events (delivered s h mbox msg payload)))) ≡ []
+none_delivered s h a mbox msg payload none =
+    filter_none (λ (d : Demand). d.agent.0 == a.0) _ (delivered_of s h (λ x. (x.0 == a.0) ≡ false) mbox msg payload (length h) 0 (registered_others s h a none))
 
 -- to whom nothing was asked, nothing is asked
 none_asked : (s : SceneParts) (h : List Entry) (by : PartyId) (kind : EntryKind) (a : AgentId) → IsRow s h by kind → IsStranger s a → filter (λ d. d.agent.0 == a.0) (queued_by s h kind) ≡ []
@@ -148,9 +143,10 @@ none_asked s h by (Register coop) a row none = ap (λ c. asked_of a (length h) 0
 none_asked s h by (Leaving coop reason) a row none = ap (λ c. asked_of a (length h) 0 Finish (agents_of s c)) (leaving_coop s h by coop reason row) ∙ none_of a 0 0 (length h) 0 Start Finish (agents_of s the_coop) none
 none_asked s h by (Begin lane demand opening agent) a row none = refl
 none_asked s h by (Act turn effect answer) a row none =
-    effect_asks s h (λ asked. filter (λ (d : Demand). d.agent.0 == a.0) (demands_from (length h) 0 asked) ≡ []) refl (λ mbox msg payload. none_reached s h a mbox msg (Event mbox msg payload) none) effect
+    effect_asks s h (λ asked. filter (λ (d : Demand). d.agent.0 == a.0) (demands_from (length h) 0 asked) ≡ []) refl (λ mbox msg payload. none_delivered s h a mbox msg payload none) effect
 none_asked s h by (End turn) a row none = refl
 none_asked s h by (Left coop) a row none = refl
+none_asked s h by (Skip lane demand why) a row none = refl
 none_asked s h by (Stop cause) a row none = refl
 none_asked s h by (Abort cause) a row none = refl
 
@@ -171,6 +167,7 @@ asked_case s h by (Leaving coop reason) a row p none ih = ih p
 asked_case s h by (Begin lane demand opening agent) a row p none ih = ih p
 asked_case s h by (Act turn effect answer) a row p none ih = ih p
 asked_case s h by (End turn) a row p none ih = ih p
+asked_case s h by (Skip lane demand why) a row p none ih = ih p
 asked_case s h by (Stop cause) a row p none ih = ih p
 asked_case s h by (Abort cause) a row p none ih = ih p
 
@@ -207,7 +204,7 @@ none_sent : (s : SceneParts) (h : List Entry) (by : PartyId) (turn : Place) (eff
 none_sent s h by turn effect answer a legal row none =
     elim (cases_Bool (present h)) [
       | inl y ↦ none_asked s h by (Act turn effect answer) a row (present_asked s h a legal y none)
-      | inr f ↦ effect_asks s h (λ asked. filter (λ (d : Demand). d.agent.0 == a.0) (demands_from (length h) 0 asked) ≡ []) refl (λ mbox msg payload. rw (reached_absent s h mbox msg f) refl) effect
+      | inr f ↦ effect_asks s h (λ asked. filter (λ (d : Demand). d.agent.0 == a.0) (demands_from (length h) 0 asked) ≡ []) refl (λ mbox msg payload. rw (events_absent s h mbox msg payload f) refl) effect
     ]
 
 first_case : (s : SceneParts) (h : List Entry) (by : PartyId) (kind : EntryKind) (a : AgentId) (d : Demand) → Legal s h → IsRow s h by kind → demands_for s h a ≡ [] → head (filter (λ x. x.agent.0 == a.0) (queued_by s h kind)) ≡ Some d → d.kind ≡ Start
@@ -218,6 +215,7 @@ first_case s h by (Begin lane demand opening agent) a d legal row none e = absur
 first_case s h by (Act turn effect answer) a d legal row none e = absurd (head_none _ d (none_sent s h by turn effect answer a legal row none) e)
 first_case s h by (End turn) a d legal row none e = absurd cc
 first_case s h by (Left coop) a d legal row none e = absurd cc
+first_case s h by (Skip lane demand why) a d legal row none e = absurd cc
 first_case s h by (Stop cause) a d legal row none e = absurd cc
 first_case s h by (Abort cause) a d legal row none e = absurd cc
 
@@ -238,6 +236,7 @@ present_tried_by (Leaving coop reason) p t e f = f e
 present_tried_by (Begin lane demand opening agent) p t e f = f e
 present_tried_by (Act turn effect answer) p t e f = f e
 present_tried_by (End turn) p t e f = f e
+present_tried_by (Skip lane demand why) p t e f = f e
 present_tried_by (Stop cause) p t e f = f e
 present_tried_by (Abort cause) p t e f = f e
 
@@ -253,6 +252,7 @@ leaving_tried_by s h by (Left coop) row l f = absurd cc
 leaving_tried_by s h by (Begin lane demand opening agent) row l f = f l
 leaving_tried_by s h by (Act turn effect answer) row l f = f l
 leaving_tried_by s h by (End turn) row l f = f l
+leaving_tried_by s h by (Skip lane demand why) row l f = f l
 leaving_tried_by s h by (Stop cause) row l f = f l
 leaving_tried_by s h by (Abort cause) row l f = f l
 
@@ -294,9 +294,10 @@ last_case s h by (Left coop) a d legal row l e ih = absurd cc
 last_case s h by (Begin lane demand opening agent) a d legal row l e ih = ih l (last_same s (record { by = by; kind = Begin lane demand opening agent }) h a d refl e)
 last_case s h by (Act turn effect answer) a d legal row l e ih =
     let none : filter (λ x. x.agent.0 == a.0) (queued_by s h (Act turn effect answer)) ≡ [] =
-    effect_asks s h (λ asked. filter (λ (x : Demand). x.agent.0 == a.0) (demands_from (length h) 0 asked) ≡ []) refl (λ mbox msg payload. rw (reached_leaving s h mbox msg l) refl) effect in
+    effect_asks s h (λ asked. filter (λ (x : Demand). x.agent.0 == a.0) (demands_from (length h) 0 asked) ≡ []) refl (λ mbox msg payload. rw (events_leaving s h mbox msg payload l) refl) effect in
     ih l (last_same s (record { by = by; kind = Act turn effect answer }) h a d none e)
 last_case s h by (End turn) a d legal row l e ih = ih l (last_same s (record { by = by; kind = End turn }) h a d refl e)
+last_case s h by (Skip lane demand why) a d legal row l e ih = ih l (last_same s (record { by = by; kind = Skip lane demand why }) h a d refl e)
 last_case s h by (Stop cause) a d legal row l e ih = ih l (last_same s (record { by = by; kind = Stop cause }) h a d refl e)
 last_case s h by (Abort cause) a d legal row l e ih = ih l (last_same s (record { by = by; kind = Abort cause }) h a d refl e)
 

@@ -14,7 +14,7 @@ use Rattle.so_code.specs.Openings.{begun}
 use Rattle.so_scene.specs.declared.parts.SceneParts.{SceneParts}
 use Rattle.so_history.specs.declared.entry.Entry.{Entry}
 use Rattle.so_history.specs.declared.entry.EntryKind.{EntryKind}
-use Rattle.so_history.specs.declared.entry.EntryKind.TheVariants.{Register, Begin, Act, End, Leaving, Left, Stop, Abort}
+use Rattle.so_history.specs.declared.entry.EntryKind.TheVariants.{Register, Begin, Skip, Act, End, Leaving, Left, Stop, Abort}
 use Rattle.so_history.specs.Demands.{message_of}
 use Rattle.so_history.specs.Turns.{Started, Course, started_by, answer_to, advanced, vars, course}
 use Rattle.so_history.proofs.TurnLaws.{turn_of, started_at_entry}
@@ -43,6 +43,7 @@ module _ (s : SceneParts) (vs : AgentId → Vars) (ms : Option DemandId → Payl
   advanced_not place (End turn) t c spares early = refl
   advanced_not place (Leaving coop reason) t c spares early = refl
   advanced_not place (Left coop) t c spares early = refl
+  advanced_not place (Skip lane demand why) t c spares early = refl
   advanced_not place (Stop cause) t c spares early = refl
   advanced_not place (Abort cause) t c spares early = refl
 
@@ -71,6 +72,7 @@ module _ (s : SceneParts) (vs : AgentId → Vars) (ms : Option DemandId → Payl
   begun_reaches place by (End turn) t c e = absurd cc
   begun_reaches place by (Leaving coop reason) t c e = absurd cc
   begun_reaches place by (Left coop) t c e = absurd cc
+  begun_reaches place by (Skip lane demand why) t c e = absurd cc
   begun_reaches place by (Stop cause) t c e = absurd cc
   begun_reaches place by (Abort cause) t c e = absurd cc
 
@@ -86,6 +88,7 @@ module _ (s : SceneParts) (vs : AgentId → Vars) (ms : Option DemandId → Payl
   still_reaches place (End turn) p c other = record { reached = c; has = refl; whose = refl }
   still_reaches place (Leaving coop reason) p c other = record { reached = c; has = refl; whose = refl }
   still_reaches place (Left coop) p c other = record { reached = c; has = refl; whose = refl }
+  still_reaches place (Skip lane demand why) p c other = record { reached = c; has = refl; whose = refl }
   still_reaches place (Stop cause) p c other = record { reached = c; has = refl; whose = refl }
   still_reaches place (Abort cause) p c other = record { reached = c; has = refl; whose = refl }
 

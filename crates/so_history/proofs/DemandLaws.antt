@@ -12,7 +12,8 @@ use Rattle.so_ids.specs.declared.PartyId.{PartyId}
 use Rattle.so_ids.specs.Ids.{same_demand}
 use Rattle.so_lists.proofs.Filters.{each-append, each-weaker, each-filter, each_passes, found, filter_keeps, filter-filter, either_way, ap2_append}
 use Rattle.so_scene.specs.declared.parts.SceneParts.{SceneParts}
-use Rattle.so_scene.specs.Parts.{coop_of, agents_of, IsScene}
+use Rattle.so_scene.specs.Parts.{coop_of, agents_of}
+use Rattle.so_scene.specs.Checked.{IsScene}
 use Rattle.so_lists.proofs.EachBelow.{length-each_below}
 use Rattle.so_ids.specs.declared.CoopId.{CoopId}
 use Rattle.std.proofs.lemmas.List.{length-map}
@@ -20,19 +21,18 @@ use Rattle.so_scene.proofs.AgentLaws.{agents_in_range}
 use Rattle.so_history.specs.declared.entry.DemandKind.{DemandKind}
 use Rattle.so_history.specs.declared.entry.Entry.{Entry}
 use Rattle.so_history.specs.declared.entry.EntryKind.{EntryKind}
-use Rattle.so_history.specs.declared.entry.EntryKind.TheVariants.{Register, Begin, Act, End, Leaving, Left, Stop, Abort}
+use Rattle.so_history.specs.declared.entry.EntryKind.TheVariants.{Register, Begin, Skip, Act, End, Leaving, Left, Stop, Abort}
 use Rattle.so_history.specs.declared.entry.Demand.{Demand}
-use Rattle.so_ids.specs.declared.MboxId.{MboxId}
-use Rattle.so_ids.specs.declared.MsgId.{MsgId}
 use Rattle.so_code.specs.declared.effect.Effect.{Effect}
 use Rattle.so_history.specs.Coops.{the_coop, present}
-use Rattle.so_history.specs.Delivery.{registered, receivers, reached}
+use Rattle.so_history.specs.Delivery.{registered}
 use Rattle.so_history.specs.Demands.{ask_each, asked_by, asked_by_effect, demands_from, queued_by, demands, takes, taken, waiting, without}
 use Rattle.so_history.specs.Units.{units}
 use Rattle.so_history.specs.Order.{is_free, may_take, pick}
-use Rattle.so_history.specs.Steps.{IsBegin, IsRow, Legal}
+use Rattle.so_history.specs.Steps.{IsTaking, IsRow, Legal}
 use Rattle.so_history.specs.Facts.{takings}
-use Rattle.so_history.proofs.AskedLaws.{effect_asks}
+use Rattle.so_history.proofs.TakingLaws.{takes-taking}
+use Rattle.so_history.proofs.AskedLaws.{effect_asks, delivered_of}
 use Rattle.so_history.proofs.NameLaws.{same_place, Sorted, sorted-append, sorted-filter, named_here, demands_from_sorted, length-demands_from, all_earlier, filter-without}
 
 -- demands are queued at the place of their entry
@@ -72,21 +72,22 @@ unfolding pick
 picked s h lane d e = grind arith
 
 -- a legal entry takes only a demand that waits
-begin_takes : (s : SceneParts) (h : List Entry) (by : PartyId) (lane : LaneId) (kind : EntryKind) → IsBegin s h by lane kind → (d : DemandId) → takes kind d ≡ true → (d.place.0 < length h) × (taken h d ≡ false)
-begin_takes s h by lane kind row d t =
-    let same : row.demand.id ≡ d = same_place row.demand.id d (sym (ap (λ k. takes k d) row.is) ∙ t) in
+taker_takes : (s : SceneParts) (h : List Entry) (by : PartyId) (lane : LaneId) (kind : EntryKind) → IsTaking s h by lane kind → (d : DemandId) → takes kind d ≡ true → (d.place.0 < length h) × (taken h d ≡ false)
+taker_takes s h by lane kind row d t =
+    let same : row.demand.id ≡ d = same_place row.demand.id d (sym (takes-taking s h lane row.demand d) ∙ (sym (ap (λ k. takes k d) row.is) ∙ t)) in
     let waits = (picked s h lane row.demand row.picked).1 in
     let early = (found (λ x. x.id.place.0 < length h) (may_take s h lane) (waiting s h) row.demand (waiting_early s h) waits).0 in
     let untaken = (found (λ x. taken h x.id ≡ false) (may_take s h lane) (waiting s h) row.demand (waiting_untaken s h) waits).0 in
     rw (← same) (early, untaken)
 
 pub takes_waiting : (s : SceneParts) (h : List Entry) (by : PartyId) (kind : EntryKind) → IsRow s h by kind → (d : DemandId) → takes kind d ≡ true → (d.place.0 < length h) × (taken h d ≡ false)
-takes_waiting s h by (Begin lane demand opening agent) row d t = begin_takes s h by lane (Begin lane demand opening agent) row d t
+takes_waiting s h by (Begin lane demand opening agent) row d t = taker_takes s h by lane (Begin lane demand opening agent) row d t
 takes_waiting s h by (Register coop) row d t = cc
 takes_waiting s h by (Act turn effect answer) row d t = cc
 takes_waiting s h by (End turn) row d t = cc
 takes_waiting s h by (Leaving coop reason) row d t = cc
 takes_waiting s h by (Left coop) row d t = cc
+takes_waiting s h by (Skip lane demand why) row d t = taker_takes s h by lane (Skip lane demand why) row d t
 takes_waiting s h by (Stop cause) row d t = cc
 takes_waiting s h by (Abort cause) row d t = cc
 
@@ -200,14 +201,10 @@ registered_of s h scene =
       | inr f ↦ rw f tt
     ]
 
-pub reached_of : (s : SceneParts) (h : List Entry) (mbox : MboxId) (msg : MsgId) → IsScene s → AllByRecursion (λ a. a.0 < length s.agents) (reached s h mbox msg)
-unfolding receivers
-reached_of s h mbox msg scene = each-filter _ _ (receivers s h mbox msg) (each-filter _ _ (registered s h) (registered_of s h scene))
-
 effect_of : (s : SceneParts) (h : List Entry) (effect : Effect) → IsScene s → AllByRecursion (λ d. d.agent.0 < length s.agents) (demands_from (length h) 0 (asked_by_effect s h effect))
 effect_of s h effect scene =
     effect_asks s h (λ asked. AllByRecursion (λ (d : Demand). d.agent.0 < length s.agents) (demands_from (length h) 0 asked)) tt
-    (λ mbox msg payload. asked_of s _ (reached s h mbox msg) (length h) 0 (reached_of s h mbox msg scene)) effect
+    (λ mbox msg payload. delivered_of s h (λ a. a.0 < length s.agents) mbox msg payload (length h) 0 (registered_of s h scene)) effect
 
 pub queued_of : (s : SceneParts) (h : List Entry) (kind : EntryKind) → IsScene s → AllByRecursion (λ d. d.agent.0 < length s.agents) (queued_by s h kind)
 queued_of s h (Register coop) scene = asked_of s _ (agents_of s coop) (length h) 0 (agents_in_range s coop scene)
@@ -216,6 +213,7 @@ queued_of s h (Begin lane demand opening agent) scene = tt
 queued_of s h (Act turn effect answer) scene = effect_of s h effect scene
 queued_of s h (End turn) scene = tt
 queued_of s h (Left coop) scene = tt
+queued_of s h (Skip lane demand why) scene = tt
 queued_of s h (Stop cause) scene = tt
 queued_of s h (Abort cause) scene = tt
 

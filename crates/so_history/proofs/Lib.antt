@@ -1,5 +1,6 @@
 pub mod PlacesLemmas
 pub mod NameLaws
+pub mod TakingLaws
 pub mod AskedLaws
 pub mod DemandLaws
 pub mod TurnLaws

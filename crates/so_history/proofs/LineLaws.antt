@@ -1,10 +1,12 @@
 -- The line of an entry of a legal history is short.
-use Rattle.std.proofs.Common.{◌≡◌, ℕ, ◌+◌, ◌≤◌, List, length, Option, Some, None, arith, refl, subst}
+use Rattle.std.proofs.Common.{◌≡◌, ℕ, ◌+◌, ◌≤◌, List, length, Bool, true, false, Option, Some, None, arith, refl, subst}
 use Rattle.std.proofs.lemmas.Option.{same_Some}
 use Rattle.std.specs.Option.{option_map}
 use Rattle.so_ids.specs.declared.PartyId.{PartyId}
 use Rattle.so_ids.specs.declared.Place.{Place}
+use Rattle.so_ids.specs.declared.AgentId.{AgentId}
 use Rattle.so_ids.specs.declared.MsgId.{MsgId}
+use Rattle.so_ids.specs.declared.Payload.{Payload}
 use Rattle.so_ids.specs.declared.Target.{Target}
 use Rattle.so_ids.specs.declared.Target.TheVariants.{Mbox, Chain}
 use Rattle.so_code.specs.declared.effect.Answer.{Answer}
@@ -16,57 +18,66 @@ use Rattle.so_code.specs.declared.effect.Move.TheVariants.{Do, Done, Fail}
 use Rattle.so_scene.specs.declared.parts.SceneParts.{SceneParts}
 use Rattle.so_history.specs.declared.entry.Entry.{Entry}
 use Rattle.so_history.specs.declared.entry.EntryKind.{EntryKind}
-use Rattle.so_history.specs.declared.entry.EntryKind.TheVariants.{Register, Begin, Act, End, Leaving, Left, Stop, Abort}
+use Rattle.so_history.specs.declared.entry.EntryKind.TheVariants.{Register, Begin, Skip, Act, End, Leaving, Left, Stop, Abort}
 use Rattle.so_history.specs.Places.{entry_at, before}
 use Rattle.so_history.specs.Turns.{move_of}
-use Rattle.so_history.specs.Steps.{IsRow, Legal, answer_to_send, answer_of, entry_of}
+use Rattle.so_history.specs.Steps.{IsRow, Legal, answer_to_send, yes_where, may_subscribe, is_active, answer_of, entry_of}
+use Rattle.so_history.specs.Delivery.{active_rows, active_filters}
 use Rattle.so_history.specs.Rooms.{effect_room, answer_room, IsShort}
 use Rattle.so_history.proofs.PlaceLaws.{steps_at}
 
 -- a send is not answered by a plan
-sent_short : (s : SceneParts) (h : List Entry) (target : Target) (msg : MsgId) (a : Answer) → answer_to_send s h target msg ≡ Some a → answer_room a ≤ 109
-sent_short s h (Mbox mbox) msg a e = subst (λ x. answer_room x ≤ 109) (same_Some _ a e) (omega arith)
-sent_short s h (Chain chain) msg a e = absurd cc
+sent_short : (s : SceneParts) (h : List Entry) (target : Target) (msg : MsgId) (payload : Payload) (a : Answer) → answer_to_send s h target msg payload ≡ Some a → answer_room a ≤ 109
+sent_short s h (Mbox mbox) msg payload a e = subst (λ x. answer_room x ≤ 109) (same_Some _ a e) (omega arith)
+sent_short s h (Chain chain) msg payload a e = absurd cc
 
 okay_short : (a : Answer) → Some answer.Okay ≡ Some a → answer_room a ≤ 109
 okay_short a e = subst (λ x. answer_room x ≤ 109) (same_Some _ a e) (omega arith)
 
-answer_short : (s : SceneParts) (h : List Entry) (x : Effect) (a : Answer) → answer_of s h x ≡ Some a → effect_room x + answer_room a ≤ 470
-answer_short s h (effect.Log text payload) a e = omega (arith, okay_short a e)
-answer_short s h (effect.Send target msg payload) a e = omega (arith, sent_short s h target msg a e)
-answer_short s h effect.Stop a e = omega (arith, okay_short a e)
-answer_short s h (effect.Delayed target msg payload ms) a e = absurd cc
-answer_short s h (effect.Timer slot target msg payload ms period) a e = absurd cc
-answer_short s h (effect.Cancel slot) a e = absurd cc
-answer_short s h (effect.Switch to) a e = absurd cc
-answer_short s h (effect.SetState leaf) a e = absurd cc
-answer_short s h effect.Choose a e = absurd cc
-answer_short s h (effect.Subscribe row) a e = absurd cc
-answer_short s h (effect.Unsubscribe row) a e = absurd cc
-answer_short s h (effect.SetFilter filter) a e = absurd cc
-answer_short s h (effect.DropFilter filter) a e = absurd cc
-answer_short s h (effect.Register coop) a e = absurd cc
-answer_short s h (effect.Deregister coop) a e = absurd cc
-answer_short s h (effect.Close chain keep) a e = absurd cc
-answer_short s h (effect.Receive place) a e = absurd cc
-answer_short s h (effect.Take place) a e = absurd cc
+said_short : (b : Bool) → answer_room (yes_where b) ≤ 109
+said_short true = omega arith
+said_short false = omega arith
 
-answered_short : (s : SceneParts) (h : List Entry) (place : Place) (x : Effect) (a : Option Answer) → answer_of s h x ≡ a → (kind : EntryKind) → option_map (Act place x) a ≡ Some kind → IsShort kind
-answered_short s h place x None is kind e = absurd cc
-answered_short s h place x (Some a) is kind e = subst IsShort (same_Some _ kind e) (omega (arith, answer_short s h x a is))
+yes_short : (b : Bool) (a : Answer) → Some (yes_where b) ≡ Some a → answer_room a ≤ 109
+yes_short b a e = subst (λ x. answer_room x ≤ 109) (same_Some _ a e) (said_short b)
 
-move_short : (s : SceneParts) (h : List Entry) (place : ℕ) (m : Move) (kind : EntryKind) → entry_of s h place m ≡ Some kind → IsShort kind
-move_short s h place (Do x) kind e = answered_short s h (record { 0 = place }) x (answer_of s h x) refl kind e
-move_short s h place Done kind e = subst IsShort (same_Some _ kind e) (omega arith)
-move_short s h place (Fail why) kind e = subst IsShort (same_Some _ kind e) (omega arith)
+answer_short : (s : SceneParts) (h : List Entry) (agent : AgentId) (x : Effect) (a : Answer) → answer_of s h agent x ≡ Some a → effect_room x + answer_room a ≤ 470
+answer_short s h agent (effect.Log text payload) a e = omega (arith, okay_short a e)
+answer_short s h agent (effect.Send target msg payload) a e = omega (arith, sent_short s h target msg payload a e)
+answer_short s h agent effect.Stop a e = omega (arith, okay_short a e)
+answer_short s h agent (effect.Delayed target msg payload ms) a e = absurd cc
+answer_short s h agent (effect.Timer slot target msg payload ms period) a e = absurd cc
+answer_short s h agent (effect.Cancel slot) a e = absurd cc
+answer_short s h agent (effect.Switch to) a e = absurd cc
+answer_short s h agent (effect.SetState leaf) a e = absurd cc
+answer_short s h agent effect.Choose a e = absurd cc
+answer_short s h agent (effect.Subscribe row) a e = omega (arith, yes_short (may_subscribe s h agent row) a e)
+answer_short s h agent (effect.Unsubscribe row) a e = omega (arith, yes_short (is_active (active_rows s h agent) row.0) a e)
+answer_short s h agent (effect.SetFilter filter) a e = omega (arith, yes_short (true) a e)
+answer_short s h agent (effect.DropFilter filter) a e = omega (arith, yes_short (is_active (active_filters s h agent) filter.0) a e)
+answer_short s h agent (effect.Register coop) a e = absurd cc
+answer_short s h agent (effect.Deregister coop) a e = absurd cc
+answer_short s h agent (effect.Close chain keep) a e = absurd cc
+answer_short s h agent (effect.Receive place) a e = absurd cc
+answer_short s h agent (effect.Take place) a e = absurd cc
+
+answered_short : (s : SceneParts) (h : List Entry) (agent : AgentId) (place : Place) (x : Effect) (a : Option Answer) → answer_of s h agent x ≡ a → (kind : EntryKind) → option_map (Act place x) a ≡ Some kind → IsShort kind
+answered_short s h agent place x None is kind e = absurd cc
+answered_short s h agent place x (Some a) is kind e = subst IsShort (same_Some _ kind e) (omega (arith, answer_short s h agent x a is))
+
+move_short : (s : SceneParts) (h : List Entry) (agent : AgentId) (place : ℕ) (m : Move) (kind : EntryKind) → entry_of s h agent place m ≡ Some kind → IsShort kind
+move_short s h agent place (Do x) kind e = answered_short s h agent (record { 0 = place }) x (answer_of s h agent x) refl kind e
+move_short s h agent place Done kind e = subst IsShort (same_Some _ kind e) (omega arith)
+move_short s h agent place (Fail why) kind e = subst IsShort (same_Some _ kind e) (omega arith)
 
 row_short : (s : SceneParts) (h : List Entry) (by : PartyId) (kind : EntryKind) → IsRow s h by kind → IsShort kind
-row_short s h by (Act turn effect answer) row = move_short s h turn.0 (move_of s row.reached).0 (Act turn effect answer) row.is
+row_short s h by (Act turn effect answer) row = move_short s h row.reached.agent turn.0 (move_of s row.reached).0 (Act turn effect answer) row.is
 row_short s h by (Register coop) row = omega arith
 row_short s h by (Begin lane demand opening agent) row = omega arith
 row_short s h by (End turn) row = omega arith
 row_short s h by (Leaving coop reason) row = omega arith
 row_short s h by (Left coop) row = omega arith
+row_short s h by (Skip lane demand why) row = omega arith
 row_short s h by (Stop cause) row = omega arith
 row_short s h by (Abort cause) row = omega arith
 

@@ -1,5 +1,5 @@
 -- Demands of one queue are taken in order, and each turn begins as its demand says.
-use Rattle.std.proofs.Common.{◌≡◌, ℕ, ◌<◌, ◌≤◌, List, [], ◌∷◌, length, Bool, true, false, not, ◌&&◌, ◌||◌, Option, Some, None, arith, refl, sym, ◌∙◌, ap, subst, inl, inr}
+use Rattle.std.proofs.Common.{◌≡◌, ℕ, ◌<◌, ◌≤◌, List, [], ◌∷◌, length, Bool, true, false, not, ◌&&◌, ◌||◌, Some, arith, refl, sym, ◌∙◌, ap, subst, inl, inr}
 use Rattle.std.specs.Prelude.{◌==◌}
 use Rattle.std.specs.List.{filter, find}
 use Rattle.std.proofs.lemmas.Bool.{cases_Bool, or_cases, and_left, ne_eqb, false≢true}
@@ -9,7 +9,6 @@ use Rattle.so_ids.specs.declared.LaneId.{LaneId}
 use Rattle.so_ids.specs.declared.KeyId.{KeyId}
 use Rattle.so_ids.specs.declared.DemandId.{DemandId}
 use Rattle.so_ids.specs.declared.Opening.{Opening}
-use Rattle.so_ids.specs.declared.Opening.TheVariants.{Start as OpenStart}
 use Rattle.so_ids.specs.declared.PartyId.{PartyId}
 use Rattle.so_ids.specs.Ids.{same_demand, is_earlier}
 use Rattle.so_lists.specs.Lists.{is_empty}
@@ -18,16 +17,18 @@ use Rattle.so_scene.specs.declared.parts.SceneParts.{SceneParts}
 use Rattle.so_scene.specs.Lanes.{key_of, serves}
 use Rattle.so_history.specs.declared.entry.Entry.{Entry}
 use Rattle.so_history.specs.declared.entry.EntryKind.{EntryKind}
-use Rattle.so_history.specs.declared.entry.EntryKind.TheVariants.{Register, Begin, Act, End, Leaving, Left, Stop, Abort}
+use Rattle.so_history.specs.declared.entry.EntryKind.TheVariants.{Register, Begin, Skip, Act, End, Leaving, Left, Stop, Abort}
 use Rattle.so_history.specs.declared.entry.Demand.{Demand}
+use Rattle.so_history.specs.declared.entry.SkipWhy.{SkipWhy}
 use Rattle.so_history.specs.Places.{before}
 use Rattle.so_history.specs.Demands.{queued_by, demands, takes, taken, waiting, named, message_of, payload_in, payload_of}
 use Rattle.so_history.specs.Turns.{running_with}
-use Rattle.so_history.specs.Order.{may_take, pick}
-use Rattle.so_history.specs.Steps.{IsBegin, IsRow, IsStep, Legal}
-use Rattle.so_history.specs.Facts.{TakesAt, TakenBefore, InOrder, BeginsWith, ByChoice}
+use Rattle.so_history.specs.Order.{may_take, pick, opening_of, skipped}
+use Rattle.so_history.specs.Steps.{IsTaking, IsRow, IsStep, Legal}
+use Rattle.so_history.specs.Facts.{StandsAt, TakesAt, TakenBefore, InOrder, BeginsWith, SkipsWith, ByChoice}
 use Rattle.so_history.proofs.NameLaws.{same_place, found_by_name, found_least}
 use Rattle.so_history.proofs.DemandLaws.{queued_here, waiting_sorted, picked, takes_waiting, taken_early, demands_sorted}
+use Rattle.so_history.proofs.TakingLaws.{takes-taking, begins_as, skips_as}
 use Rattle.so_history.proofs.TurnLaws.{may_be_taken}
 use Rattle.so_history.proofs.PlaceLaws.{Where, is_last, is_early, place_of_entry, entry_at-last, entry_at-early, steps_at}
 
@@ -92,23 +93,24 @@ earlier_taken s h lane c d picks there key earlier =
           absurd (false≢true (sym not_earlier ∙ earlier)))
     ]
 
--- what a Begin takes
+-- what a lane takes
 record Taken (s : SceneParts) (h : List Entry) (id : DemandId) : Type 0 where
   lane : LaneId
   demand : Demand
   picked : pick s h lane ≡ Some demand
   is : demand.id ≡ id
 
-what_begin : (s : SceneParts) (h : List Entry) (by : PartyId) (lane : LaneId) (kind : EntryKind) → IsBegin s h by lane kind → (d : DemandId) → takes kind d ≡ true → Taken s h d
-what_begin s h by lane kind row d t = record { lane = lane; demand = row.demand; picked = row.picked; is = same_place row.demand.id d (sym (ap (λ k. takes k d) row.is) ∙ t) }
+what_taking : (s : SceneParts) (h : List Entry) (by : PartyId) (lane : LaneId) (kind : EntryKind) → IsTaking s h by lane kind → (d : DemandId) → takes kind d ≡ true → Taken s h d
+what_taking s h by lane kind row d t = record { lane = lane; demand = row.demand; picked = row.picked; is = same_place row.demand.id d (sym (takes-taking s h lane row.demand d) ∙ (sym (ap (λ k. takes k d) row.is) ∙ t)) }
 
 what : (s : SceneParts) (h : List Entry) (by : PartyId) (kind : EntryKind) → IsRow s h by kind → (d : DemandId) → takes kind d ≡ true → Taken s h d
-what s h by (Begin lane demand opening agent) row d t = what_begin s h by lane (Begin lane demand opening agent) row d t
+what s h by (Begin lane demand opening agent) row d t = what_taking s h by lane (Begin lane demand opening agent) row d t
 what s h by (Register coop) row d t = absurd cc
 what s h by (Act turn effect answer) row d t = absurd cc
 what s h by (End turn) row d t = absurd cc
 what s h by (Leaving coop reason) row d t = absurd cc
 what s h by (Left coop) row d t = absurd cc
+what s h by (Skip lane demand why) row d t = what_taking s h by lane (Skip lane demand why) row d t
 what s h by (Stop cause) row d t = absurd cc
 what s h by (Abort cause) row d t = absurd cc
 
@@ -147,36 +149,37 @@ pub in_order : (s : SceneParts) (h : List Entry) → Legal s h → InOrder s h
 in_order s [] legal = λ c d place has_c has_d key earlier t. absurd (let e = t.here in cc)
 in_order s (e ∷ h) legal = λ c d place has_c has_d key earlier t. order_case s e h c d place legal has_c has_d key earlier t (place_of_entry e h place t.entry t.here) (in_order s h legal.0)
 
--- how a Begin reads
-demand_in : EntryKind → Option DemandId
-demand_in (Begin lane demand opening agent) = demand
-demand_in other = None
+-- a demand that is picked waits under its name
+picked_waits : (s : SceneParts) (h : List Entry) (lane : LaneId) (d : Demand) → pick s h lane ≡ Some d → named d.id (waiting s h) ≡ Some d
+picked_waits s h lane d e = found_by_name (may_take s h lane) (waiting s h) d (waiting_sorted s h) (picked s h lane d e).1
 
-opening_in : EntryKind → Opening
-opening_in (Begin lane demand opening agent) = opening
-opening_in other = OpenStart
-
-agent_in : EntryKind → AgentId
-agent_in (Begin lane demand opening agent) = agent
-agent_in other = record { 0 = 0 }
-
-chosen : (s : SceneParts) (h : List Entry) (by : PartyId) (lane : LaneId) (id : DemandId) (opening : Opening) (agent : AgentId) → IsBegin s h by lane (Begin lane (Some id) opening agent) → BeginsWith s h id opening agent
-unfolding demand_in opening_in agent_in
-chosen s h by lane id opening agent row =
-    let same : id ≡ row.demand.id = same_Some id row.demand.id (ap demand_in row.is) in
-    let by_name : named row.demand.id (waiting s h) ≡ Some row.demand = found_by_name (may_take s h lane) (waiting s h) row.demand (waiting_sorted s h) (picked s h lane row.demand row.picked).1 in
+begins : (s : SceneParts) (h : List Entry) (by : PartyId) (lane : LaneId) (id : DemandId) (opening : Opening) (agent : AgentId) → IsTaking s h by lane (Begin lane (Some id) opening agent) → BeginsWith s h id opening agent
+begins s h by lane id opening agent row =
+    let it = begins_as lane lane row.demand (opening_of s h row.demand) (skipped (opening_of s h row.demand)) (Some id) opening agent row.is in
     record {
       demand = row.demand;
-      waits = ap (λ i. named i (waiting s h)) same ∙ by_name;
-      chosen = ap opening_in row.is;
-      its_agent = ap agent_in row.is;
+      waits = ap (λ i. named i (waiting s h)) (same_Some id row.demand.id it.demand_is) ∙ picked_waits s h lane row.demand row.picked;
+      chosen = it.opening_is;
+      its_agent = it.agent_is;
     }
 
+skips : (s : SceneParts) (h : List Entry) (by : PartyId) (lane : LaneId) (id : DemandId) (why : SkipWhy) → IsTaking s h by lane (Skip lane id why) → SkipsWith s h id why
+skips s h by lane id why row =
+    let it = skips_as lane lane row.demand (opening_of s h row.demand) (skipped (opening_of s h row.demand)) id why row.is in
+    record {
+      demand = row.demand;
+      waits = ap (λ i. named i (waiting s h)) it.demand_is ∙ picked_waits s h lane row.demand row.picked;
+      chosen = it.reason_is;
+    }
+
+row_at : (s : SceneParts) (h : List Entry) (place : ℕ) (kind : EntryKind) → Legal s h → (stands : StandsAt h place kind) → IsRow s (before h place) stands.entry.by kind
+row_at s h place kind legal stands = subst (IsRow s (before h place) stands.entry.by) stands.is (steps_at s h place stands.entry legal stands.here).step.row
+
 pub by_choice : (s : SceneParts) (h : List Entry) → Legal s h → ByChoice s h
-by_choice s h legal = λ place lane id opening agent stands.
-    let at = steps_at s h place stands.entry legal stands.here in
-    let row : IsRow s (before h place) stands.entry.by (Begin lane (Some id) opening agent) = subst (IsRow s (before h place) stands.entry.by) stands.is at.step.row in
-    chosen s (before h place) stands.entry.by lane id opening agent row
+by_choice s h legal = record {
+  begins = λ place lane id opening agent stands. begins s (before h place) stands.entry.by lane id opening agent (row_at s h place (Begin lane (Some id) opening agent) legal stands);
+  skips = λ place lane id why stands. skips s (before h place) stands.entry.by lane id why (row_at s h place (Skip lane id why) legal stands);
+}
 
 -- a demand that is picked is the one of its name, so that its turn begins with its message
 find_within : (p q : Demand → Bool) (ds : List Demand) (d : Demand) → find p (filter q ds) ≡ Some d → find (λ x. q x && p x) ds ≡ Some d

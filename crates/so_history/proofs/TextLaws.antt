@@ -2,6 +2,7 @@
 use Rattle.std.proofs.Common.{◌≡◌, ℕ, ◌<◌, List, [], ◌∷◌, length, Bool, true, false, cond, Some, arith, refl, sym, ◌∙◌, ap, subst}
 use Rattle.std.specs.Prelude.{◌==◌}
 use Rattle.std.proofs.lemmas.Option.{same_Some}
+use Rattle.so_ids.specs.declared.AgentId.{AgentId}
 use Rattle.so_ids.specs.declared.PartyId.{PartyId}
 use Rattle.so_ids.specs.declared.Place.{Place}
 use Rattle.so_code.specs.declared.effect.Answer.{Answer}
@@ -9,15 +10,15 @@ use Rattle.so_code.specs.declared.effect.Effect.{Effect}
 use Rattle.so_code.specs.declared.effect.Effect.TheVariants.{Log}
 use Rattle.so_scene.specs.declared.parts.SceneParts.{SceneParts}
 use Rattle.so_code.specs.declared.effect.FailKind.{FailKind}
-use Rattle.so_scene.specs.Parts.{IsScene}
+use Rattle.so_scene.specs.Checked.{IsScene}
 use Rattle.so_history.specs.declared.entry.Entry.{Entry}
 use Rattle.so_history.specs.declared.entry.EntryKind.{EntryKind}
-use Rattle.so_history.specs.declared.entry.EntryKind.TheVariants.{Register, Begin, Act, End, Leaving, Left, Stop, Abort}
+use Rattle.so_history.specs.declared.entry.EntryKind.TheVariants.{Register, Begin, Skip, Act, End, Leaving, Left, Stop, Abort}
 use Rattle.so_history.specs.declared.entry.AbortCause.TheVariants.{Exception}
-use Rattle.so_history.specs.Places.{entry_at, before}
+use Rattle.so_history.specs.Places.{entry_at, before, beginner, beginner_at}
 use Rattle.so_history.specs.Turns.{Started, started_by, move_of}
 use Rattle.so_history.specs.Steps.{NamesEffect, IsMove, IsRow, Legal}
-use Rattle.so_history.specs.Text.{beginner, beginner_at, HasText}
+use Rattle.so_history.specs.Text.{HasText}
 use Rattle.so_history.proofs.PlaceLaws.{steps_at, before-entry, inside}
 use Rattle.so_history.proofs.TurnLaws.{turn_of, started_at_entry, turn_found, turn_agent, turn_looked_up}
 use Rattle.so_history.proofs.SoundLaws.{names_parts, acts_so, course_sound}
@@ -30,6 +31,7 @@ begins_with place by (Act turn effect answer) t e = absurd cc
 begins_with place by (End turn) t e = absurd cc
 begins_with place by (Leaving coop reason) t e = absurd cc
 begins_with place by (Left coop) t e = absurd cc
+begins_with place by (Skip lane demand why) t e = absurd cc
 begins_with place by (Stop cause) t e = absurd cc
 begins_with place by (Abort cause) t e = absurd cc
 
@@ -38,7 +40,7 @@ begun_case : (h : List Entry) (e : Entry) (p : ℕ) (t : Started) (b : Bool) →
 begun_case h e p t true here is ih = begins_with (length h) e.by e.kind t is
 begun_case h e p t false here is ih = ih is
 
-beginner_of : (h : List Entry) (p : ℕ) (t : Started) → turn_of h p ≡ Some t → beginner_at (entry_at h p) ≡ t.agent
+pub beginner_of : (h : List Entry) (p : ℕ) (t : Started) → turn_of h p ≡ Some t → beginner_at (entry_at h p) ≡ t.agent
 unfolding turn_of
 beginner_of [] p t e = absurd cc
 beginner_of (x ∷ h) p t e = begun_case h x p t (length h == p) refl e (beginner_of h p t)
@@ -64,18 +66,18 @@ owned s h place e by turn kind scene legal here row =
     let whose : beginner_at (entry_at h turn) ≡ row.turn.agent = ap beginner_at (sym (before-entry h place turn early (inside h place e here))) ∙ beginner_of (before h place) turn row.turn looked in
     record { early = early; agent = rw whose agent }
 
-text_named : (s : SceneParts) (e : Effect) → NamesEffect s e → HasText s e
-text_named s (Log text payload) named = named
-text_named s other named = tt
+text_named : (s : SceneParts) (a : AgentId) (e : Effect) → NamesEffect s a e → HasText s e
+text_named s a (Log text payload) named = named
+text_named s a other named = tt
 
 pub act_named : (s : SceneParts) (h : List Entry) (place : ℕ) (e : Entry) (turn : Place) (effect : Effect) (answer : Answer) → IsScene s → Legal s h → entry_at h place ≡ Some e → e.kind ≡ Act turn effect answer → IsActed s h place turn.0 effect
 act_named s h place e turn effect answer scene legal here is =
     let at = steps_at s h place e legal here in
     let row : IsRow s (before h place) e.by (Act turn effect answer) = subst (IsRow s (before h place) e.by) is at.step.row in
     let its = owned s h place e e.by turn.0 (Act turn effect answer) scene legal here row in
-    let acts = acts_so s (before h place) turn.0 (move_of s row.reached).0 turn effect answer row.is in
+    let acts = acts_so s (before h place) row.reached.agent turn.0 (move_of s row.reached).0 turn effect answer row.is in
     let sound = course_sound s scene (before h place) turn.0 row.reached at.legal row.has in
-    record { early = its.early; agent = its.agent; text = text_named s effect (names_parts s scene row.reached sound effect acts.does) }
+    record { early = its.early; agent = its.agent; text = text_named s row.reached.agent effect (names_parts s scene row.reached sound effect acts.does) }
 
 pub abort_named : (s : SceneParts) (h : List Entry) (place : ℕ) (e : Entry) (turn : Place) (kind : FailKind) → IsScene s → Legal s h → entry_at h place ≡ Some e → e.kind ≡ Abort (Exception turn kind) → IsOwned s h place turn.0
 abort_named s h place e turn kind scene legal here is =

@@ -15,16 +15,17 @@ use Rattle.so_lists.specs.Lists.{is_empty}
 use Rattle.so_lists.proofs.Filters.{each-append, each-weaker, each-filter, each_passes, both_each, found, filter_keeps, filter-filter, find-filter, find-append, find_last, lone, filter-swap, filter-short, either_way, ap2_append}
 use Rattle.so_lists.proofs.First.{empty-list}
 use Rattle.so_scene.specs.declared.parts.SceneParts.{SceneParts}
-use Rattle.so_scene.specs.Parts.{IsScene}
+use Rattle.so_scene.specs.Checked.{IsScene}
 use Rattle.so_scene.specs.Lanes.{lanes, key_of, serves}
 use Rattle.so_history.specs.declared.entry.Entry.{Entry}
 use Rattle.so_history.specs.declared.entry.EntryKind.{EntryKind}
-use Rattle.so_history.specs.declared.entry.EntryKind.TheVariants.{Register, Begin, Act, End, Leaving, Left, Stop, Abort}
+use Rattle.so_history.specs.declared.entry.EntryKind.TheVariants.{Register, Begin, Skip, Act, End, Leaving, Left, Stop, Abort}
 use Rattle.so_history.specs.declared.entry.Demand.{Demand}
 use Rattle.so_history.specs.Demands.{waiting}
 use Rattle.so_history.specs.Turns.{Started, started_by, turns, ends, ended, running, running_at, running_on, running_with, lane_number, key_number, turn_at}
-use Rattle.so_history.specs.Order.{may_take}
-use Rattle.so_history.specs.Steps.{IsBegin, IsRow, Legal}
+use Rattle.so_history.specs.Order.{may_take, opening_of, skipped}
+use Rattle.so_history.specs.Steps.{IsTaking, IsRow, Legal}
+use Rattle.so_history.proofs.TakingLaws.{begins_as}
 use Rattle.so_history.proofs.DemandLaws.{picked, picked_of}
 
 started_here : (place : ℕ) (by : PartyId) (kind : EntryKind) → AllByRecursion (λ t. t.place ≡ place) (started_by place by kind)
@@ -34,6 +35,7 @@ started_here place by (Leaving coop reason) = tt
 started_here place by (Act turn effect answer) = tt
 started_here place by (End turn) = tt
 started_here place by (Left coop) = tt
+started_here place by (Skip lane demand why) = tt
 started_here place by (Stop cause) = tt
 started_here place by (Abort cause) = tt
 
@@ -65,6 +67,7 @@ ends_early s h by (Begin lane demand opening agent) row t e = cc
 ends_early s h by (Act turn effect answer) row t e = cc
 ends_early s h by (Leaving coop reason) row t e = cc
 ends_early s h by (Left coop) row t e = cc
+ends_early s h by (Skip lane demand why) row t e = cc
 ends_early s h by (Stop cause) row t e = cc
 ends_early s h by (Abort cause) row t e = cc
 
@@ -147,6 +150,7 @@ few_started place by (Leaving coop reason) = omega arith
 few_started place by (Act turn effect answer) = omega arith
 few_started place by (End turn) = omega arith
 few_started place by (Left coop) = omega arith
+few_started place by (Skip lane demand why) = omega arith
 few_started place by (Stop cause) = omega arith
 few_started place by (Abort cause) = omega arith
 
@@ -157,6 +161,7 @@ ends_or_begins (Leaving coop reason) place by = inl (λ t. refl)
 ends_or_begins (Act turn effect answer) place by = inl (λ t. refl)
 ends_or_begins (End turn) place by = inr refl
 ends_or_begins (Left coop) place by = inl (λ t. refl)
+ends_or_begins (Skip lane demand why) place by = inl (λ t. refl)
 ends_or_begins (Stop cause) place by = inl (λ t. refl)
 ends_or_begins (Abort cause) place by = inl (λ t. refl)
 
@@ -180,7 +185,7 @@ single f s (e ∷ h) n frees legal =
     ]
 
 -- lanes are such numbers, and queues too
-begin_free_lane : (s : SceneParts) (h : List Entry) (by : PartyId) (lane : LaneId) (kind : EntryKind) → IsBegin s h by lane kind → running_on h lane ≡ []
+begin_free_lane : (s : SceneParts) (h : List Entry) (by : PartyId) (lane : LaneId) (kind : EntryKind) → IsTaking s h by lane kind → running_on h lane ≡ []
 begin_free_lane s h by lane kind row = empty-list (running_on h lane) (picked s h lane row.demand row.picked).0
 
 pub lanes_free : (s : SceneParts) → Frees lane_number s
@@ -190,6 +195,7 @@ lanes_free s h by (Leaving coop reason) row = tt
 lanes_free s h by (Act turn effect answer) row = tt
 lanes_free s h by (End turn) row = tt
 lanes_free s h by (Left coop) row = tt
+lanes_free s h by (Skip lane demand why) row = tt
 lanes_free s h by (Stop cause) row = tt
 lanes_free s h by (Abort cause) row = tt
 
@@ -202,17 +208,11 @@ may_be_taken s h lane (x ∷ ds) d e =
       | inr n ↦ may_be_taken s h lane ds d (rw n at e)
     ]
 
-agent_number : EntryKind → ℕ
-agent_number (Begin lane demand opening agent) = agent.0
-agent_number other = 0
-
-begin_free_key : (s : SceneParts) (h : List Entry) (by : PartyId) (lane : LaneId) (demand : Option DemandId) (opening : Opening) (agent : AgentId) → IsBegin s h by lane (Begin lane demand opening agent) → running_with s h (key_of s agent) ≡ []
-unfolding agent_number
+begin_free_key : (s : SceneParts) (h : List Entry) (by : PartyId) (lane : LaneId) (demand : Option DemandId) (opening : Opening) (agent : AgentId) → IsTaking s h by lane (Begin lane demand opening agent) → running_with s h (key_of s agent) ≡ []
 begin_free_key s h by lane demand opening agent row =
     let may = may_be_taken s h lane (waiting s h) row.demand (picked s h lane row.demand row.picked).1 in
     let free : is_empty (running_with s h (key_of s row.demand.agent)) ≡ true = (and_parts (serves s lane (key_of s row.demand.agent)) (is_empty (running_with s h (key_of s row.demand.agent))) may).1 in
-    let same : agent.0 ≡ row.demand.agent.0 = ap agent_number row.is in
-    let its : agent ≡ row.demand.agent = ap (λ n. record { 0 = n }) same in
+    let its : agent ≡ row.demand.agent = (begins_as lane lane row.demand (opening_of s h row.demand) (skipped (opening_of s h row.demand)) demand opening agent row.is).agent_is in
     let there : running_with s h (key_of s row.demand.agent) ≡ [] = empty-list (running_with s h (key_of s row.demand.agent)) free in
     rw its there
 
@@ -223,6 +223,7 @@ keys_free s h by (Leaving coop reason) row = tt
 keys_free s h by (Act turn effect answer) row = tt
 keys_free s h by (End turn) row = tt
 keys_free s h by (Left coop) row = tt
+keys_free s h by (Skip lane demand why) row = tt
 keys_free s h by (Stop cause) row = tt
 keys_free s h by (Abort cause) row = tt
 
@@ -247,6 +248,7 @@ started_looked_up place by (Leaving coop reason) h at = tt
 started_looked_up place by (Act turn effect answer) h at = tt
 started_looked_up place by (End turn) h at = tt
 started_looked_up place by (Left coop) h at = tt
+started_looked_up place by (Skip lane demand why) h at = tt
 started_looked_up place by (Stop cause) h at = tt
 started_looked_up place by (Abort cause) h at = tt
 
@@ -302,6 +304,7 @@ started_on s h place by (Leaving coop reason) row = tt
 started_on s h place by (Act turn effect answer) row = tt
 started_on s h place by (End turn) row = tt
 started_on s h place by (Left coop) row = tt
+started_on s h place by (Skip lane demand why) row = tt
 started_on s h place by (Stop cause) row = tt
 started_on s h place by (Abort cause) row = tt
 
@@ -363,9 +366,8 @@ turn-spared s h e place t legal spares runs =
 
 -- turns are of agents of the scene
 pub started_of : (s : SceneParts) (h : List Entry) (place : ℕ) (by : PartyId) (kind : EntryKind) → IsScene s → IsRow s h by kind → AllByRecursion (λ t. t.agent.0 < length s.agents) (started_by place by kind)
-unfolding agent_number
 started_of s h place by (Begin lane demand opening agent) scene row =
-    let same : agent.0 ≡ row.demand.agent.0 = ap agent_number row.is in
+    let same : agent.0 ≡ row.demand.agent.0 = ap (λ (a : AgentId). a.0) (begins_as lane lane row.demand (opening_of s h row.demand) (skipped (opening_of s h row.demand)) demand opening agent row.is).agent_is in
     let known : row.demand.agent.0 < length s.agents = picked_of s h lane row.demand scene row.picked in
     (omega arith, tt)
 started_of s h place by (Register coop) scene row = tt
@@ -373,6 +375,7 @@ started_of s h place by (Leaving coop reason) scene row = tt
 started_of s h place by (Act turn effect answer) scene row = tt
 started_of s h place by (End turn) scene row = tt
 started_of s h place by (Left coop) scene row = tt
+started_of s h place by (Skip lane demand why) scene row = tt
 started_of s h place by (Stop cause) scene row = tt
 started_of s h place by (Abort cause) scene row = tt
 

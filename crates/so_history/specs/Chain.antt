@@ -29,7 +29,7 @@ signed by kind = record { by = by; kind = kind }
 
 -- the entry of a turn's next move, where it has one
 abbrev pub next_of : SceneParts → List Entry → Started → Course → Option Entry
-next_of s h t c = option_map (signed t.by) (entry_of s h t.place (move_of s c).0)
+next_of s h t c = option_map (signed t.by) (entry_of s h c.agent t.place (move_of s c).0)
 
 abbrev pub turn_entry : SceneParts → List Entry → Option Started → Option Entry
 turn_entry s h None = None
@@ -40,8 +40,8 @@ abbrev pub turn_on : List Entry → LaneId → Option Started
 turn_on h lane = head (running_on h lane)
 
 -- the entry by which a lane takes the demand that it may take
-abbrev pub begin_entry : SceneParts → List Entry → LaneId → Option Entry
-begin_entry s h lane = option_map (λ d. record { by = party_of lane; kind = taking s h lane d }) (picked s h lane)
+abbrev pub taking_entry : SceneParts → List Entry → LaneId → Option Entry
+taking_entry s h lane = option_map (λ d. record { by = party_of lane; kind = taking s h lane d }) (picked s h lane)
 
 -- main's registration, if it has not tried it
 unfoldable pub registration : List Entry → Option Entry
@@ -64,9 +64,9 @@ tidying s h =
     (or_else (left_entry s h)
     (stop_entry s h Idle)))
 
--- the next step of a lane: that of its running turn, or else a Begin
+-- the next step of a lane: that of its running turn, or else what it takes
 unfoldable pub lane_entry : SceneParts → List Entry → LaneId → Option Entry
-lane_entry s h lane = or_else (turn_entry s h (turn_on h lane)) (begin_entry s h lane)
+lane_entry s h lane = or_else (turn_entry s h (turn_on h lane)) (taking_entry s h lane)
 
 -- the entry that a pick makes
 abbrev pub of : SceneParts → List Entry → Pick → Option Entry
@@ -82,7 +82,7 @@ first s h =
     (or_else (stop_entry s h Asked)
     (or_else (leaving_entry h)
     (or_else (left_entry s h)
-    (or_else (first_below (λ l. begin_entry s h (record { 0 = l })) (lanes s))
+    (or_else (first_below (λ l. taking_entry s h (record { 0 = l })) (lanes s))
     (stop_entry s h Idle))))))
 
 abbrev pub fitting : SceneParts → ℕ → List Entry → Option Entry → Option Entry

@@ -1,63 +1,107 @@
--- Who gets a message that is sent through a mbox.
-use Rattle.std.specs.Prelude.{List, [], length, map, zip, Bool, not, ◌&&◌, None, if◌then◌else◌}
-use Rattle.std.specs.List.{filter, list_any}
+-- Who is subscribed to what, and what becomes of a message that is sent through a mbox.
+use Rattle.std.specs.Prelude.{List, [], ◌∷◌, length, replicate, Bool, false, ◌==◌, if◌then◌else◌}
 use Rattle.so_ids.specs.declared.AgentId.{AgentId}
+use Rattle.so_ids.specs.declared.CoopId.{CoopId}
 use Rattle.so_ids.specs.declared.MboxId.{MboxId}
 use Rattle.so_ids.specs.declared.MsgId.{MsgId}
+use Rattle.so_ids.specs.declared.Payload.{Payload}
+use Rattle.so_ids.specs.declared.Place.{Place}
 use Rattle.so_ids.specs.declared.StateId.{StateId}
 use Rattle.so_ids.specs.declared.Sent.{Sent}
 use Rattle.so_ids.specs.declared.Chosen.{Chosen}
-use Rattle.so_state.specs.declared.choice.Row.{Row}
+use Rattle.so_code.specs.declared.effect.Effect.{Effect}
+use Rattle.so_code.specs.declared.effect.Effect.TheVariants.{Subscribe, Unsubscribe, SetFilter, DropFilter}
+use Rattle.so_code.specs.declared.effect.Answer.{Answer}
+use Rattle.so_code.specs.declared.effect.Answer.TheVariants.{Yes}
 use Rattle.so_state.specs.States.{default_state}
-use Rattle.so_state.specs.Choice.{is_for, chosen}
+use Rattle.so_state.specs.Choice.{chosen}
 use Rattle.so_scene.specs.declared.parts.SceneParts.{SceneParts}
-use Rattle.so_scene.specs.Parts.{agents_of, rows_of, states_of}
+use Rattle.so_scene.specs.Parts.{agent_of, agents_of, rows_of, filters_of, states_of}
+use Rattle.so_scene.specs.Delivery.{Outcome, receivers_among, passes_with, outcomes, sent_of}
+use Rattle.so_scene.specs.Subscriptions.{rows_first, row_set, row_dropped, filters_first, filter_set, filter_dropped}
 use Rattle.so_history.specs.declared.entry.Entry.{Entry}
+use Rattle.so_history.specs.declared.entry.EntryKind.{EntryKind}
+use Rattle.so_history.specs.declared.entry.EntryKind.TheVariants.{Register, Act, Left}
+use Rattle.so_history.specs.Places.{entry_at, beginner_at}
 use Rattle.so_history.specs.Coops.{the_coop, present, leaving}
+
+-- ---- which agents are registered
+
+abbrev pub is_of : SceneParts → CoopId → AgentId → Bool
+is_of s coop a = (agent_of s a).coop.0 == coop.0
 
 -- the agents that are registered, in order of registration
 abbrev pub registered : SceneParts → List Entry → List AgentId
 registered s h = if present h then agents_of s the_coop else []
 
--- which of an agent's subscriptions are active: those of the scene, while its cooperation is registered
-abbrev pub active_of : SceneParts → List Entry → AgentId → List Bool
-active_of s h a = map (λ (row : Row). present h && row.active) (rows_of s a)
+-- ---- which of an agent's rows and filters are active: its registration sets them anew, its own acts change them
 
--- an active subscription to the type from the mbox
-abbrev pub takes_from : MboxId → MsgId → Row × Bool → Bool
-takes_from mbox msg pair = pair.1 && is_for mbox msg pair.0
+-- the turn at a place is the agent's
+abbrev pub is_turn_of : List Entry → Place → AgentId → Bool
+is_turn_of h turn a = (beginner_at (entry_at h turn.0)).0 == a.0
 
-abbrev pub is_subscribed : SceneParts → List Entry → MboxId → MsgId → AgentId → Bool
-is_subscribed s h mbox msg a = list_any (takes_from mbox msg) (zip (rows_of s a) (active_of s h a))
+-- no row of the agent is active
+abbrev pub no_rows : SceneParts → AgentId → List Bool
+no_rows s a = replicate (length (rows_of s a)) false
 
--- the agents that are subscribed, in order of registration
+abbrev pub rows_by_effect : Effect → Answer → List Bool → List Bool
+rows_by_effect (Subscribe row) Yes rows = row_set row rows
+rows_by_effect (Unsubscribe row) Yes rows = row_dropped row rows
+rows_by_effect other answer rows = rows
+
+abbrev pub rows_by : SceneParts → List Entry → EntryKind → AgentId → List Bool → List Bool
+rows_by s h (Register coop) a rows = if is_of s coop a then rows_first (rows_of s a) else rows
+rows_by s h (Left coop) a rows = if is_of s coop a then no_rows s a else rows
+rows_by s h (Act turn effect answer) a rows = if is_turn_of h turn a then rows_by_effect effect answer rows else rows
+rows_by s h other a rows = rows
+
+-- an agent that isn't registered has no active row
+unfoldable pub active_rows : SceneParts → List Entry → AgentId → List Bool
+active_rows s [] a = no_rows s a
+active_rows s (e ∷ h) a = rows_by s h e.kind a (active_rows s h a)
+
+abbrev pub filters_by_effect : SceneParts → AgentId → Effect → Answer → List Bool → List Bool
+filters_by_effect s a (SetFilter filter) Yes filters = filter_set (filters_of s a) filter.0 filters
+filters_by_effect s a (DropFilter filter) Yes filters = filter_dropped filter.0 filters
+filters_by_effect s a other answer filters = filters
+
+abbrev pub filters_by : SceneParts → List Entry → EntryKind → AgentId → List Bool → List Bool
+filters_by s h (Register coop) a filters = if is_of s coop a then filters_first (filters_of s a) else filters
+filters_by s h (Act turn effect answer) a filters = if is_turn_of h turn a then filters_by_effect s a effect answer filters else filters
+filters_by s h other a filters = filters
+
+unfoldable pub active_filters : SceneParts → List Entry → AgentId → List Bool
+active_filters s [] a = filters_first (filters_of s a)
+active_filters s (e ∷ h) a = filters_by s h e.kind a (active_filters s h a)
+
+-- ---- what becomes of a message
+
+-- the agents that are subscribed to the type from the mbox, in order of registration
 unfoldable pub receivers : SceneParts → List Entry → MboxId → MsgId → List AgentId
-receivers s h mbox msg = filter (is_subscribed s h mbox msg) (registered s h)
+receivers s h mbox msg = receivers_among s (active_rows s h) mbox msg (registered s h)
+
+-- the agent has no filter that refuses the message
+abbrev pub passes : SceneParts → List Entry → MboxId → MsgId → Payload → AgentId → Bool
+passes s h mbox msg payload a = passes_with s mbox msg payload a (active_filters s h a)
 
 -- the agent's cooperation is leaving
 abbrev pub is_leaving : SceneParts → List Entry → AgentId → Bool
 is_leaving s h a = leaving h
 
--- those that get an event; for the others the message is lost
-abbrev pub reached : SceneParts → List Entry → MboxId → MsgId → List AgentId
-reached s h mbox msg = filter (λ a. not (is_leaving s h a)) (receivers s h mbox msg)
+-- what becomes of it at each receiver
+abbrev pub delivered : SceneParts → List Entry → MboxId → MsgId → Payload → List Outcome
+delivered s h mbox msg payload = outcomes (passes s h mbox msg payload) (is_leaving s h) mbox msg payload (receivers s h mbox msg)
 
-abbrev pub missed : SceneParts → List Entry → MboxId → MsgId → List AgentId
-missed s h mbox msg = filter (is_leaving s h) (receivers s h mbox msg)
+-- what its sender is told
+abbrev pub sent : SceneParts → List Entry → MboxId → MsgId → Payload → Sent
+sent s h mbox msg payload = sent_of (delivered s h mbox msg payload)
 
--- what becomes of a delivery
-abbrev pub sent : SceneParts → List Entry → MboxId → MsgId → Sent
-sent s h mbox msg = record {
-  queued = length (reached s h mbox msg);
-  lost = length (missed s h mbox msg);
-  logged = 0;
-  first = None;
-}
+-- ---- what an event is answered by
 
 -- the state of an agent: the default one, since none switches so far
 abbrev pub leaf_of : SceneParts → List Entry → AgentId → StateId
 leaf_of s h a = default_state
 
--- what the agent's subscriptions choose for an event
+-- what the agent's rows choose for an event
 abbrev pub chosen_for : SceneParts → List Entry → AgentId → MboxId → MsgId → Chosen
-chosen_for s h a mbox msg = chosen (states_of s a) (rows_of s a) (active_of s h a) (leaf_of s h a) mbox msg
+chosen_for s h a mbox msg = chosen (states_of s a) (rows_of s a) (active_rows s h a) (leaf_of s h a) mbox msg

@@ -5,6 +5,7 @@ use Rattle.so_ids.specs.declared.AgentId.{AgentId}
 use Rattle.so_ids.specs.declared.DemandId.{DemandId}
 use Rattle.so_ids.specs.declared.MsgId.{MsgId}
 use Rattle.so_ids.specs.declared.Payload.{Payload}
+use Rattle.so_ids.specs.declared.Queued.{Queued}
 use Rattle.so_ids.specs.declared.Target.{Target}
 use Rattle.so_ids.specs.declared.Target.TheVariants.{Mbox, Chain}
 use Rattle.so_ids.specs.Ids.{same_demand}
@@ -12,11 +13,12 @@ use Rattle.so_code.specs.declared.effect.Effect.{Effect}
 use Rattle.so_code.specs.declared.effect.Effect.TheVariants.{Send}
 use Rattle.so_scene.specs.declared.parts.SceneParts.{SceneParts}
 use Rattle.so_scene.specs.Parts.{agents_of}
+use Rattle.so_scene.specs.Delivery.{events}
 use Rattle.so_history.specs.declared.entry.Entry.{Entry}
 use Rattle.so_history.specs.declared.entry.EntryKind.{EntryKind}
-use Rattle.so_history.specs.declared.entry.EntryKind.TheVariants.{Register, Begin, Act, Leaving}
+use Rattle.so_history.specs.declared.entry.EntryKind.TheVariants.{Register, Begin, Skip, Act, Leaving}
 use Rattle.so_history.specs.declared.entry.Demand.{Demand}
-use Rattle.so_history.specs.Delivery.{reached}
+use Rattle.so_history.specs.Delivery.{delivered}
 use Rattle.so_history.specs.declared.entry.DemandKind.{DemandKind}
 use Rattle.so_history.specs.declared.entry.DemandKind.TheVariants.{Start, Finish, Event}
 
@@ -29,9 +31,13 @@ pub record Asked : Type 0 where
 abbrev pub ask_each : DemandKind → List AgentId → List Asked
 ask_each kind agents = map (λ a. record { agent = a; kind = kind }) agents
 
--- what a turn's effect asks: a message that is sent asks each agent that it reaches to handle it
+-- an event asks its agent to handle it
+abbrev pub ask : Queued → Asked
+ask event = record { agent = event.agent; kind = Event event.mbox event.msg event.payload }
+
+-- what a turn's effect asks: a message that is sent asks what its delivery queues
 abbrev pub asked_by_target : SceneParts → List Entry → Target → MsgId → Payload → List Asked
-asked_by_target s h (Mbox mbox) msg payload = ask_each (Event mbox msg payload) (reached s h mbox msg)
+asked_by_target s h (Mbox mbox) msg payload = map ask (events (delivered s h mbox msg payload))
 asked_by_target s h (Chain chain) msg payload = []
 
 abbrev pub asked_by_effect : SceneParts → List Entry → Effect → List Asked
@@ -67,6 +73,7 @@ names (Some c) d = same_demand c d
 -- an entry takes a demand
 abbrev pub takes : EntryKind → DemandId → Bool
 takes (Begin lane demand opening agent) d = names demand d
+takes (Skip lane demand why) d = same_demand demand d
 takes _ d = false
 
 -- some entry took the demand

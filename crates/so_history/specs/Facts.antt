@@ -14,13 +14,14 @@ use Rattle.so_scene.specs.Parts.{agents_of}
 use Rattle.so_scene.specs.Lanes.{key_of}
 use Rattle.so_history.specs.declared.entry.Entry.{Entry}
 use Rattle.so_history.specs.declared.entry.EntryKind.{EntryKind}
-use Rattle.so_history.specs.declared.entry.EntryKind.TheVariants.{Register, Begin, Leaving, Left}
+use Rattle.so_history.specs.declared.entry.EntryKind.TheVariants.{Register, Begin, Skip, Leaving, Left}
+use Rattle.so_history.specs.declared.entry.SkipWhy.{SkipWhy}
 use Rattle.so_history.specs.declared.entry.Demand.{Demand}
 use Rattle.so_history.specs.declared.entry.DemandKind.TheVariants.{Start, Finish}
 use Rattle.so_history.specs.Places.{entry_at, before}
 use Rattle.so_history.specs.Demands.{ask_each, demands_from, demands, named, takes, waiting}
 use Rattle.so_history.specs.Turns.{ends, running}
-use Rattle.so_history.specs.Order.{opening_of}
+use Rattle.so_history.specs.Order.{opening_of, skipped}
 
 -- an entry of this kind stands at a place
 pub record StandsAt (h : List Entry) (place : ℕ) (kind : EntryKind) : Type 0 where
@@ -82,11 +83,20 @@ pub record BeginsWith (s : SceneParts) (h : List Entry) (id : DemandId) (opening
   pub chosen : opening ≡ opening_of s h demand
   pub its_agent : agent ≡ demand.agent
 
--- by choice: each turn begins with what is chosen for its demand in the history before it
-abbrev pub ByChoice : SceneParts → List Entry → Type 0
-ByChoice s h =
-    (place : ℕ) (lane : LaneId) (id : DemandId) (opening : Opening) (agent : AgentId) → StandsAt h place (Begin lane (Some id) opening agent) →
-    BeginsWith s (before h place) id opening agent
+-- the demand that is skipped waits, and there is a reason to skip it
+pub record SkipsWith (s : SceneParts) (h : List Entry) (id : DemandId) (why : SkipWhy) : Type 0 where
+  pub demand : Demand
+  pub waits : named id (waiting s h) ≡ Some demand
+  pub chosen : skipped (opening_of s h demand) ≡ Some why
+
+-- by choice: each turn begins with what is chosen for its demand in the history before it, and each skip is chosen so too
+pub record ByChoice (s : SceneParts) (h : List Entry) : Type 0 where
+  pub begins :
+      (place : ℕ) (lane : LaneId) (id : DemandId) (opening : Opening) (agent : AgentId) → StandsAt h place (Begin lane (Some id) opening agent) →
+      BeginsWith s (before h place) id opening agent
+  pub skips :
+      (place : ℕ) (lane : LaneId) (id : DemandId) (why : SkipWhy) → StandsAt h place (Skip lane id why) →
+      SkipsWith s (before h place) id why
 
 -- the demands that the entry at a place queued
 abbrev pub queued_at : SceneParts → List Entry → ℕ → List Demand

@@ -5,12 +5,15 @@ use Rattle.so_ids.specs.declared.AgentId.{AgentId}
 use Rattle.so_ids.specs.declared.LaneId.{LaneId}
 use Rattle.so_ids.specs.declared.Opening.{Opening}
 use Rattle.so_ids.specs.declared.Opening.TheVariants as opening
+use Rattle.so_ids.specs.declared.Chosen.TheVariants.{Nothing, Suppressed}
 use Rattle.so_lists.specs.Lists.{is_empty}
 use Rattle.so_scene.specs.declared.parts.SceneParts.{SceneParts}
 use Rattle.so_scene.specs.Lanes.{key_of, serves}
 use Rattle.so_history.specs.declared.entry.Entry.{Entry}
 use Rattle.so_history.specs.declared.entry.EntryKind.{EntryKind}
-use Rattle.so_history.specs.declared.entry.EntryKind.TheVariants.{Begin}
+use Rattle.so_history.specs.declared.entry.EntryKind.TheVariants.{Begin, Skip}
+use Rattle.so_history.specs.declared.entry.SkipWhy.{SkipWhy}
+use Rattle.so_history.specs.declared.entry.SkipWhy.TheVariants as why
 use Rattle.so_history.specs.declared.entry.Demand.{Demand}
 use Rattle.so_history.specs.declared.entry.DemandKind.{DemandKind}
 use Rattle.so_history.specs.declared.entry.DemandKind.TheVariants.{Start, Finish, Event}
@@ -39,6 +42,16 @@ opening_for s h a (Event mbox msg payload) = opening.Event (chosen_for s h a mbo
 abbrev pub opening_of : SceneParts → List Entry → Demand → Opening
 opening_of s h d = opening_for s h d.agent d.kind
 
--- the entry by which a lane takes a demand
+-- a demand without a turn: an event for which nothing is chosen, or that is suppressed
+abbrev pub skipped : Opening → Option SkipWhy
+skipped (opening.Event Nothing) = Some why.Nothing
+skipped (opening.Event Suppressed) = Some why.Suppressed
+skipped other = None
+
+abbrev pub taking_as : LaneId → Demand → Opening → Option SkipWhy → EntryKind
+taking_as lane d begins None = Begin lane (Some d.id) begins d.agent
+taking_as lane d begins (Some why) = Skip lane d.id why
+
+-- the entry by which a lane takes a demand: a turn begins, or the demand is skipped
 abbrev pub taking : SceneParts → List Entry → LaneId → Demand → EntryKind
-taking s h lane d = Begin lane (Some d.id) (opening_of s h d) d.agent
+taking s h lane d = taking_as lane d (opening_of s h d) (skipped (opening_of s h d))

@@ -1,10 +1,13 @@
 -- Which entry may follow a history, and which histories are legal.
-use Rattle.std.specs.Prelude.{◌≡◌, ℕ, ◌<◌, List, [], ◌∷◌, length, Bool, true, false, not, ◌&&◌, ◌||◌, ◌⊎◌, Option, Some, None}
+use Rattle.std.specs.Prelude.{◌≡◌, ℕ, ◌<◌, List, [], ◌∷◌, length, Bool, true, false, not, ◌&&◌, ◌||◌, ◌⊎◌, Option, Some, None, if◌then◌else◌, slice_index_or}
 use Rattle.std.specs.Option.{option_map}
 use Rattle.so_ids.specs.declared.PartyId.{PartyId}
 use Rattle.so_ids.specs.declared.LaneId.{LaneId}
 use Rattle.so_ids.specs.declared.CoopId.{CoopId}
+use Rattle.so_ids.specs.declared.AgentId.{AgentId}
 use Rattle.so_ids.specs.declared.MsgId.{MsgId}
+use Rattle.so_ids.specs.declared.Payload.{Payload}
+use Rattle.so_ids.specs.declared.RowId.{RowId}
 use Rattle.so_ids.specs.declared.Target.{Target}
 use Rattle.so_ids.specs.declared.Target.TheVariants.{Mbox, Chain}
 use Rattle.so_ids.specs.declared.Reason.TheVariants.{Shutdown}
@@ -17,17 +20,20 @@ use Rattle.so_code.specs.declared.effect.Move.{Move}
 use Rattle.so_code.specs.declared.effect.Move.TheVariants.{Do, Done, Fail}
 use Rattle.so_lists.specs.Lists.{is_empty}
 use Rattle.so_scene.specs.declared.parts.SceneParts.{SceneParts}
-use Rattle.so_scene.specs.Parts.{IsTarget}
+use Rattle.so_scene.specs.Parts.{mboxes, rows_of, filters_of}
+use Rattle.so_scene.specs.Subscriptions.{row_of}
+use Rattle.so_scene.specs.Definition.{is_twice}
+use Rattle.so_scene.specs.Checked.{IsTarget}
 use Rattle.so_scene.specs.Lanes.{lanes}
 use Rattle.so_history.specs.declared.entry.Entry.{Entry}
 use Rattle.so_history.specs.declared.entry.EntryKind.{EntryKind}
-use Rattle.so_history.specs.declared.entry.EntryKind.TheVariants.{Register, Begin, Act, End, Leaving, Left, Stop, Abort}
+use Rattle.so_history.specs.declared.entry.EntryKind.TheVariants.{Register, Begin, Skip, Act, End, Leaving, Left, Stop, Abort}
 use Rattle.so_history.specs.declared.entry.Demand.{Demand}
 use Rattle.so_history.specs.declared.entry.StopCause.{StopCause}
 use Rattle.so_history.specs.declared.entry.StopCause.TheVariants.{Asked, Idle}
 use Rattle.so_history.specs.declared.entry.AbortCause.{AbortCause}
 use Rattle.so_history.specs.declared.entry.AbortCause.TheVariants.{Exception}
-use Rattle.so_history.specs.Delivery.{sent}
+use Rattle.so_history.specs.Delivery.{active_rows, active_filters, sent}
 use Rattle.so_history.specs.Demands.{waiting}
 use Rattle.so_history.specs.Turns.{Started, Course, running, turn_at, course, move_of}
 use Rattle.so_history.specs.Coops.{the_coop, tried, present, leaving, stopped, stop_asked, aborted, has_reason}
@@ -50,37 +56,56 @@ finished s h = stopped h && (not (present h) && is_empty (waiting s h))
 abbrev pub is_over : SceneParts → List Entry → Bool
 is_over s h = finished s h || aborted h
 
--- what an effect names is there, and its act is built
-abbrev pub NamesEffect : SceneParts → Effect → Type 0
-NamesEffect s (effect.Log text payload) = text.0 < length s.texts
-NamesEffect s (effect.Send target msg payload) = IsTarget (length s.agents) target × (msg.0 < length s.messages)
-NamesEffect s effect.Stop = Unit {0}
-NamesEffect s other = ⊥
+-- what an effect of an agent names is there, and its act is built
+abbrev pub NamesEffect : SceneParts → AgentId → Effect → Type 0
+NamesEffect s a (effect.Log text payload) = text.0 < length s.texts
+NamesEffect s a (effect.Send target msg payload) = IsTarget (mboxes s) target × (msg.0 < length s.messages)
+NamesEffect s a (effect.Subscribe row) = row.0 < length (rows_of s a)
+NamesEffect s a (effect.Unsubscribe row) = row.0 < length (rows_of s a)
+NamesEffect s a (effect.SetFilter filter) = filter.0 < length (filters_of s a)
+NamesEffect s a (effect.DropFilter filter) = filter.0 < length (filters_of s a)
+NamesEffect s a effect.Stop = Unit {0}
+NamesEffect s a other = ⊥
 
 -- the answer to a send
-abbrev pub answer_to_send : SceneParts → List Entry → Target → MsgId → Option Answer
-answer_to_send s h (Mbox mbox) msg = Some (answer.Sent (sent s h mbox msg))
-answer_to_send s h (Chain chain) msg = None
+abbrev pub answer_to_send : SceneParts → List Entry → Target → MsgId → Payload → Option Answer
+answer_to_send s h (Mbox mbox) msg payload = Some (answer.Sent (sent s h mbox msg payload))
+answer_to_send s h (Chain chain) msg payload = None
 
--- the answer to an effect, where it has one
-abbrev pub answer_of : SceneParts → List Entry → Effect → Option Answer
-answer_of s h (effect.Log text payload) = Some answer.Okay
-answer_of s h (effect.Send target msg payload) = answer_to_send s h target msg
-answer_of s h effect.Stop = Some answer.Okay
-answer_of s h other = None
+abbrev pub yes_where : Bool → Answer
+yes_where b = if b then answer.Yes else answer.No
 
--- the entry of a turn's move, where it has one. An exception aborts the run
-abbrev pub entry_of : SceneParts → List Entry → ℕ → Move → Option EntryKind
-entry_of s h place (Do effect) = option_map (Act (record { 0 = place }) effect) (answer_of s h effect)
-entry_of s h place Done = Some (End (record { 0 = place }))
-entry_of s h place (Fail kind) = Some (Abort (Exception (record { 0 = place }) kind))
+-- the row may become active: no active row is for the same events, so that it is not active itself
+abbrev pub may_subscribe : SceneParts → List Entry → AgentId → RowId → Bool
+may_subscribe s h a row = not (is_twice (rows_of s a) (active_rows s h a) (row_of s a row))
 
--- a lane's Begin is signed by main or by the lane's party
+-- the row, or the filter, of this number is active
+abbrev pub is_active : List Bool → ℕ → Bool
+is_active active k = slice_index_or active k false
+
+-- the answer to an effect of an agent's turn, where it has one
+abbrev pub answer_of : SceneParts → List Entry → AgentId → Effect → Option Answer
+answer_of s h a (effect.Log text payload) = Some answer.Okay
+answer_of s h a (effect.Send target msg payload) = answer_to_send s h target msg payload
+answer_of s h a (effect.Subscribe row) = Some (yes_where (may_subscribe s h a row))
+answer_of s h a (effect.Unsubscribe row) = Some (yes_where (is_active (active_rows s h a) row.0))
+answer_of s h a (effect.SetFilter filter) = Some answer.Yes
+answer_of s h a (effect.DropFilter filter) = Some (yes_where (is_active (active_filters s h a) filter.0))
+answer_of s h a effect.Stop = Some answer.Okay
+answer_of s h a other = None
+
+-- the entry of the move of an agent's turn, where it has one. An exception aborts the run
+abbrev pub entry_of : SceneParts → List Entry → AgentId → ℕ → Move → Option EntryKind
+entry_of s h a place (Do effect) = option_map (Act (record { 0 = place }) effect) (answer_of s h a effect)
+entry_of s h a place Done = Some (End (record { 0 = place }))
+entry_of s h a place (Fail kind) = Some (Abort (Exception (record { 0 = place }) kind))
+
+-- what a lane takes is signed by main or by the lane's party
 abbrev pub IsSigner : PartyId → LaneId → Type 0
 IsSigner by lane = (by ≡ main_party) ⊎ (by ≡ party_of lane)
 
--- a free lane begins with the demand that it may take
-pub record IsBegin (s : SceneParts) (h : List Entry) (by : PartyId) (lane : LaneId) (kind : EntryKind) : Type 0 where
+-- a free lane takes the demand that it may take, and begins its turn or skips it
+pub record IsTaking (s : SceneParts) (h : List Entry) (by : PartyId) (lane : LaneId) (kind : EntryKind) : Type 0 where
   pub signed : IsSigner by lane
   pub in_range : lane.0 < lanes s
   pub demand : Demand
@@ -94,7 +119,7 @@ pub record IsMove (s : SceneParts) (h : List Entry) (by : PartyId) (place : ℕ)
   pub signed : by ≡ turn.by
   pub reached : Course
   pub has : course s h place ≡ Some reached
-  pub is : entry_of s h place (move_of s reached).0 ≡ Some kind
+  pub is : entry_of s h reached.agent place (move_of s reached).0 ≡ Some kind
 
 pub record IsRegister (h : List Entry) (by : PartyId) (coop : CoopId) : Type 0 where
   pub signed : by ≡ main_party
@@ -127,7 +152,8 @@ IsAbort s h by (Exception turn kind) = IsMove s h by turn.0 (Abort (Exception tu
 -- what an entry of each kind asks of the history before it
 abbrev pub IsRow : SceneParts → List Entry → PartyId → EntryKind → Type 0
 IsRow s h by (Register coop) = IsRegister h by coop
-IsRow s h by (Begin lane demand opening agent) = IsBegin s h by lane (Begin lane demand opening agent)
+IsRow s h by (Begin lane demand opening agent) = IsTaking s h by lane (Begin lane demand opening agent)
+IsRow s h by (Skip lane demand why) = IsTaking s h by lane (Skip lane demand why)
 IsRow s h by (Act turn effect answer) = IsMove s h by turn.0 (Act turn effect answer)
 IsRow s h by (End turn) = IsMove s h by turn.0 (End turn)
 IsRow s h by (Leaving coop reason) = IsLeaving h by (Leaving coop reason)

@@ -1,6 +1,5 @@
 -- The text of a history: a line for each entry that has one.
 use Rattle.std.specs.Prelude.{ℕ, ◌<◌, List, [], ◌∷◌, ◌++◌, length, codes, Option, Some, None}
-use Rattle.so_ids.specs.declared.AgentId.{AgentId}
 use Rattle.so_ids.specs.declared.Payload.{Payload}
 use Rattle.so_ids.specs.declared.TextId.{TextId}
 use Rattle.so_code.specs.declared.effect.Effect.{Effect}
@@ -10,22 +9,13 @@ use Rattle.so_scene.specs.declared.parts.SceneParts.{SceneParts}
 use Rattle.so_scene.specs.Parts.{agent_of, text_of}
 use Rattle.so_history.specs.declared.entry.Entry.{Entry}
 use Rattle.so_history.specs.declared.entry.EntryKind.{EntryKind}
-use Rattle.so_history.specs.declared.entry.EntryKind.TheVariants.{Begin, Act, Abort}
+use Rattle.so_history.specs.declared.entry.EntryKind.TheVariants.{Act, Abort}
 use Rattle.so_history.specs.declared.entry.AbortCause.{AbortCause}
 use Rattle.so_history.specs.declared.entry.AbortCause.TheVariants.{Exception}
 use Rattle.so_history.specs.Trace.{fail_words, trace_line}
 use Rattle.so_history.specs.declared.lines.Mode.{Mode}
 use Rattle.so_history.specs.declared.lines.Mode.TheVariants.{Plain, Trace}
-use Rattle.so_history.specs.Places.{entry_at, before}
-
--- the agent whose turn begins with an entry
-abbrev pub beginner : EntryKind → AgentId
-beginner (Begin lane demand opening agent) = agent
-beginner _ = record { 0 = 0 }
-
-abbrev pub beginner_at : Option Entry → AgentId
-beginner_at (Some e) = beginner e.kind
-beginner_at None = record { 0 = 0 }
+use Rattle.so_history.specs.Places.{entry_at, before, beginner_at}
 
 -- the name of the agent whose turn began at a place
 abbrev pub owner : SceneParts → List Entry → ℕ → List ℕ

@@ -31,6 +31,8 @@ use Rattle.so_lines.specs.Lines.{payload_words, joined}
 use Rattle.so_history.specs.declared.entry.Entry.{Entry}
 use Rattle.so_history.specs.declared.entry.EntryKind.{EntryKind}
 use Rattle.so_history.specs.declared.entry.EntryKind.TheVariants as entry
+use Rattle.so_history.specs.declared.entry.SkipWhy.{SkipWhy}
+use Rattle.so_history.specs.declared.entry.SkipWhy.TheVariants as skip_why
 use Rattle.so_history.specs.declared.entry.StopCause.{StopCause}
 use Rattle.so_history.specs.declared.entry.StopCause.TheVariants as stop_cause
 use Rattle.so_history.specs.declared.entry.AbortCause.{AbortCause}
@@ -172,9 +174,15 @@ stop_words stop_cause.Idle = codes "stop idle"
 abbrev pub abort_words : AbortCause → List ℕ
 abort_words (abort_cause.Exception turn kind) = codes "abort exception " ++ decimal turn.0 ++ codes " " ++ fail_words kind
 
+abbrev pub skip_words : SkipWhy → List ℕ
+skip_words skip_why.Nothing = codes "nothing"
+skip_words skip_why.Suppressed = codes "suppressed"
+skip_words skip_why.Stale = codes "stale"
+
 abbrev pub kind_words : EntryKind → List ℕ
 kind_words (entry.Register coop) = codes "register " ++ decimal coop.0
 kind_words (entry.Begin lane demand opening agent) = codes "begin " ++ decimal lane.0 ++ codes " " ++ demand_words demand ++ codes " " ++ opening_words opening
+kind_words (entry.Skip lane demand why) = codes "skip " ++ decimal lane.0 ++ codes " " ++ demand_words (Some demand) ++ codes " " ++ skip_words why
 kind_words (entry.Act turn effect answer) = codes "act " ++ decimal turn.0 ++ codes " " ++ effect_words effect ++ codes " = " ++ answer_words answer
 kind_words (entry.End turn) = codes "end " ++ decimal turn.0
 kind_words (entry.Leaving coop reason) = codes "leaving " ++ decimal coop.0 ++ codes " " ++ reason_words reason

@@ -14,6 +14,17 @@ pub enum StopCause {
     Idle,
 }
 
+/// Why a demand is taken without a turn.
+#[derive(Clone, Copy, Debug, PartialEq, Eq)]
+pub enum SkipWhy {
+    /// No row and no dead-letter row of the agent is for the event.
+    Nothing,
+    /// A row suppresses the event (SObjectizer's `suppress`).
+    Suppressed,
+    /// The time limit is of a state that the agent has left.
+    Stale,
+}
+
 /// Why the run is aborted.
 #[derive(Clone, Copy, Debug, PartialEq, Eq)]
 pub enum AbortCause {
@@ -34,6 +45,12 @@ pub enum EntryKind {
         demand: Option<DemandId>,
         opening: Opening,
         agent: AgentId,
+    },
+    /// A lane took a demand, and no turn begins.
+    Skip {
+        lane: LaneId,
+        demand: DemandId,
+        why: SkipWhy,
     },
     /// A turn had an effect, and got an answer.
     Act {
@@ -99,7 +116,7 @@ pub struct Demand {
 pub enum Pick {
     /// Main's next registration.
     Register,
-    /// The next step of the lane's turn, or a turn's begin there.
+    /// The next step of the lane's turn, or the taking of a demand there.
     Lane(LaneId),
     /// What main is to tidy: a cooperation leaves, has left, or the run stops.
     Tidy,

@@ -2,7 +2,7 @@
 
 ghost use Rattle.std.specs.Prelude.{◌≡◌, List, None, true};
 ghost use Rattle.so_scene.specs.declared.parts.SceneParts.{SceneParts};
-ghost use Rattle.so_scene.specs.Parts.{IsScene};
+ghost use Rattle.so_scene.specs.Checked.{IsScene};
 ghost use Rattle.so_history.specs.declared.entry.Entry.{Entry};
 ghost use Rattle.so_history.specs.Steps.{finished, Legal};
 ghost use Rattle.so_history.specs.Chain.{first};
@@ -23,7 +23,7 @@ pub fn in_order()
     ensures { (s : SceneParts) (h : List Entry) → Legal s h → InOrder s h }
 {}
 
-/// Each turn begins with what is chosen for its demand at that moment.
+/// Each turn begins with what is chosen for its demand at that moment, and each skip is chosen so too.
 pub fn by_choice()
     ensures { (s : SceneParts) (h : List Entry) → Legal s h → ByChoice s h }
 {}

@@ -2,10 +2,10 @@
 
 ghost use Rattle.std.specs.Prelude.{◌≡◌, ◌+◌, ◌<◌, ◌≤◌, [], ◌++◌, length, codes, Some};
 ghost use Rattle.so_scene.specs.Parts.{agent_of};
-ghost use Rattle.so_history.specs.Places.{entry_at, before};
+ghost use Rattle.so_history.specs.Places.{entry_at, before, beginner, beginner_at};
 ghost use Rattle.so_history.specs.Steps.{Legal};
 ghost use Rattle.so_history.specs.Trace.{fail_words};
-ghost use Rattle.so_history.specs.Text.{beginner, beginner_at, HasText, effect_line, plain_line, line_at};
+ghost use Rattle.so_history.specs.Text.{HasText, effect_line, plain_line, line_at};
 
 use crate::entry::{AbortCause, Entry, EntryKind};
 use crate::history::History;

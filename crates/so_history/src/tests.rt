@@ -3,7 +3,7 @@
 ghost use Rattle.std.specs.Prelude.{◌≡◌, ◌+◌, ◌≤◌};
 ghost use Rattle.so_history.specs.Rooms.{effect_room, answer_room, IsShort};
 
-use crate::entry::{AbortCause, Entry, EntryKind, StopCause};
+use crate::entry::{AbortCause, Entry, EntryKind, SkipWhy, StopCause};
 use crate::trace::put_trace;
 use so_code::{Answer, Effect, FailKind};
 use so_ids::{
@@ -67,6 +67,24 @@ fn begin(opening: Opening, text: &'static str) -> Printed {
             demand,
             opening,
             agent: AgentId(6),
+        },
+        text,
+    )
+}
+
+/// The same demand, taken without a turn.
+fn skip(why: SkipWhy, text: &'static str) -> Printed {
+    let demand = DemandId {
+        place: Place(5),
+        k: 2,
+    };
+    line(
+        8,
+        1,
+        EntryKind::Skip {
+            lane: LaneId(0),
+            demand,
+            why,
         },
         text,
     )
@@ -232,6 +250,9 @@ fn each_kind_of_entry_has_its_words(rt: HostRuntime) {
             Opening::Event(Chosen::Nothing),
             "8 p1 begin 0 5.2 nothing\n",
         ),
+        skip(SkipWhy::Nothing, "8 p1 skip 0 5.2 nothing\n"),
+        skip(SkipWhy::Suppressed, "8 p1 skip 0 5.2 suppressed\n"),
+        skip(SkipWhy::Stale, "8 p1 skip 0 5.2 stale\n"),
         line(15, 1, EntryKind::End { turn: Place(9) }, "15 p1 end 9\n"),
         leaving(Reason::Asked, "16 p0 leaving 1 asked\n"),
         leaving(Reason::Exception, "16 p0 leaving 1 exception\n"),

@@ -2,10 +2,10 @@
 
 ghost use Rattle.std.specs.Prelude.{◌≡◌, ◌+◌, ◌≤◌, [], ◌++◌};
 ghost use Rattle.arrayvec.specs.ArrayVec.{array_vec_len};
-ghost use Rattle.so_history.specs.Trace.{effect_words, answer_words, stop_words, abort_words, kind_words, trace_line};
+ghost use Rattle.so_history.specs.Trace.{effect_words, answer_words, skip_words, stop_words, abort_words, kind_words, trace_line};
 ghost use Rattle.so_history.specs.Rooms.{effect_room, answer_room, kind_room, IsShort};
 
-use crate::entry::{AbortCause, Entry, EntryKind, StopCause};
+use crate::entry::{AbortCause, Entry, EntryKind, SkipWhy, StopCause};
 use crate::words::{
     put_chosen, put_demand, put_ended, put_fail, put_keep, put_opening, put_plan, put_reason,
     put_refusal, put_sent, put_stored, put_target,
@@ -117,6 +117,19 @@ fn put_answer(buf: &mut LineBuf, answer: Answer)
     }
 }
 
+/// Appends why a demand was skipped.
+fn put_skip(buf: &mut LineBuf, why: SkipWhy)
+    requires { array_vec_len buf.old + 10 ≤ 512 }
+    ensures items { buf.new.items ≡ buf.old.items ++ skip_words why }
+    ensures len { array_vec_len buf.new ≤ array_vec_len buf.old + 10 }
+{
+    match why {
+        SkipWhy::Nothing => put(buf, b"nothing"),
+        SkipWhy::Suppressed => put(buf, b"suppressed"),
+        SkipWhy::Stale => put(buf, b"stale"),
+    }
+}
+
 /// Appends a stop with its cause.
 fn put_stop(buf: &mut LineBuf, cause: StopCause)
     requires { array_vec_len buf.old + 10 ≤ 512 }
@@ -163,6 +176,13 @@ fn put_kind(buf: &mut LineBuf, kind: EntryKind)
             put_demand(buf, demand);
             put(buf, b" ");
             put_opening(buf, opening);
+        }
+        EntryKind::Skip { lane, demand, why } => {
+            put_word(buf, b"skip ", lane.0);
+            put(buf, b" ");
+            put_demand(buf, Some(demand));
+            put(buf, b" ");
+            put_skip(buf, why);
         }
         EntryKind::Act {
             turn,
