@@ -51,11 +51,14 @@ asked_by s h (Leaving coop reason) = ask_each Finish (agents_of s coop)
 asked_by s h (Act turn effect answer) = asked_by_effect s h effect
 asked_by s h other = []
 
+-- the k-th demand of an entry at a place
+abbrev pub demand_of : ℕ → ℕ → Asked → Demand
+demand_of place k a = record { id = record { place = record { 0 = place }; k = k }; agent = a.agent; kind = a.kind }
+
 -- the demands of what the entry at a place asks, from number k on
 abbrev pub demands_from : ℕ → ℕ → List Asked → List Demand
 demands_from place k [] = []
-demands_from place k (a ∷ rest) =
-    record { id = record { place = record { 0 = place }; k = k }; agent = a.agent; kind = a.kind } ∷ demands_from place (k + 1) rest
+demands_from place k (a ∷ rest) = demand_of place k a ∷ demands_from place (k + 1) rest
 
 -- the demands that an entry queues after this history
 abbrev pub queued_by : SceneParts → List Entry → EntryKind → List Demand

@@ -1,8 +1,10 @@
 -- The answer of a step, and the kernel after it.
-use Rattle.std.specs.Prelude.{◌≡◌, ℕ, List, ◌∷◌, true, Option, Some, None, Result, Ok, Err, if◌then◌else◌, unwrap_or}
+use Rattle.std.specs.Prelude.{◌≡◌, ℕ, List, ◌∷◌, Bool, true, false, Option, Some, None, Result, Ok, Err, if◌then◌else◌, unwrap_or}
 use Rattle.std.specs.Option.{option_map}
 use Rattle.so_ids.specs.declared.PartyId.{PartyId}
+use Rattle.so_ids.specs.declared.AgentId.{AgentId}
 use Rattle.so_ids.specs.declared.LaneId.{LaneId}
+use Rattle.so_ids.specs.declared.Place.{Place}
 use Rattle.so_code.specs.declared.effect.Effect.{Effect}
 use Rattle.so_code.specs.declared.effect.Move.{Move}
 use Rattle.so_code.specs.declared.frame.Frame.{Frame}
@@ -15,8 +17,9 @@ use Rattle.so_scene.specs.declared.parts.SceneParts.{SceneParts}
 use Rattle.so_scene.specs.Parts.{code_of}
 use Rattle.so_history.specs.declared.entry.Entry.{Entry}
 use Rattle.so_history.specs.declared.entry.EntryKind.{EntryKind}
-use Rattle.so_history.specs.declared.entry.EntryKind.TheVariants.{Act, End, Abort}
+use Rattle.so_history.specs.declared.entry.EntryKind.TheVariants.{Skip, Act, End, Abort}
 use Rattle.so_history.specs.declared.entry.AbortCause.TheVariants.{Exception}
+use Rattle.so_history.specs.Places.{entry_at, beginner_at}
 use Rattle.so_history.specs.Turns.{Started, turn_at, course}
 use Rattle.so_history.specs.Units.{fits}
 use Rattle.so_history.specs.Order.{pick, taking}
@@ -67,7 +70,7 @@ entries stepped_answer.Added = 1
 entries stepped_answer.Aborted = 1
 entries other = 0
 
--- the Begin that may be made on a lane
+-- what may be taken on a lane
 abbrev pub begin_by : Core → PartyId → LaneId → Option Entry
 begin_by k by lane = option_map (λ d. record { by = by; kind = taking k.scene k.history lane d }) (pick k.scene k.history lane)
 
@@ -91,18 +94,32 @@ begun (Err Nothing) = begun_answer.Nothing
 begun (Err Full) = begun_answer.Full
 begun (Err Over) = begun_answer.Over
 
--- what a begin answers: a turn that is held, or why there is none
+-- the demand that was taken begins no turn
+abbrev pub is_skip : EntryKind → Bool
+is_skip (Skip lane demand why) = true
+is_skip other = false
+
+-- what a begin answers: a turn that is held, that the demand was skipped, or why nothing was taken
 abbrev pub IsBegun : Core → PartyId → LaneId → Result Entry Refused → Begun → Type 0
-IsBegun k by lane (Ok e) (begun_answer.Turn t) = IsHeld k.scene k.history t × (t.by ≡ by) × (t.lane ≡ lane)
+IsBegun k by lane (Ok e) (begun_answer.Turn t) = (is_skip e.kind ≡ false) × IsHeld k.scene k.history t × (t.by ≡ by) × (t.lane ≡ lane)
+IsBegun k by lane (Ok e) begun_answer.Skipped = is_skip e.kind ≡ true
 IsBegun k by lane (Ok e) _ = ⊥
 IsBegun k by lane (Err why) r = r ≡ begun (Err why)
 
 -- the answer to an effect, which has one where its turn moved
-abbrev pub answer_for : Core → Effect → Answer
-answer_for k effect = unwrap_or (answer_of k.scene k.history effect) Okay
+abbrev pub answer_for : Core → AgentId → Effect → Answer
+answer_for k a effect = unwrap_or (answer_of k.scene k.history a effect) Okay
 
 abbrev pub act_entry : Core → Turn → Effect → Entry
-act_entry k t effect = record { by = t.by; kind = Act t.begun effect (answer_for k effect) }
+act_entry k t effect = record { by = t.by; kind = Act t.begun effect (answer_for k t.agent effect) }
+
+-- an entry is an act of an agent's turn, with the answer to its effect
+pub record IsActOf (s : SceneParts) (h : List Entry) (e : Entry) (a : AgentId) (effect : Effect) : Type 0 where
+  pub turn : Place
+  pub answer : Answer
+  pub is : e.kind ≡ Act turn effect answer
+  pub whose : beginner_at (entry_at h turn.0) ≡ a
+  pub answers : answer_of s h a effect ≡ Some answer
 
 -- what an act answers
 abbrev pub acted : Result Entry Refused → Acted
@@ -113,7 +130,7 @@ acted (Err Over) = acted_answer.Over
 
 -- an act that went gives the frame its answer
 abbrev pub turn_after : Core → Result Entry Refused → Turn → Effect → Turn
-turn_after k (Ok e) t effect = record t { frame = answered (answer_for k effect) t.frame }
+turn_after k (Ok e) t effect = record t { frame = answered (answer_for k t.agent effect) t.frame }
 turn_after k (Err why) t effect = t
 
 abbrev pub end_entry : Turn → Entry

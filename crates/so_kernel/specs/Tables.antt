@@ -1,12 +1,12 @@
 -- The tables of a history, and what each entry makes of them.
-use Rattle.std.specs.Prelude.{ℕ, ◌+◌, ◌<◌, ◌≤◌, ◌^◌, ◌&&◌, List, [], ◌∷◌, ◌++◌, length, map, Bool, true, false, Option, Some, None, slice_set, slice_index_or, replicate}
+use Rattle.std.specs.Prelude.{ℕ, ◌+◌, ◌<◌, ◌≤◌, ◌^◌, ◌&&◌, List, [], ◌∷◌, ◌++◌, length, Bool, true, false, Option, Some, None, is_ok, if◌then◌else◌, slice_set, slice_index_or, replicate}
 use Rattle.std.specs.Option.{is_none}
 use Rattle.so_ids.specs.declared.AgentId.{AgentId}
 use Rattle.so_ids.specs.declared.KeyId.{KeyId}
 use Rattle.so_ids.specs.declared.LaneId.{LaneId}
 use Rattle.so_ids.specs.declared.Place.{Place}
+use Rattle.so_ids.specs.declared.RowId.{RowId}
 use Rattle.so_ids.specs.declared.Vars.{Vars}
-use Rattle.so_state.specs.declared.choice.Row.{Row}
 use Rattle.so_lists.specs.Lists.{each_below}
 use Rattle.so_scene.specs.declared.parts.SceneParts.{SceneParts}
 use Rattle.so_scene.specs.Parts.{vars_of}
@@ -15,6 +15,9 @@ use Rattle.so_history.specs.declared.entry.Entry.{Entry}
 use Rattle.so_history.specs.declared.entry.Demand.{Demand}
 use Rattle.so_history.specs.declared.entry.DemandKind.TheVariants.{Start, Finish}
 use Rattle.so_history.specs.Demands.{Asked, ask_each, demands_from, without, waiting}
+use Rattle.so_mbox.specs.Table.{Subscriptions, nobody, after_enter, after_leave, after_subscribe}
+use Rattle.so_mbox.specs.Answers.{subscribe_answer}
+use Rattle.so_history.specs.Delivery.{registered, active_rows, active_filters}
 use Rattle.so_history.specs.Turns.{Started, running_at, lane_number, key_number, vars}
 use Rattle.so_history.specs.Units.{units}
 use Rattle.so_history.specs.Coops.{tried, present, leaving, stop_asked, stopped, aborted}
@@ -47,9 +50,20 @@ first_vars s n = each_below (λ a. vars_of s (record { 0 = a })) n
 abbrev pub initial : SceneParts → List Vars
 initial s = first_vars s (length s.agents)
 
--- which rows are active, where their agent is registered or isn't
-abbrev pub actives : Bool → List Row → List Bool
-actives present rows = map (λ (row : Row). present && row.active) rows
+-- who is registered, and which rows and filters of each agent are active
+abbrev pub rows_after : SceneParts → List Entry → ℕ → List Bool
+rows_after s h a = active_rows s h (record { 0 = a })
+
+abbrev pub filters_after : SceneParts → List Entry → ℕ → List Bool
+filters_after s h a = active_filters s h (record { 0 = a })
+
+abbrev pub subscriptions_of : SceneParts → List Entry → Subscriptions
+subscriptions_of s h = record {
+  scene = s;
+  order = registered s h;
+  rows = each_below (rows_after s h) (length s.agents);
+  filters = each_below (filters_after s h) (length s.agents);
+}
 
 -- the tables of a history
 abbrev pub tables_of : SceneParts → ℕ → List Entry → Tables
@@ -59,6 +73,7 @@ tables_of s room h =
       lanes = places lane_number h (lanes s);
       keys = places (key_number s) h (keys s);
       variables = variables_of s h;
+      mboxes = subscriptions_of s h;
       marks = marks_of h;
       units = units s h;
     }
@@ -71,6 +86,7 @@ fresh s room =
       lanes = replicate (lanes s) None;
       keys = replicate (keys s) None;
       variables = initial s;
+      mboxes = nobody s;
       marks = record { tried = false; present = false; leaving = false; asked = false; stopped = false; aborted = false };
       units = 0;
     }
@@ -88,8 +104,18 @@ queued place asked t =
       units = t.units + (1 + length asked);
     }
 
+-- these agents are registered one after the other, or leave so
+abbrev pub entered : List AgentId → Subscriptions → Subscriptions
+entered [] t = t
+entered (a ∷ agents) t = entered agents (after_enter a t)
+
+abbrev pub departed : List AgentId → Subscriptions → Subscriptions
+departed [] t = t
+departed (a ∷ agents) t = departed agents (after_leave a t)
+
 abbrev pub after_register : SceneParts → ℕ → List AgentId → Tables → Tables
-after_register s place agents t = record (queued place (ask_each Start agents) t) { variables = initial s; marks = record t.marks { tried = true; present = true } }
+after_register s place agents t =
+    record (queued place (ask_each Start agents) t) { variables = initial s; mboxes = entered agents t.mboxes; marks = record t.marks { tried = true; present = true } }
 
 abbrev pub after_begin : Place → LaneId → KeyId → Demand → Tables → Tables
 after_begin place lane key d t =
@@ -99,6 +125,16 @@ after_begin place lane key d t =
       keys = slice_set t.keys key.0 (Some place);
       units = t.units + 1;
     }
+
+abbrev pub after_skip : Demand → Tables → Tables
+after_skip d t = record t { waiting = record t.waiting { items = without d.id t.waiting.items }; units = t.units + 1 }
+
+-- an act that changes the subscriptions so
+abbrev pub with_mboxes : Subscriptions → Tables → Tables
+with_mboxes mboxes t = record t { mboxes = mboxes; units = t.units + 1 }
+
+abbrev pub subscribed : AgentId → RowId → Subscriptions → Subscriptions
+subscribed a row m = if is_ok (subscribe_answer m a row) then after_subscribe a row m else m
 
 abbrev pub after_act : Tables → Tables
 after_act t = record t { units = t.units + 1 }
@@ -121,8 +157,8 @@ after_end lane key agent vars t =
 abbrev pub after_leaving : ℕ → List AgentId → Tables → Tables
 after_leaving place agents t = record (queued place (ask_each Finish agents) t) { marks = record t.marks { leaving = true } }
 
-abbrev pub after_left : Tables → Tables
-after_left t = record t { marks = record t.marks { present = false; leaving = false }; units = t.units + 1 }
+abbrev pub after_left : List AgentId → Tables → Tables
+after_left agents t = record t { mboxes = departed agents t.mboxes; marks = record t.marks { present = false; leaving = false }; units = t.units + 1 }
 
 abbrev pub after_stop : Tables → Tables
 after_stop t = record t { marks = record t.marks { stopped = true }; units = t.units + 1 }

@@ -31,6 +31,8 @@ pub enum Stepped {
 #[derive(Debug, Drop)]
 pub enum Begun {
     Turn(Turn),
+    /// A demand was taken that begins no turn.
+    Skipped,
     Nothing,
     Full,
     Over,

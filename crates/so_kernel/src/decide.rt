@@ -7,15 +7,18 @@ ghost use Rattle.so_history.specs.Delivery.{chosen_for};
 ghost use Rattle.so_history.specs.Demands.{waiting, payload_of};
 ghost use Rattle.so_history.specs.Turns.{running};
 ghost use Rattle.so_history.specs.Units.{cost};
-ghost use Rattle.so_history.specs.Order.{pick, opening_of, taking};
+ghost use Rattle.so_history.specs.Order.{pick, opening_of, skipped, taking};
 ghost use Rattle.so_history.specs.Steps.{finished, is_over, IsRow, IsSigner};
 ghost use Rattle.so_history.specs.Chain.{by_main, registration, tidying};
 ghost use Rattle.so_kernel.specs.Gates.{begin_by};
 
 use crate::kernel::Kernel;
-use crate::subscriptions::choose_in_default;
-use so_history::{Demand, DemandKind, Entry, EntryKind, StopCause};
-use so_ids::{AgentId, Chosen, CoopId, LaneId, MboxId, MsgId, Opening, PartyId, Payload, Reason};
+use so_code::Answer;
+use so_history::{Demand, DemandKind, Entry, EntryKind, SkipWhy, StopCause};
+use so_ids::{
+    AgentId, Chosen, CoopId, LaneId, MboxId, MsgId, Opening, PartyId, Payload, Reason, StateId,
+};
+use so_state::{Tree, choose};
 
 impl<'a> Kernel<'a> {
     /// The registration that main has not tried yet.
@@ -58,9 +61,9 @@ impl<'a> Kernel<'a> {
             EntryKind::Leaving { coop, reason: _ } => 1 + self.scene.coop(coop).count,
             EntryKind::Act {
                 turn: _,
-                effect,
-                answer: _,
-            } => 1 + self.asked_by(effect).agents.count,
+                effect: _,
+                answer: Answer::Sent(sent),
+            } => 1 + sent.queued,
             _ => 1,
         }
     }
@@ -127,22 +130,30 @@ impl<'a> Kernel<'a> {
         match picked {
             Some(demand) => Some(Entry {
                 by,
-                kind: self.begin_with(lane, demand),
+                kind: self.taking_of(lane, demand),
             }),
             None => None,
         }
     }
 
-    /// The Begin of a demand on a lane.
-    fn begin_with(&self, lane: LaneId, demand: Demand) -> EntryKind
+    /// How a lane takes a demand: a turn begins, or the demand is skipped.
+    fn taking_of(&self, lane: LaneId, demand: Demand) -> EntryKind
         requires { demand.agent.0 < length self.now.scene.agents }
         ensures { result ≡ taking self.now.scene self.now.history lane demand }
     {
-        EntryKind::Begin {
-            lane,
-            demand: Some(demand.id),
-            opening: self.opening_of(demand),
-            agent: demand.agent,
+        let opening = self.opening_of(demand);
+        match skipped(opening) {
+            Some(why) => EntryKind::Skip {
+                lane,
+                demand: demand.id,
+                why,
+            },
+            None => EntryKind::Begin {
+                lane,
+                demand: Some(demand.id),
+                opening,
+                agent: demand.agent,
+            },
         }
     }
 
@@ -167,8 +178,21 @@ impl<'a> Kernel<'a> {
         requires { agent.0 < length self.now.scene.agents }
         ensures { result ≡ chosen_for self.now.scene self.now.history agent mbox msg }
     {
+        let no_states = Tree::flat(self.alloc);
         let rows = self.scene.agent(agent).rows.as_slice();
-        choose_in_default(self.alloc, rows, self.tables.marks.present, mbox, msg)
+        let active = self.tables.mboxes.active(agent);
+        choose(&no_states, rows, active, StateId(0), mbox, msg)
+    }
+}
+
+/// Why a demand with this opening begins no turn, `None` where it begins one.
+fn skipped(opening: Opening) -> Option<SkipWhy>
+    ensures { result ≡ skipped opening }
+{
+    match opening {
+        Opening::Event(Chosen::Nothing) => Some(SkipWhy::Nothing),
+        Opening::Event(Chosen::Suppressed) => Some(SkipWhy::Suppressed),
+        _ => None,
     }
 }
 

@@ -1,140 +1,78 @@
-//! Whom a message reaches, read off the tables.
+//! What the core answers to an act, read off the tables.
 
-ghost use Rattle.std.specs.Prelude.{◌≡◌, ◌+◌, ◌≤◌, length, Some};
-ghost use Rattle.so_scene.specs.Parts.{agents_from};
-ghost use Rattle.so_history.specs.Delivery.{receivers, reached, sent};
-ghost use Rattle.so_history.specs.Demands.{ask_each, asked_by_target, asked_by_effect};
-ghost use Rattle.so_history.specs.Steps.{NamesEffect, answer_of};
+ghost use Rattle.std.specs.Prelude.{◌≡◌, ◌<◌, length, Some};
+ghost use Rattle.so_scene.specs.Parts.{rows_of, filters_of, mboxes};
+ghost use Rattle.so_history.specs.Delivery.{active_rows, active_filters, sent};
+ghost use Rattle.so_history.specs.Steps.{NamesEffect, answer_of, yes_where, may_subscribe, is_active};
 
 use crate::kernel::Kernel;
-use crate::subscriptions::is_subscribed;
 use so_code::{Answer, Effect};
-use so_history::DemandKind;
-use so_ids::{AgentId, MboxId, MsgId, Payload, Sent, Target};
-
-/// Some agents in a row. So far a message reaches one agent or none.
-#[derive(Clone, Copy, Debug, PartialEq, Eq)]
-pub(crate) struct Agents {
-    pub first: AgentId,
-    pub count: u32,
-}
-
-/// The same, asked of each of these agents.
-#[derive(Clone, Copy, Debug, PartialEq, Eq)]
-pub(crate) struct Asks {
-    pub kind: DemandKind,
-    pub agents: Agents,
-}
-
-/// No agents.
-const NOBODY: Agents = Agents {
-    first: AgentId(0),
-    count: 0,
-};
-
-/// What asks nothing.
-const NOTHING: Asks = Asks {
-    kind: DemandKind::Start,
-    agents: NOBODY,
-};
+use so_deliver::count_delivery;
+use so_ids::{AgentId, FilterId, MboxId, MsgId, Payload, RowId, Sent, Target};
+use so_scene::is_twice;
 
 impl<'a> Kernel<'a> {
-    /// The agents that are subscribed to the type from the mbox: its owner, or nobody.
-    fn receivers(&self, mbox: MboxId, msg: MsgId) -> Agents
-        ensures value { agents_from result.first result.count ≡ receivers self.now.scene self.now.history mbox msg }
-        ensures range { result.first.0 + result.count ≤ length self.now.scene.agents }
-    {
-        if mbox.0 >= self.scene.agents() {
-            return NOBODY;
-        }
-        let owner = AgentId(mbox.0);
-        let rows = self.scene.agent(owner).rows.as_slice();
-        if is_subscribed(rows, self.tables.marks.present, mbox, msg) {
-            Agents {
-                first: owner,
-                count: 1,
-            }
-        } else {
-            NOBODY
-        }
-    }
-
-    /// Those of them that get an event.
-    fn reached(&self, mbox: MboxId, msg: MsgId) -> Agents
-        ensures value { agents_from result.first result.count ≡ reached self.now.scene self.now.history mbox msg }
-        ensures range { result.first.0 + result.count ≤ length self.now.scene.agents }
-    {
-        if self.tables.marks.leaving {
-            NOBODY
-        } else {
-            self.receivers(mbox, msg)
-        }
-    }
-
-    /// What becomes of a message that is sent through the mbox.
-    fn sent(&self, mbox: MboxId, msg: MsgId) -> Sent
-        ensures { result ≡ sent self.now.scene self.now.history mbox msg }
-    {
-        let receivers = self.receivers(mbox, msg).count;
-        if self.tables.marks.leaving {
-            Sent {
-                queued: 0,
-                lost: receivers,
-                logged: 0,
-                first: None,
-            }
-        } else {
-            Sent {
-                queued: receivers,
-                lost: 0,
-                logged: 0,
-                first: None,
-            }
-        }
-    }
-
-    /// The answer to an effect.
-    pub(crate) fn answer_to(&self, effect: Effect) -> Answer
-        requires { NamesEffect self.now.scene effect }
-        ensures { answer_of self.now.scene self.now.history effect ≡ Some result }
+    /// The answer to an effect of an agent's turn.
+    pub(crate) fn answer_to(&self, agent: AgentId, effect: Effect) -> Answer
+        requires agent { agent.0 < length self.now.scene.agents }
+        requires named { NamesEffect self.now.scene agent effect }
+        ensures { answer_of self.now.scene self.now.history agent effect ≡ Some result }
     {
         match effect {
             Effect::Log { .. } | Effect::Stop => Answer::Okay,
+            Effect::SetFilter { .. } => Answer::Yes,
+            Effect::Subscribe { row } => yes_where(self.may_subscribe(agent, row)),
+            Effect::Unsubscribe { row } => yes_where(self.is_row_active(agent, row)),
+            Effect::DropFilter { filter } => yes_where(self.is_filter_active(agent, filter)),
             Effect::Send {
                 target: Target::Mbox(mbox),
                 msg,
-                payload: _,
-            } => Answer::Sent(self.sent(mbox, msg)),
+                payload,
+            } => Answer::Sent(self.sent(mbox, msg, payload)),
             _ => unreachable!(),
         }
     }
 
-    /// What an effect asks of agents.
-    pub(crate) fn asked_by(&self, effect: Effect) -> Asks
-        ensures value { ask_each result.kind (agents_from result.agents.first result.agents.count) ≡ asked_by_effect self.now.scene self.now.history effect }
-        ensures range { result.agents.first.0 + result.agents.count ≤ length self.now.scene.agents }
+    /// What becomes of a message that is sent through the mbox.
+    fn sent(&self, mbox: MboxId, msg: MsgId, payload: Payload) -> Sent
+        requires mbox { mbox.0 < mboxes self.now.scene }
+        requires msg { msg.0 < length self.now.scene.messages }
+        ensures { result ≡ sent self.now.scene self.now.history mbox msg payload }
     {
-        match effect {
-            Effect::Send {
-                target,
-                msg,
-                payload,
-            } => self.asked_by_target(target, msg, payload),
-            _ => NOTHING,
-        }
+        count_delivery(&self.tables.mboxes, self.tables.marks.leaving, mbox, msg, payload)
     }
 
-    /// What a send asks of agents.
-    fn asked_by_target(&self, target: Target, msg: MsgId, payload: Payload) -> Asks
-        ensures value { ask_each result.kind (agents_from result.agents.first result.agents.count) ≡ asked_by_target self.now.scene self.now.history target msg payload }
-        ensures range { result.agents.first.0 + result.agents.count ≤ length self.now.scene.agents }
+    /// Tells whether a row of the agent may become active.
+    fn may_subscribe(&self, agent: AgentId, row: RowId) -> bool
+        requires agent { agent.0 < length self.now.scene.agents }
+        requires row { row.0 < length (rows_of self.now.scene agent) }
+        ensures { result ≡ may_subscribe self.now.scene self.now.history agent row }
     {
-        match target {
-            Target::Mbox(mbox) => Asks {
-                kind: DemandKind::Event { mbox, msg, payload },
-                agents: self.reached(mbox, msg),
-            },
-            Target::Chain(_) => NOTHING,
-        }
+        let rows = self.scene.agent(agent).rows.as_slice();
+        !is_twice(rows, self.tables.mboxes.active(agent), &rows[row.0 as usize])
     }
+
+    /// Tells whether a row of the agent is active.
+    fn is_row_active(&self, agent: AgentId, row: RowId) -> bool
+        requires agent { agent.0 < length self.now.scene.agents }
+        requires row { row.0 < length (rows_of self.now.scene agent) }
+        ensures { result ≡ is_active (active_rows self.now.scene self.now.history agent) row.0 }
+    {
+        self.tables.mboxes.active(agent)[row.0 as usize]
+    }
+
+    /// Tells whether a filter of the agent is active.
+    fn is_filter_active(&self, agent: AgentId, filter: FilterId) -> bool
+        requires agent { agent.0 < length self.now.scene.agents }
+        requires filter { filter.0 < length (filters_of self.now.scene agent) }
+        ensures { result ≡ is_active (active_filters self.now.scene self.now.history agent) filter.0 }
+    {
+        self.tables.mboxes.is_filter_active(agent, filter)
+    }
+}
+
+fn yes_where(holds: bool) -> Answer
+    ensures { result ≡ yes_where holds }
+{
+    if holds { Answer::Yes } else { Answer::No }
 }

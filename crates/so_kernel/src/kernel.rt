@@ -1,19 +1,22 @@
 //! The kernel and its public steps. Each adds at most one entry, the one that its definition gives.
 
-ghost use Rattle.std.specs.Prelude.{◌≡◌, ◌<◌, ◌≤◌, ◌↔◌, [], ◌∷◌, true, false, IfOk, IfSome, IfErr, OnOk, Some, Ok, Err};
-ghost use Rattle.so_scene.specs.Parts.{IsScene};
+ghost use Rattle.std.specs.Prelude.{◌≡◌, ◌<◌, ◌≤◌, ◌↔◌, [], true, false, IfOk, IfSome, IfErr, OnOk, Some, Ok, Err};
+ghost use Rattle.so_scene.specs.Checked.{IsScene};
 ghost use Rattle.so_scene.specs.Lanes.{lanes};
 ghost use Rattle.so_code.specs.declared.effect.Move.{Move};
 ghost use Rattle.so_code.specs.declared.effect.Move.TheVariants.{Do, Done, Fail};
 ghost use Rattle.so_history.specs.Units.{units};
 ghost use Rattle.so_history.specs.Steps.{finished, is_over, IsRow, IsSigner, Legal};
 ghost use Rattle.so_history.specs.Coops.{aborted};
+ghost use Rattle.so_history.specs.Order.{pick, taking};
 ghost use Rattle.so_history.specs.Chain.{registration, tidying};
+ghost use Rattle.so_kernel.specs.Gates.{is_skip};
 
 use crate::answers::{Acted, Begun, Ended, Refused, RunState, Stepped, Turn};
 use crate::tables::Tables;
 use so_code::{Effect, FailKind};
-use so_history::{AbortCause, Entry, EntryKind, History};
+use so_deliver::Outcomes;
+use so_history::{AbortCause, Demand, Entry, EntryKind, History};
 use so_ids::{CoopId, LaneId, NoMemory, PartyId};
 use so_scene::Scene;
 use std::alloc::Global;
@@ -25,11 +28,14 @@ pub struct Kernel<'a> {
     pub(crate) alloc: Global,
     pub(crate) scene: &'a Scene,
     pub(crate) history: History,
-    pub(crate) tables: Tables,
+    pub(crate) tables: Tables<'a>,
+    /// Where a delivery is planned.
+    pub(crate) outcomes: Outcomes,
     pub(crate) full: bool,
 }
 
 impl<'a> Model for Kernel<'a> {
+    ghost use Rattle.std.specs.Prelude.{◌≤◌, length};
     ghost use Rattle.so_kernel.specs.Shapes.{Core};
     ghost use Rattle.so_kernel.specs.Kept.{IsKept};
 
@@ -37,7 +43,7 @@ impl<'a> Model for Kernel<'a> {
 
     ghost view = { λ k. record { scene = k.scene.now; limit = k.history.limit; history = k.history.entries; full = k.full } };
 
-    ghost invariant = { λ k. IsKept k.scene.now k.history.limit k.history.entries k.tables k.full };
+    ghost invariant = { λ k. IsKept k.scene.now k.history.limit k.history.entries k.tables k.full × (length k.scene.now.agents ≤ k.outcomes.room) };
 }
 
 impl<'a> Kernel<'a> {
@@ -55,6 +61,7 @@ impl<'a> Kernel<'a> {
             scene,
             history: History::with_units(alloc, units)?,
             tables: Tables::with(alloc, scene, units)?,
+            outcomes: Outcomes::with(alloc, scene.agents())?,
             full: false,
         })
     }
@@ -89,6 +96,7 @@ impl<'a> Kernel<'a> {
             scene: _,
             history,
             tables: _,
+            outcomes: _,
             full: _,
         } = self;
         history
@@ -141,7 +149,7 @@ impl<'a> Kernel<'a> {
         }
     }
 
-    /// Begins a turn of the first demand that a free lane may take.
+    /// Takes the first demand that a free lane may take: its turn begins, or it is skipped.
     pub fn begin(&mut self, by: PartyId, lane: LaneId) -> Begun
         requires lane { lane.0 < lanes self.old.scene }
         requires signer { IsSigner by lane }
@@ -152,10 +160,26 @@ impl<'a> Kernel<'a> {
         let next = self.taking(by, lane, picked);
         match self.gate(next) {
             Ok(entry) => match picked {
-                Some(demand) => Begun::Turn(self.add_begin(entry, lane, demand)),
+                Some(demand) => self.take(entry, lane, demand),
                 None => unreachable!(),
             },
             Err(why) => why.begun(),
+        }
+    }
+
+    /// Takes in the entry by which a lane takes a demand.
+    fn take(&mut self, entry: Entry, lane: LaneId, demand: Demand) -> Begun
+        requires picked { pick self.old.scene self.old.history lane ≡ Some demand }
+        requires is { entry.kind ≡ taking self.old.scene self.old.history lane demand }
+        requires ready { IsReady self.old entry }
+        ensures answer { IsBegun self.new entry.by lane (Ok entry) result }
+        ensures after { self.new ≡ core_after self.old (Ok entry) }
+    {
+        if is_skip(entry.kind) {
+            self.add_skip(entry, lane, demand);
+            Begun::Skipped
+        } else {
+            Begun::Turn(self.add_begin(entry, lane, demand))
         }
     }
 
@@ -168,7 +192,7 @@ impl<'a> Kernel<'a> {
         ensures held { result ≡ Acted.Went → IsHeld self.new.scene self.new.history turn.new }
     {
         let _scene = self.scene();
-        let answer = self.answer_to(effect);
+        let answer = self.answer_to(turn.agent, effect);
         let entry = Entry {
             by: turn.by,
             kind: EntryKind::Act {
@@ -254,5 +278,15 @@ impl<'a> Kernel<'a> {
             }
             None => Err(Refused::Nothing),
         }
+    }
+}
+
+/// Tells whether the entry takes a demand without a turn.
+fn is_skip(kind: EntryKind) -> bool
+    ensures { result ≡ is_skip kind }
+{
+    match kind {
+        EntryKind::Skip { .. } => true,
+        _ => false,
     }
 }

@@ -10,7 +10,6 @@ mod delivery;
 mod kernel;
 mod slots;
 mod steps;
-mod subscriptions;
 mod tables;
 mod take_in;
 mod turns;

@@ -32,7 +32,7 @@ pub fn step(kernel: &mut Kernel, turns: &mut Turns, pick: Pick) -> Stepped
     }
 }
 
-/// Begins a turn on a lane, or makes the next step of the running one.
+/// Takes a demand on a lane, or makes the next step of its running turn.
 fn step_lane(kernel: &mut Kernel, turns: &mut Turns, lane: LaneId) -> Stepped
     requires lane { lane.0 < lanes kernel.old.scene }
     requires held { AreHeld kernel.old turns.old }
@@ -169,7 +169,7 @@ fn step_fail(
     }
 }
 
-/// Begins a turn on a lane that has none.
+/// Takes a demand on a lane that has no turn.
 fn step_begin(kernel: &mut Kernel, turns: &mut Turns, lane: LaneId) -> Stepped
     requires lane { lane.0 < lanes kernel.old.scene }
     requires none { slice_index_or turns.old lane.0 None ≡ None }
@@ -185,6 +185,7 @@ fn step_begin(kernel: &mut Kernel, turns: &mut Turns, lane: LaneId) -> Stepped
             turns.put(lane, turn);
             Stepped::Added
         }
+        Begun::Skipped => Stepped::Added,
         Begun::Nothing => Stepped::Nothing,
         Begun::Full => Stepped::Full,
         Begun::Over => Stepped::Over,

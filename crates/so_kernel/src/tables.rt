@@ -1,13 +1,19 @@
 //! What the steps look up: tables that stand for what the history says. A table knows no history.
 
-ghost use Rattle.std.specs.Prelude.{◌≡◌, ◌<◌, ◌+◌, ◌^◌, length, IfOk};
-ghost use Rattle.so_scene.specs.Parts.{agents_from};
+ghost use Rattle.std.specs.Prelude.{◌≡◌, ◌<◌, ◌≤◌, ◌+◌, ◌^◌, [], length, map, None, IfOk};
+ghost use Rattle.so_scene.specs.Parts.{agents_from, rows_of, filters_of};
+ghost use Rattle.so_scene.specs.Definition.{filter_fault_of};
+ghost use Rattle.so_scene.specs.Subscriptions.{filter_of};
+ghost use Rattle.so_mbox.specs.Table.{IsAgentOf, after_unsubscribe, after_set_filter, after_drop_filter};
+ghost use Rattle.so_kernel.specs.Tables.{entered, departed};
 
 use crate::slots::Slots;
 use crate::variables::Variables;
 use crate::waiting::Waiting;
+use so_deliver::Outcomes;
 use so_history::{Demand, DemandKind};
-use so_ids::{AgentId, KeyId, LaneId, NoMemory, Place, Vars};
+use so_ids::{AgentId, FilterId, KeyId, LaneId, NoMemory, Place, RowId, Vars};
+use so_mbox::Table;
 use so_scene::Scene;
 use std::alloc::Global;
 
@@ -30,22 +36,23 @@ pub struct Marks {
 
 /// The tables.
 #[derive(Drop)]
-pub struct Tables {
+pub struct Tables<'a> {
     pub waiting: Waiting,
     pub lanes: Slots,
     pub keys: Slots,
     pub variables: Variables,
+    pub mboxes: Table<'a>,
     pub marks: Marks,
     pub units: u32,
 }
 
-impl Tables {
-    ghost use Rattle.so_kernel.specs.Tables.{fresh, queued, after_register, after_begin, after_act, after_asking, after_abort, after_end, after_leaving, after_left, after_stop, HasRoom};
-    ghost use Rattle.so_history.specs.Demands.{ask_each};
+impl<'a> Tables<'a> {
+    ghost use Rattle.so_kernel.specs.Tables.{fresh, queued, with_mboxes, subscribed, after_skip, after_register, after_begin, after_act, after_asking, after_abort, after_end, after_leaving, after_left, after_stop, HasRoom};
+    ghost use Rattle.so_history.specs.Demands.{ask, ask_each};
     ghost use Rattle.so_ids.specs.declared.AgentId.{AgentId as AgentNumber};
 
     /// The tables of the empty history.
-    pub fn with(alloc: Global, scene: &Scene, room: u32) -> Result<Tables, NoMemory>
+    pub fn with(alloc: Global, scene: &'a Scene, room: u32) -> Result<Tables<'a>, NoMemory>
         ensures { IfOk result (λ t. t ≡ fresh scene.now room) }
     {
         Ok(Tables {
@@ -53,6 +60,7 @@ impl Tables {
             lanes: Slots::with(alloc, scene.lanes())?,
             keys: Slots::with(alloc, scene.keys())?,
             variables: Variables::with(alloc, scene)?,
+            mboxes: Table::with(alloc, scene)?,
             marks: Marks {
                 tried: false,
                 present: false,
@@ -69,11 +77,15 @@ impl Tables {
     pub fn registered(&mut self, scene: &Scene, place: Place, first: AgentId, count: u32)
         requires agents { first.0 + count < 2 ^ 32 }
         requires variables { length self.old.variables ≡ length scene.now.agents }
+        requires scene { self.old.mboxes.scene ≡ scene.now }
+        requires range { first.0 + count ≤ length scene.now.agents }
+        requires nobody { self.old.mboxes.order ≡ [] }
         requires room { HasRoom self.old count }
         ensures { self.new ≡ after_register scene.now place.0 (agents_from first count) self.old }
     {
         self.ask_each(place, DemandKind::Start, first, count);
         self.variables.reset(scene);
+        enter_each(&mut self.mboxes, first, count);
         self.marks.tried = true;
         self.marks.present = true;
     }
@@ -91,6 +103,15 @@ impl Tables {
         self.units += 1;
     }
 
+    /// After a demand that begins no turn.
+    pub fn skipped(&mut self, demand: Demand)
+        requires { HasRoom self.old 0 }
+        ensures { self.new ≡ after_skip demand self.old }
+    {
+        self.waiting.take(demand.id);
+        self.units += 1;
+    }
+
     /// After an act that changes nothing but the units.
     pub fn acted(&mut self)
         requires { HasRoom self.old 0 }
@@ -99,13 +120,64 @@ impl Tables {
         self.units += 1;
     }
 
-    /// After the send of a message that reaches the agents from `first` on.
-    pub fn sent(&mut self, place: Place, kind: DemandKind, first: AgentId, count: u32)
-        requires agents { first.0 + count < 2 ^ 32 }
-        requires room { HasRoom self.old count }
-        ensures { self.new ≡ queued place.0 (ask_each kind (agents_from first count)) self.old }
+    /// After the send of a message whose delivery queues these events.
+    pub fn delivered(&mut self, place: Place, outcomes: &Outcomes)
+        requires { HasRoom self.old (length outcomes.now.events) }
+        ensures { self.new ≡ queued place.0 (map ask outcomes.now.events) self.old }
     {
-        self.ask_each(place, kind, first, count);
+        self.waiting.push_events(place, outcomes);
+        self.units += 1 + outcomes.len();
+    }
+
+    /// After an agent's subscription by a row, which may have been refused.
+    pub fn subscribed(&mut self, agent: AgentId, row: RowId)
+        requires agent { IsAgentOf self.old.mboxes.scene agent }
+        requires row { row.0 < length (rows_of self.old.mboxes.scene agent) }
+        requires room { HasRoom self.old 0 }
+        ensures { self.new ≡ with_mboxes (subscribed agent row self.old.mboxes) self.old }
+    {
+        match self.mboxes.subscribe(agent, row) {
+            Ok(()) => {}
+            Err(_) => {}
+        }
+        self.units += 1;
+    }
+
+    /// After an agent ended its subscription by a row.
+    pub fn unsubscribed(&mut self, agent: AgentId, row: RowId)
+        requires agent { IsAgentOf self.old.mboxes.scene agent }
+        requires row { row.0 < length (rows_of self.old.mboxes.scene agent) }
+        requires room { HasRoom self.old 0 }
+        ensures { self.new ≡ with_mboxes (after_unsubscribe agent row self.old.mboxes) self.old }
+    {
+        let _was = self.mboxes.unsubscribe(agent, row);
+        self.units += 1;
+    }
+
+    /// After an agent set a filter that no rule refuses.
+    pub fn filter_set(&mut self, agent: AgentId, filter: FilterId)
+        requires agent { IsAgentOf self.old.mboxes.scene agent }
+        requires filter { filter.0 < length (filters_of self.old.mboxes.scene agent) }
+        requires rules { filter_fault_of self.old.mboxes.scene (filter_of self.old.mboxes.scene agent filter) ≡ None }
+        requires room { HasRoom self.old 0 }
+        ensures { self.new ≡ with_mboxes (after_set_filter agent filter self.old.mboxes) self.old }
+    {
+        match self.mboxes.set_filter(agent, filter) {
+            Ok(()) => {}
+            Err(_) => unreachable!(),
+        }
+        self.units += 1;
+    }
+
+    /// After an agent dropped a filter.
+    pub fn filter_dropped(&mut self, agent: AgentId, filter: FilterId)
+        requires agent { IsAgentOf self.old.mboxes.scene agent }
+        requires filter { filter.0 < length (filters_of self.old.mboxes.scene agent) }
+        requires room { HasRoom self.old 0 }
+        ensures { self.new ≡ with_mboxes (after_drop_filter agent filter self.old.mboxes) self.old }
+    {
+        let _was = self.mboxes.drop_filter(agent, filter);
+        self.units += 1;
     }
 
     /// After a turn asked for a stop.
@@ -150,11 +222,13 @@ impl Tables {
         self.marks.leaving = true;
     }
 
-    /// After a Left.
-    pub fn left(&mut self)
-        requires { HasRoom self.old 0 }
-        ensures { self.new ≡ after_left self.old }
+    /// After the Left of the agents from `first` on.
+    pub fn left(&mut self, first: AgentId, count: u32)
+        requires range { first.0 + count ≤ length self.old.mboxes.scene.agents }
+        requires room { HasRoom self.old 0 }
+        ensures { self.new ≡ after_left (agents_from first count) self.old }
     {
+        leave_each(&mut self.mboxes, first, count);
         self.marks.present = false;
         self.marks.leaving = false;
         self.units += 1;
@@ -178,5 +252,28 @@ impl Tables {
     {
         self.waiting.push_each(place, kind, first, count);
         self.units += 1 + count;
+    }
+}
+
+/// Registers the agents from `first` on, in order.
+fn enter_each(mboxes: &mut Table, first: AgentId, count: u32)
+    requires range { first.0 + count ≤ length mboxes.old.scene.agents }
+    requires few { length mboxes.old.scene.agents ≤ 4096 }
+    requires nobody { mboxes.old.order ≡ [] }
+    ensures { mboxes.new ≡ entered (agents_from first count) mboxes.old }
+{
+    for k in 0..count {
+        mboxes.enter(AgentId(first.0 + k));
+    }
+}
+
+/// The agents from `first` on leave, in order.
+fn leave_each(mboxes: &mut Table, first: AgentId, count: u32)
+    requires range { first.0 + count ≤ length mboxes.old.scene.agents }
+    requires few { length mboxes.old.scene.agents ≤ 4096 }
+    ensures { mboxes.new ≡ departed (agents_from first count) mboxes.old }
+{
+    for k in 0..count {
+        mboxes.leave(AgentId(first.0 + k));
     }
 }

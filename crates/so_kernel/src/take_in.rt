@@ -1,32 +1,30 @@
 //! What an entry makes of the tables: one function for each kind, one call on the tables, one push.
 
-ghost use Rattle.std.specs.Prelude.{◌≡◌, ◌<◌, length, Some, Ok};
-ghost use Rattle.so_code.specs.declared.effect.Effect.TheVariants.{Log, Send};
-ghost use Rattle.so_code.specs.Openings.{begun};
+ghost use Rattle.std.specs.Prelude.{◌≡◌, ◌<◌, length, Some, Ok, true, false};
 ghost use Rattle.so_ids.specs.declared.TextId.{TextId as AnyText};
 ghost use Rattle.so_ids.specs.declared.Payload.{Payload as AnyPayload};
-ghost use Rattle.so_ids.specs.declared.Target.{Target as AnyTarget};
-ghost use Rattle.so_ids.specs.declared.MsgId.{MsgId as AnyMsg};
+ghost use Rattle.so_ids.specs.declared.Target.TheVariants.{Mbox};
+ghost use Rattle.so_code.specs.declared.effect.Effect.TheVariants.{Log, Send, Subscribe, Unsubscribe, SetFilter, DropFilter};
+ghost use Rattle.so_code.specs.declared.effect.Move.TheVariants.{Do, Done};
+ghost use Rattle.so_code.specs.Openings.{begun};
+ghost use Rattle.so_scene.specs.Parts.{rows_of, filters_of, mboxes};
 ghost use Rattle.so_history.specs.declared.entry.AbortCause.{AbortCause as AnyAbort};
+ghost use Rattle.so_history.specs.declared.entry.StopCause.{StopCause as AnyStop};
 ghost use Rattle.so_history.specs.Demands.{payload_of};
 ghost use Rattle.so_history.specs.Turns.{vars};
-ghost use Rattle.so_code.specs.declared.effect.Answer.{Answer as AnyAnswer};
-ghost use Rattle.so_code.specs.declared.effect.Move.TheVariants.{Do, Done};
-ghost use Rattle.so_ids.specs.declared.CoopId.{CoopId as AnyCoop};
-ghost use Rattle.so_ids.specs.declared.Place.{Place as AnyPlace};
-ghost use Rattle.so_history.specs.declared.entry.StopCause.{StopCause as AnyStop};
 ghost use Rattle.so_history.specs.Order.{pick, opening_of, taking};
 ghost use Rattle.so_history.specs.Steps.{NamesEffect, answer_of};
 ghost use Rattle.so_history.specs.Chain.{tidying};
 ghost use Rattle.so_kernel.specs.Kept.{IsReady};
-ghost use Rattle.so_kernel.specs.Gates.{core_after, IsHeld, HasMoved, act_entry, turn_after};
+ghost use Rattle.so_kernel.specs.Gates.{core_after, is_skip, IsHeld, HasMoved, IsActOf, act_entry, turn_after};
 
 use crate::answers::Turn;
 use crate::decide::payload_of;
 use crate::kernel::Kernel;
 use so_code::{Answer, Effect, Frame};
+use so_deliver::{Planned, plan_delivery};
 use so_history::{Demand, Entry, EntryKind};
-use so_ids::{CoopId, LaneId, Place, Reason};
+use so_ids::{AgentId, CoopId, FilterId, LaneId, MboxId, MsgId, Payload, Place, Reason, RowId, Target};
 
 impl<'a> Kernel<'a> {
     /// Takes in a registration.
@@ -46,6 +44,7 @@ impl<'a> Kernel<'a> {
     pub(crate) fn add_begin(&mut self, entry: Entry, lane: LaneId, demand: Demand) -> Turn
         requires picked { pick self.old.scene self.old.history lane ≡ Some demand }
         requires is { entry.kind ≡ taking self.old.scene self.old.history lane demand }
+        requires begins { is_skip entry.kind ≡ false }
         requires ready { IsReady self.old entry }
         ensures turn { IsHeld self.new.scene self.new.history result }
         ensures by { result.by ≡ entry.by }
@@ -66,6 +65,18 @@ impl<'a> Kernel<'a> {
         }
     }
 
+    /// Takes in a Skip.
+    pub(crate) fn add_skip(&mut self, entry: Entry, lane: LaneId, demand: Demand)
+        requires picked { pick self.old.scene self.old.history lane ≡ Some demand }
+        requires is { entry.kind ≡ taking self.old.scene self.old.history lane demand }
+        requires skips { is_skip entry.kind ≡ true }
+        requires ready { IsReady self.old entry }
+        ensures { self.new ≡ core_after self.old (Ok entry) }
+    {
+        self.tables.skipped(demand);
+        self.history.push(entry);
+    }
+
     /// The frame of a turn that begins with a demand.
     fn begin_frame(&self, demand: Demand) -> Frame
         requires { demand.agent.0 < length self.now.scene.agents }
@@ -79,7 +90,7 @@ impl<'a> Kernel<'a> {
     /// Takes in an act, and gives the turn its answer.
     pub(crate) fn add_act(&mut self, entry: Entry, turn: &mut Turn, effect: Effect, answer: Answer)
         requires moved { HasMoved self.old.scene self.old.history turn.old (Do effect) }
-        requires answer { answer_of self.old.scene self.old.history effect ≡ Some answer }
+        requires answer { answer_of self.old.scene self.old.history turn.old.agent effect ≡ Some answer }
         requires is { entry ≡ act_entry self.old turn.old effect }
         requires ready { IsReady self.old entry }
         ensures turn { turn.new ≡ turn_after self.old (Ok entry) turn.old effect }
@@ -87,28 +98,37 @@ impl<'a> Kernel<'a> {
         ensures after { self.new ≡ core_after self.old (Ok entry) }
     {
         let _scene = self.scene();
-        self.add_effect(entry, effect);
+        self.add_effect(entry, turn.agent, effect);
         turn.frame.answer(answer);
     }
 
     /// Takes in an act by its effect.
-    fn add_effect(&mut self, entry: Entry, effect: Effect)
-        requires named { NamesEffect self.old.scene effect }
-        requires is { (turn : AnyPlace) × (answer : AnyAnswer) × (entry.kind ≡ EntryKind.Act turn effect answer) }
+    fn add_effect(&mut self, entry: Entry, agent: AgentId, effect: Effect)
+        requires agent { agent.0 < length self.old.scene.agents }
+        requires named { NamesEffect self.old.scene agent effect }
+        requires acts { IsActOf self.old.scene self.old.history entry agent effect }
         requires ready { IsReady self.old entry }
         ensures { self.new ≡ core_after self.old (Ok entry) }
     {
         match effect {
-            Effect::Log { .. } => self.add_log(entry),
-            Effect::Send { .. } => self.add_send(entry, effect),
-            Effect::Stop => self.add_asking(entry),
+            Effect::Log { .. } => self.add_log(entry, agent),
+            Effect::Send {
+                target: Target::Mbox(mbox),
+                msg,
+                payload,
+            } => self.add_send(entry, agent, mbox, msg, payload),
+            Effect::Subscribe { row } => self.add_subscribe(entry, agent, row),
+            Effect::Unsubscribe { row } => self.add_unsubscribe(entry, agent, row),
+            Effect::SetFilter { filter } => self.add_set_filter(entry, agent, filter),
+            Effect::DropFilter { filter } => self.add_drop_filter(entry, agent, filter),
+            Effect::Stop => self.add_asking(entry, agent),
             _ => unreachable!(),
         }
     }
 
     /// Takes in a line of the log, which changes nothing but the units.
-    fn add_log(&mut self, entry: Entry)
-        requires is { (turn : AnyPlace) × (text : AnyText) × (payload : AnyPayload) × (answer : AnyAnswer) × (entry.kind ≡ EntryKind.Act turn (Log text payload) answer) }
+    fn add_log(&mut self, entry: Entry, agent: AgentId)
+        requires acts { (text : AnyText) × (payload : AnyPayload) × IsActOf self.old.scene self.old.history entry agent (Log text payload) }
         requires ready { IsReady self.old entry }
         ensures { self.new ≡ core_after self.old (Ok entry) }
     {
@@ -116,23 +136,85 @@ impl<'a> Kernel<'a> {
         self.history.push(entry);
     }
 
-    /// Takes in a send.
-    fn add_send(&mut self, entry: Entry, effect: Effect)
-        requires sends { (target : AnyTarget) × (msg : AnyMsg) × (payload : AnyPayload) × (effect ≡ Send target msg payload) }
-        requires is { (turn : AnyPlace) × (answer : AnyAnswer) × (entry.kind ≡ EntryKind.Act turn effect answer) }
+    /// Takes in a send through a mbox.
+    fn add_send(
+        &mut self,
+        entry: Entry,
+        agent: AgentId,
+        mbox: MboxId,
+        msg: MsgId,
+        payload: Payload,
+    )
+        requires mbox { mbox.0 < mboxes self.old.scene }
+        requires msg { msg.0 < length self.old.scene.messages }
+        requires acts { IsActOf self.old.scene self.old.history entry agent (Send (Mbox mbox) msg payload) }
         requires ready { IsReady self.old entry }
         ensures { self.new ≡ core_after self.old (Ok entry) }
     {
         let place = Place(self.history.len());
-        let asks = self.asked_by(effect);
-        self.tables
-            .sent(place, asks.kind, asks.agents.first, asks.agents.count);
+        let Planned::Fits(_sent) = plan_delivery(
+            &self.tables.mboxes,
+            self.tables.marks.leaving,
+            Target::Mbox(mbox),
+            msg,
+            payload,
+            &mut self.outcomes,
+        );
+        self.tables.delivered(place, &self.outcomes);
+        self.history.push(entry);
+    }
+
+    /// Takes in an agent's subscription.
+    fn add_subscribe(&mut self, entry: Entry, agent: AgentId, row: RowId)
+        requires agent { agent.0 < length self.old.scene.agents }
+        requires row { row.0 < length (rows_of self.old.scene agent) }
+        requires acts { IsActOf self.old.scene self.old.history entry agent (Subscribe row) }
+        requires ready { IsReady self.old entry }
+        ensures { self.new ≡ core_after self.old (Ok entry) }
+    {
+        self.tables.subscribed(agent, row);
+        self.history.push(entry);
+    }
+
+    /// Takes in the end of an agent's subscription.
+    fn add_unsubscribe(&mut self, entry: Entry, agent: AgentId, row: RowId)
+        requires agent { agent.0 < length self.old.scene.agents }
+        requires row { row.0 < length (rows_of self.old.scene agent) }
+        requires acts { IsActOf self.old.scene self.old.history entry agent (Unsubscribe row) }
+        requires ready { IsReady self.old entry }
+        ensures { self.new ≡ core_after self.old (Ok entry) }
+    {
+        self.tables.unsubscribed(agent, row);
+        self.history.push(entry);
+    }
+
+    /// Takes in an agent's filter.
+    fn add_set_filter(&mut self, entry: Entry, agent: AgentId, filter: FilterId)
+        requires agent { agent.0 < length self.old.scene.agents }
+        requires filter { filter.0 < length (filters_of self.old.scene agent) }
+        requires acts { IsActOf self.old.scene self.old.history entry agent (SetFilter filter) }
+        requires ready { IsReady self.old entry }
+        ensures { self.new ≡ core_after self.old (Ok entry) }
+    {
+        self.tables.filter_set(agent, filter);
+        self.history.push(entry);
+    }
+
+    /// Takes in that an agent dropped a filter.
+    fn add_drop_filter(&mut self, entry: Entry, agent: AgentId, filter: FilterId)
+        requires agent { agent.0 < length self.old.scene.agents }
+        requires filter { filter.0 < length (filters_of self.old.scene agent) }
+        requires acts { IsActOf self.old.scene self.old.history entry agent (DropFilter filter) }
+        requires ready { IsReady self.old entry }
+        ensures { self.new ≡ core_after self.old (Ok entry) }
+    {
+        self.tables.filter_dropped(agent, filter);
         self.history.push(entry);
     }
 
     /// Takes in a stop that a turn asks for.
-    fn add_asking(&mut self, entry: Entry)
-        requires is { (turn : AnyPlace) × (answer : AnyAnswer) × (entry.kind ≡ EntryKind.Act turn (Effect.Stop) answer) }
+    fn add_asking(&mut self, entry: Entry, agent: AgentId)
+        requires acts { IsActOf self.old.scene self.old.history entry agent (Effect.Stop) }
         requires ready { IsReady self.old entry }
         ensures { self.new ≡ core_after self.old (Ok entry) }
     {
@@ -171,7 +253,7 @@ impl<'a> Kernel<'a> {
     {
         match entry.kind {
             EntryKind::Leaving { coop, reason } => self.add_leaving(entry, coop, reason),
-            EntryKind::Left { coop: _ } => self.add_left(entry),
+            EntryKind::Left { coop } => self.add_left(entry, coop),
             EntryKind::Stop { cause: _ } => self.add_stop(entry),
             _ => unreachable!(),
         }
@@ -190,12 +272,13 @@ impl<'a> Kernel<'a> {
     }
 
     /// Takes in a Left.
-    fn add_left(&mut self, entry: Entry)
-        requires is { (coop : AnyCoop) × (entry.kind ≡ EntryKind.Left coop) }
+    fn add_left(&mut self, entry: Entry, coop: CoopId)
+        requires is { entry.kind ≡ EntryKind.Left coop }
         requires ready { IsReady self.old entry }
         ensures { self.new ≡ core_after self.old (Ok entry) }
     {
-        self.tables.left();
+        let coop = self.scene.coop(coop);
+        self.tables.left(coop.first, coop.count);
         self.history.push(entry);
     }
 

@@ -1,16 +1,17 @@
 //! The demands that wait, in order.
 
-ghost use Rattle.std.specs.Prelude.{◌≡◌, ◌<◌, ◌≤◌, ◌^◌, [], ◌∷◌, ◌++◌, ◌+◌, length, vec_len, vec_capacity, IfOk, List};
+ghost use Rattle.std.specs.Prelude.{◌≡◌, ◌<◌, ◌≤◌, ◌^◌, [], ◌∷◌, ◌++◌, ◌+◌, length, map, vec_len, vec_capacity, IfOk, List};
 ghost use Rattle.std.specs.List.{All, find};
 ghost use Rattle.so_lists.specs.Lists.{is_empty};
 ghost use Rattle.so_scene.specs.Lanes.{keys};
 ghost use Rattle.so_scene.specs.Parts.{agents_from};
-ghost use Rattle.so_history.specs.Demands.{ask_each, demands_from, without};
+ghost use Rattle.so_history.specs.Demands.{ask, ask_each, demand_of, demands_from, without};
 ghost use Rattle.so_kernel.specs.Tables.{may_take_by};
 
 use crate::slots::Slots;
+use so_deliver::Outcomes;
 use so_history::{Demand, DemandKind};
-use so_ids::{AgentId, DemandId, LaneId, NoMemory, Place};
+use so_ids::{AgentId, DemandId, LaneId, NoMemory, Place, Queued};
 use so_scene::Scene;
 use std::alloc::Global;
 use std::marker::Model;
@@ -77,6 +78,19 @@ impl Waiting {
         }
     }
 
+    /// Adds the events of a delivery, which the entry at a place queues.
+    pub fn push_events(&mut self, place: Place, outcomes: &Outcomes)
+        requires { length self.old.items + length outcomes.now.events ≤ self.old.room }
+        ensures { self.new ≡ record self.old { items = self.old.items ++ demands_from place.0 0 (map ask outcomes.now.events) } }
+    {
+        for k in 0..outcomes.len() {
+            match outcomes.queued_at(k) {
+                Some(event) => self.push(demand_of(place, k, event)),
+                None => unreachable!(),
+            }
+        }
+    }
+
     /// The first demand that the lane may take: it serves the demand's queue, and no turn of that queue runs.
     pub fn first_for(&self, scene: &Scene, running: &Slots, lane: LaneId) -> Option<Demand>
         requires agents { All (λ d. d.agent.0 < length scene.now.agents) self.now.items }
@@ -91,6 +105,21 @@ impl Waiting {
         ensures { self.new ≡ record self.old { items = without id self.old.items } }
     {
         remove(&mut self.items, id);
+    }
+}
+
+/// The demand of an event, the `k`-th that the entry at a place queues.
+fn demand_of(place: Place, k: u32, event: Queued) -> Demand
+    ensures { result ≡ demand_of place.0 k (ask event) }
+{
+    Demand {
+        id: DemandId { place, k },
+        agent: event.agent,
+        kind: DemandKind::Event {
+            mbox: event.mbox,
+            msg: event.msg,
+            payload: event.payload,
+        },
     }
 }
 

@@ -1,0 +1,254 @@
+-- The subscriptions after one more entry.
+use Rattle.std.proofs.Common.{◌≡◌, ℕ, zero, suc, ◌+◌, ◌<◌, ◌≤◌, List, [], ◌∷◌, ◌++◌, length, take, set, get_or, map, zip, Bool, true, false, not, cond, Option, Some, None, Result, Ok, Err, arith, refl, sym, ◌∙◌, ap, subst, inl, inr, append_assoc}
+use Rattle.std.specs.Prelude.{◌==◌, slice_set, slice_get, replicate, is_ok}
+use Rattle.std.specs.List.{filter, list_any, AllByRecursion}
+use Rattle.std.proofs.lemmas.List.{append-nil, length-set, take_more_set, take_all, set-get_or}
+use Rattle.std.proofs.lemmas.Option.{slice_get-get_or}
+use Rattle.std.proofs.lemmas.Bool.{cases_Bool, cases_lt, ne_eqb, eq-eqb, eqb-true, false≢true}
+use Rattle.so_ids.specs.declared.AgentId.{AgentId}
+use Rattle.so_ids.specs.declared.CoopId.{CoopId}
+use Rattle.so_ids.specs.declared.FilterId.{FilterId}
+use Rattle.so_ids.specs.declared.Place.{Place}
+use Rattle.so_ids.specs.declared.RowId.{RowId}
+use Rattle.so_ids.specs.declared.DefFault.{DefFault}
+use Rattle.so_code.specs.declared.effect.Answer.{Answer}
+use Rattle.so_code.specs.declared.effect.Answer.TheVariants.{Yes, No}
+use Rattle.so_code.specs.declared.effect.Effect.{Effect}
+use Rattle.so_code.specs.declared.effect.Effect.TheVariants as effect
+use Rattle.so_lists.specs.Lists.{each_below, or_else, first_below}
+use Rattle.so_lists.proofs.EachBelow.{length-each_below, get_or-each_below, each_below-same, each_below-set, all-each_below}
+use Rattle.so_lists.proofs.First.{or_else-none, none-first_below}
+use Rattle.so_lists.proofs.Filters.{each-weaker}
+use Rattle.so_state.specs.declared.choice.Row.{Row}
+use Rattle.so_scene.specs.declared.parts.AgentDef.{AgentDef}
+use Rattle.so_scene.specs.declared.parts.FilterDef.{FilterDef}
+use Rattle.so_scene.specs.declared.parts.SceneParts.{SceneParts}
+use Rattle.so_scene.specs.Parts.{no_agent, no_coop, agent_of, coop_of, agents_from, agents_of, rows_of, filters_of}
+use Rattle.so_scene.specs.Checked.{IsCoop, IsScene}
+use Rattle.so_scene.specs.Definition.{is_not_owner, is_twice, row_fault, row_fault_after, filter_fault, filter_fault_of, definition_fault}
+use Rattle.so_scene.specs.Subscriptions.{no_row, row_of, no_filter, filter_of, rows_first, row_set, row_dropped, filters_first, filter_set, filter_dropped}
+use Rattle.so_history.specs.declared.entry.Entry.{Entry}
+use Rattle.so_history.specs.declared.entry.EntryKind.{EntryKind}
+use Rattle.so_history.specs.declared.entry.EntryKind.TheVariants.{Register, Act, Left}
+use Rattle.so_history.specs.Places.{entry_at, beginner_at}
+use Rattle.so_history.specs.Coops.{the_coop, present}
+use Rattle.so_history.specs.Delivery.{registered, is_of, is_turn_of, no_rows, rows_by, rows_by_effect, active_rows, filters_by, filters_by_effect, active_filters}
+use Rattle.so_history.specs.Steps.{yes_where, may_subscribe, is_active}
+use Rattle.so_mbox.specs.Table.{Subscriptions, nobody, none_active, all_none, all_filters_first, is_other, same_agent, after_enter, after_leave, after_subscribe, after_unsubscribe, after_set_filter, after_drop_filter}
+use Rattle.so_mbox.specs.Answers.{subscribe_answer}
+use Rattle.so_kernel.specs.Tables.{rows_after, filters_after, subscriptions_of, entered, departed, subscribed}
+
+-- ---- the one cooperation
+
+record OneCoop (s : SceneParts) : Type 0 where
+  first : (coop_of s the_coop).first.0 ≡ 0
+  count : (coop_of s the_coop).count ≡ length s.agents
+
+the_one : (s : SceneParts) → IsScene s → OneCoop s
+the_one s scene =
+    let coop : IsCoop s (coop_of s the_coop) = scene.coops 0 no_coop (omega (arith, scene.one_coop)) in
+    record { first = coop.first; count = coop.count }
+
+abbrev all_from : ℕ → List AgentId
+all_from n = agents_from (record { 0 = 0 }) n
+
+pub all_agents : (s : SceneParts) → IsScene s → agents_of s the_coop ≡ all_from (length s.agents)
+all_agents s scene =
+    let one = the_one s scene in
+    ap (λ n. agents_from (record { 0 = n }) (coop_of s the_coop).count) one.first ∙ ap (agents_from (record { 0 = 0 })) one.count
+
+zero_add : (n : ℕ) → 0 + n ≡ n
+zero_add n = omega arith
+
+last_agent : (n : ℕ) → all_from (suc n) ≡ all_from n ++ record { 0 = n } ∷ []
+unfolding each_below
+last_agent n = ap (λ m. all_from n ++ record { 0 = m } ∷ []) (zero_add n)
+
+-- ---- agents that enter one after the other
+
+pub entered-append : (xs ys : List AgentId) (t : Subscriptions) → entered (xs ++ ys) t ≡ entered ys (entered xs t)
+entered-append [] ys t = refl
+entered-append (x ∷ xs) ys t = entered-append xs ys (after_enter x t)
+
+pub scene-entered : (xs : List AgentId) (t : Subscriptions) → (entered xs t).scene ≡ t.scene
+scene-entered [] t = refl
+scene-entered (x ∷ xs) t = scene-entered xs (after_enter x t)
+
+pub order-entered : (xs : List AgentId) (t : Subscriptions) → (entered xs t).order ≡ t.order ++ xs
+order-entered [] t = sym (append-nil t.order)
+order-entered (x ∷ xs) t = order-entered xs (after_enter x t) ∙ append_assoc t.order (x ∷ []) xs
+
+-- what is written at each number below n, from the left on
+module _ (f : ℕ → List Bool) where
+  written : (xs : List (List Bool)) (n : ℕ) → List (List Bool)
+  written xs zero = xs
+  written xs (suc n) = set (written xs n) n (f n)
+
+  length-written : (xs : List (List Bool)) (n : ℕ) → length (written xs n) ≡ length xs
+  unfolding written
+  length-written xs zero = refl
+  length-written xs (suc n) = length-set (written xs n) n (f n) ∙ length-written xs n
+
+  take-written : (xs : List (List Bool)) (n : ℕ) → n ≤ length xs → take n (written xs n) ≡ each_below f n
+  unfolding written each_below
+  take-written xs zero l = refl
+  take-written xs (suc n) l =
+      let next : suc n ≡ n + 1 = omega arith in
+      ap (λ k. take k (set (written xs n) n (f n))) next
+      ∙ (take_more_set (written xs n) n (f n) (omega (arith, length-written xs n, l))
+      ∙ ap (λ ys. ys ++ f n ∷ []) (take-written xs n (omega (arith, l))))
+
+  all_written : (xs : List (List Bool)) (n : ℕ) → n ≡ length xs → written xs n ≡ each_below f n
+  all_written xs n l = sym (take_all n (written xs n) (omega (arith, length-written xs n, l))) ∙ take-written xs n (omega (arith, l))
+
+first_rows : SceneParts → ℕ → List Bool
+first_rows s k = rows_first (rows_of s (record { 0 = k }))
+
+first_filters : SceneParts → ℕ → List Bool
+first_filters s k = filters_first (filters_of s (record { 0 = k }))
+
+rows-entered : (t : Subscriptions) (n : ℕ) → (entered (all_from n) t).rows ≡ written (first_rows t.scene) t.rows n
+unfolding written each_below first_rows
+rows-entered t zero = refl
+rows-entered t (suc n) =
+    ap (λ xs. (entered xs t).rows) (last_agent n)
+    ∙ (ap (λ (u : Subscriptions). u.rows) (entered-append (all_from n) (record { 0 = n } ∷ []) t)
+    ∙ (ap (λ xs. set xs n (rows_first (rows_of (entered (all_from n) t).scene (record { 0 = n })))) (rows-entered t n)
+    ∙ ap (λ s. set (written (first_rows t.scene) t.rows n) n (rows_first (rows_of s (record { 0 = n })))) (scene-entered (all_from n) t)))
+
+filters-entered : (t : Subscriptions) (n : ℕ) → (entered (all_from n) t).filters ≡ written (first_filters t.scene) t.filters n
+unfolding written each_below first_filters
+filters-entered t zero = refl
+filters-entered t (suc n) =
+    ap (λ xs. (entered xs t).filters) (last_agent n)
+    ∙ (ap (λ (u : Subscriptions). u.filters) (entered-append (all_from n) (record { 0 = n } ∷ []) t)
+    ∙ (ap (λ xs. set xs n (filters_first (filters_of (entered (all_from n) t).scene (record { 0 = n })))) (filters-entered t n)
+    ∙ ap (λ s. set (written (first_filters t.scene) t.filters n) n (filters_first (filters_of s (record { 0 = n })))) (scene-entered (all_from n) t)))
+
+-- ---- agents that leave one after the other
+
+pub departed-append : (xs ys : List AgentId) (t : Subscriptions) → departed (xs ++ ys) t ≡ departed ys (departed xs t)
+departed-append [] ys t = refl
+departed-append (x ∷ xs) ys t = departed-append xs ys (after_leave x t)
+
+pub scene-departed : (xs : List AgentId) (t : Subscriptions) → (departed xs t).scene ≡ t.scene
+scene-departed [] t = refl
+scene-departed (x ∷ xs) t = scene-departed xs (after_leave x t)
+
+filters-departed : (xs : List AgentId) (t : Subscriptions) → (departed xs t).filters ≡ t.filters
+filters-departed [] t = refl
+filters-departed (x ∷ xs) t = filters-departed xs (after_leave x t)
+
+last_rows : SceneParts → ℕ → List Bool
+last_rows s k = none_active (rows_of s (record { 0 = k }))
+
+rows-departed : (t : Subscriptions) (n : ℕ) → (departed (all_from n) t).rows ≡ written (last_rows t.scene) t.rows n
+unfolding written each_below last_rows
+rows-departed t zero = refl
+rows-departed t (suc n) =
+    ap (λ xs. (departed xs t).rows) (last_agent n)
+    ∙ (ap (λ (u : Subscriptions). u.rows) (departed-append (all_from n) (record { 0 = n } ∷ []) t)
+    ∙ (ap (λ xs. set xs n (none_active (rows_of (departed (all_from n) t).scene (record { 0 = n })))) (rows-departed t n)
+    ∙ ap (λ s. set (written (last_rows t.scene) t.rows n) n (none_active (rows_of s (record { 0 = n })))) (scene-departed (all_from n) t)))
+
+-- those that are gone are in the order no more
+gone : List AgentId → List AgentId → List AgentId
+gone [] order = order
+gone (a ∷ agents) order = gone agents (filter (is_other a) order)
+
+order-departed : (xs : List AgentId) (t : Subscriptions) → (departed xs t).order ≡ gone xs t.order
+unfolding gone
+order-departed [] t = refl
+order-departed (x ∷ xs) t = order-departed xs (after_leave x t)
+
+gone-nil : (xs : List AgentId) → gone xs [] ≡ []
+unfolding gone
+gone-nil [] = refl
+gone-nil (x ∷ xs) = gone-nil xs
+
+gone_case : (x b : AgentId) (xs order : List AgentId) (same : Bool) → same_agent x b ≡ same → list_any (λ y. same_agent y b) (x ∷ xs) ≡ true → (list_any (λ y. same_agent y b) xs ≡ true → gone xs (b ∷ filter (is_other x) order) ≡ gone xs (filter (is_other x) order)) →
+    gone xs (cond (not same) (b ∷ filter (is_other x) order) (filter (is_other x) order)) ≡ gone xs (filter (is_other x) order)
+gone_case x b xs order true is among ih = refl
+gone_case x b xs order false is among ih = ih (rw is at among)
+
+gone-among : (xs order : List AgentId) (b : AgentId) → list_any (λ y. same_agent y b) xs ≡ true → gone xs (b ∷ order) ≡ gone xs order
+unfolding gone
+gone-among [] order b among = cc
+gone-among (x ∷ xs) order b among = gone_case x b xs order (same_agent x b) refl among (λ rest. gone-among xs (filter (is_other x) order) b rest)
+
+gone-all : (xs order : List AgentId) → AllByRecursion (λ b. list_any (λ y. same_agent y b) xs ≡ true) order → gone xs order ≡ []
+gone-all xs [] all = gone-nil xs
+gone-all xs (b ∷ order) all = gone-among xs order b all.0 ∙ gone-all xs order all.1
+
+or_right : (a b : Bool) → b ≡ true → cond a true b ≡ true
+or_right true b e = refl
+or_right false b e = e
+
+any-append_left : (p : AgentId → Bool) (xs ys : List AgentId) → list_any p xs ≡ true → list_any p (xs ++ ys) ≡ true
+any-append_left p [] ys e = cc
+any-append_left p (x ∷ xs) ys e =
+    elim (cases_Bool (p x)) [
+      | inl y ↦ rw y refl
+      | inr n ↦ (let rest : list_any p xs ≡ true = rw n at e in rw n (any-append_left p xs ys rest))
+    ]
+
+any-append_right : (p : AgentId → Bool) (xs ys : List AgentId) → list_any p ys ≡ true → list_any p (xs ++ ys) ≡ true
+any-append_right p [] ys e = e
+any-append_right p (x ∷ xs) ys e = rw (any-append_right p xs ys e) (or_right (p x) true refl)
+
+among_all : (n : ℕ) (b : AgentId) → b.0 < n → list_any (λ y. same_agent y b) (all_from n) ≡ true
+unfolding each_below
+among_all zero b l = absurd (omega arith)
+among_all (suc n) b l =
+    rw (last_agent n)
+    (elim (cases_lt b.0 n) [
+      | inl early ↦ any-append_left (λ y. same_agent y b) (all_from n) (record { 0 = n } ∷ []) (among_all n b early)
+      | inr last ↦
+          any-append_right (λ y. same_agent y b) (all_from n) (record { 0 = n } ∷ [])
+          (let here : (n == b.0) ≡ true = eq-eqb n b.0 (omega (arith, l, last)) in rw here refl)
+    ])
+
+all_below : (n : ℕ) → AllByRecursion (λ (b : AgentId). b.0 < n) (all_from n)
+all_below n = all-each_below (λ (b : AgentId). b.0 < n) (λ k. record { 0 = 0 + k }) n (λ i l. omega (arith, l))
+
+pub nobody_left : (n : ℕ) → gone (all_from n) (all_from n) ≡ []
+nobody_left n = gone-all (all_from n) (all_from n) (each-weaker (λ (b : AgentId). b.0 < n) (λ b. list_any (λ y. same_agent y b) (all_from n) ≡ true) (λ b l. among_all n b l) (all_from n) (all_below n))
+
+-- ---- the entries
+
+order-same : (s : SceneParts) (h : List Entry) (e : Entry) → present (e ∷ h) ≡ present h → registered s (e ∷ h) ≡ registered s h
+order-same s h e same = ap (λ b. cond b (agents_of s the_coop) []) same
+
+-- after an entry that changes no subscription
+pub mboxes-same : (s : SceneParts) (h : List Entry) (e : Entry) → present (e ∷ h) ≡ present h → ((a : AgentId) (rows : List Bool) → rows_by s h e.kind a rows ≡ rows) → ((a : AgentId) (filters : List Bool) → filters_by s h e.kind a filters ≡ filters) →
+    subscriptions_of s (e ∷ h) ≡ subscriptions_of s h
+unfolding active_rows active_filters
+mboxes-same s h e same quiet_rows quiet_filters =
+    let rows : each_below (rows_after s (e ∷ h)) (length s.agents) ≡ each_below (rows_after s h) (length s.agents) = each_below-same _ _ (length s.agents) (λ a _. quiet_rows (record { 0 = a }) _) in
+    let filters : each_below (filters_after s (e ∷ h)) (length s.agents) ≡ each_below (filters_after s h) (length s.agents) = each_below-same _ _ (length s.agents) (λ a _. quiet_filters (record { 0 = a }) _) in
+    rw (order-same s h e same, rows, filters) refl
+
+pub either_same : {X : Type 0} (b : Bool) (x : X) → cond b x x ≡ x
+either_same true x = refl
+either_same false x = refl
+
+its_coop : (s : SceneParts) (coop : CoopId) (k : ℕ) → IsScene s → coop ≡ the_coop → k < length s.agents → is_of s coop (record { 0 = k }) ≡ true
+its_coop s coop k scene one within = eq-eqb _ _ ((scene.agents k no_agent within).coop ∙ sym (ap (λ (c : CoopId). c.0) one))
+
+pub mboxes-registered : (s : SceneParts) (h : List Entry) (e : Entry) (coop : CoopId) → IsScene s → e.kind ≡ Register coop → coop ≡ the_coop → present h ≡ false → subscriptions_of s (e ∷ h) ≡ entered (agents_of s coop) (subscriptions_of s h)
+unfolding active_rows active_filters present first_rows first_filters
+mboxes-registered s h e coop scene is one absent =
+    let n = length s.agents in
+    let agents : agents_of s coop ≡ all_from n = ap (agents_of s) one ∙ all_agents s scene in
+    let rows : each_below (rows_after s (e ∷ h)) n ≡ each_below (first_rows s) n = each_below-same _ _ n (λ k l. rw (is, its_coop s coop k scene one l) refl) in
+    let filters : each_below (filters_after s (e ∷ h)) n ≡ each_below (first_filters s) n = each_below-same _ _ n (λ k l. rw (is, its_coop s coop k scene one l) refl) in
+    let new_rows : (entered (all_from n) (subscriptions_of s h)).rows ≡ each_below (first_rows s) n = rows-entered (subscriptions_of s h) n ∙ all_written (first_rows s) (subscriptions_of s h).rows n (sym (length-each_below (rows_after s h) n)) in
+    let new_filters : (entered (all_from n) (subscriptions_of s h)).filters ≡ each_below (first_filters s) n = filters-entered (subscriptions_of s h) n ∙ all_written (first_filters s) (subscriptions_of s h).filters n (sym (length-each_below (filters_after s h) n)) in
+    let nobody_yet : registered s h ≡ [] = rw absent refl in
+    let new_order : (entered (all_from n) (subscriptions_of s h)).order ≡ all_from n = order-entered (all_from n) (subscriptions_of s h) ∙ ap (λ o. o ++ all_from n) nobody_yet in
+    let order : registered s (e ∷ h) ≡ all_from n = rw is (all_agents s scene) in
+    let new_scene : (entered (all_from n) (subscriptions_of s h)).scene ≡ s = scene-entered (all_from n) (subscriptions_of s h) in
+    let parts : (t : Subscriptions) → t.scene ≡ s → t.order ≡ registered s (e ∷ h) → t.rows ≡ each_below (rows_after s (e ∷ h)) n → t.filters ≡ each_below (filters_after s (e ∷ h)) n → subscriptions_of s (e ∷ h) ≡ t =
+    λ t a b c d. rw (← a, ← b, ← c, ← d) refl in
+    parts (entered (all_from n) (subscriptions_of s h)) new_scene (new_order ∙ sym order) (new_rows ∙ sym rows) (new_filters ∙ sym filters)
+    ∙ ap (λ xs. entered xs (subscriptions_of s h)) (sym agents)
