@@ -5,4 +5,5 @@ pub mod Faults
 pub mod Lanes
 pub mod Names
 pub mod Parts
+pub mod Subscriptions
 pub mod Words
