@@ -116,7 +116,7 @@ impl SceneParts {
     }
 
     /// Tells whether a type of messages is a signal.
-    fn is_signal(&self, msg: MsgId) -> bool
+    pub fn is_signal(&self, msg: MsgId) -> bool
         ensures { result ≡ (message_of self.now msg).signal }
     {
         match self.messages.as_slice().get(msg.0 as usize) {

@@ -1,0 +1,143 @@
+//! Which rows, or which filters, of an agent are active.
+
+ghost use Rattle.std.specs.Prelude.{◌≡◌, ◌<◌, ◌^◌, length, replicate, slice_set, slice_get, Some, false, IfOk};
+ghost use Rattle.so_scene.specs.Delivery.{is_filter_for};
+ghost use Rattle.so_scene.specs.Subscriptions.{rows_first, stays_beside, beside, filter_at, filter_set, filter_taken, filters_taken, filters_first};
+
+use so_ids::NoMemory;
+use so_scene::FilterDef;
+use so_state::Row;
+use std::alloc::Global;
+use std::marker::Model;
+
+/// A flag for each row, or each filter, of an agent: whether it is active.
+#[derive(Debug, Drop)]
+pub(crate) struct Flags {
+    flags: Vec<bool>,
+}
+
+impl Model for Flags {
+    ghost use Rattle.std.specs.Prelude.{List, Bool};
+
+    ghost Value = { List Bool };
+
+    ghost view = { λ all. all.flags.items };
+}
+
+impl Flags {
+    /// So many that aren't active.
+    pub(crate) fn with(alloc: Global, count: usize) -> Result<Flags, NoMemory>
+        ensures { IfOk result (λ all. all ≡ replicate count false) }
+    {
+        let Ok(flags) = Vec::from_elem(alloc, false, count) else {
+            return Err(NoMemory);
+        };
+        Ok(Flags { flags })
+    }
+
+    /// All of them.
+    pub(crate) fn as_slice(&self) -> &[bool]
+        ensures { result.now ≡ self.now }
+    {
+        self.flags.as_slice()
+    }
+
+    /// Makes one active, or not.
+    pub(crate) fn put(&mut self, k: usize, on: bool)
+        requires { k < length self.old }
+        ensures { self.new ≡ slice_set self.old k on }
+    {
+        self.flags[k] = on;
+    }
+
+    /// Makes none active.
+    pub(crate) fn clear(&mut self)
+        ensures { self.new ≡ replicate (length self.old) false }
+    {
+        self.flags.fill(false);
+    }
+
+    /// As the rows are at the registration.
+    pub(crate) fn put_rows_first(&mut self, rows: &[Row])
+        requires { length self.old ≡ length rows.now }
+        ensures { self.new ≡ rows_first rows.now }
+    {
+        put_rows_first(&mut self.flags, rows);
+    }
+
+    /// As the filters are at the registration.
+    pub(crate) fn put_filters_first(&mut self, filters: &[FilterDef])
+        requires { length self.old ≡ length filters.now }
+        ensures { self.new ≡ filters_first filters.now }
+    {
+        self.clear();
+        take_filters(&mut self.flags, filters);
+    }
+
+    /// Sets a filter, which replaces the one of the same mbox and type.
+    pub(crate) fn set_filter(&mut self, filters: &[FilterDef], k: usize)
+        requires within { k < length filters.now }
+        requires same { length self.old ≡ length filters.now }
+        ensures { self.new ≡ filter_set filters.now k self.old }
+    {
+        set_filter(&mut self.flags, filters, k);
+    }
+}
+
+fn put_rows_first(flags: &mut [bool], rows: &[Row])
+    requires { length flags.old ≡ length rows.now }
+    ensures { flags.new ≡ rows_first rows.now }
+{
+    for k in 0..rows.len() {
+        flags[k] = rows[k].active;
+    }
+}
+
+/// Sets the filters that are active from the start, in order.
+fn take_filters(flags: &mut [bool], filters: &[FilterDef])
+    requires same { length flags.old ≡ length filters.now }
+    requires none { flags.old ≡ replicate (length filters.now) false }
+    ensures { flags.new ≡ filters_first filters.now }
+{
+    for k in 0..filters.len() {
+        take_filter(flags, filters, k);
+    }
+}
+
+/// Sets a filter where it is active from the start.
+fn take_filter(flags: &mut [bool], filters: &[FilterDef], k: usize)
+    requires within { k < length filters.now }
+    requires same { length flags.old ≡ length filters.now }
+    ensures { flags.new ≡ filter_taken filters.now k flags.old }
+{
+    if filters[k].active {
+        set_filter(flags, filters, k);
+    }
+}
+
+/// Sets a filter, which replaces the one of the same mbox and type.
+fn set_filter(flags: &mut [bool], filters: &[FilterDef], k: usize)
+    requires within { k < length filters.now }
+    requires same { length flags.old ≡ length filters.now }
+    ensures { flags.new ≡ filter_set filters.now k flags.old }
+{
+    drop_replaced(flags, filters, &filters[k]);
+    flags[k] = true;
+}
+
+/// Leaves the filters active that are for other messages.
+fn drop_replaced(flags: &mut [bool], filters: &[FilterDef], new: &FilterDef)
+    requires { length flags.old ≡ length filters.now }
+    ensures { flags.new ≡ beside filters.now new.now flags.old }
+{
+    for k in 0..filters.len() {
+        flags[k] = stays_beside(new, &filters[k], flags[k]);
+    }
+}
+
+/// Tells whether the other filter, active or not, is active and stays so beside the new one.
+fn stays_beside(new: &FilterDef, other: &FilterDef, active: bool) -> bool
+    ensures { result ≡ stays_beside new.now (other.now, active) }
+{
+    active && !(other.mbox == new.mbox && other.msg == new.msg)
+}
