@@ -240,7 +240,7 @@ present_tried_by (Skip lane demand why) p t e f = f e
 present_tried_by (Stop cause) p t e f = f e
 present_tried_by (Abort cause) p t e f = f e
 
-present_tried : (h : List Entry) → present h ≡ true → tried h ≡ true
+pub present_tried : (h : List Entry) → present h ≡ true → tried h ≡ true
 unfolding present tried
 present_tried [] p = absurd cc
 present_tried (e ∷ h) p = present_tried_by e.kind (present h) (tried h) p (present_tried h)

@@ -15,13 +15,19 @@ use Rattle.so_ids.specs.declared.Chosen.TheVariants as chosen
 use Rattle.so_ids.specs.declared.Opening.{Opening}
 use Rattle.so_ids.specs.declared.Opening.TheVariants as opening
 use Rattle.so_code.proofs.Moves.{is_running}
-use Rattle.so_scene.specs.Parts.{code_of, IsScene}
+use Rattle.so_scene.specs.Parts.{code_of}
+use Rattle.so_scene.specs.Checked.{IsScene}
 use Rattle.so_history.specs.Turns.{move_of}
 use Rattle.so_history.specs.Steps.{NamesEffect, answer_of, Legal}
 use Rattle.so_history.proofs.SoundLaws.{IsSound, agent_code, moved_waits, moved_frame, names_parts, answer_fits, course_sound}
 use Rattle.so_kernel.specs.declared.answers.Turn.{Turn}
 use Rattle.so_kernel.specs.Shapes.{Core}
-use Rattle.so_kernel.specs.Gates.{HasMoved, answer_for}
+use Rattle.so_ids.specs.declared.AgentId.{AgentId}
+use Rattle.so_history.specs.declared.entry.EntryKind.TheVariants.{Act}
+use Rattle.so_history.proofs.TurnLaws.{turn_looked_up}
+use Rattle.so_history.proofs.TextLaws.{beginner_of}
+use Rattle.so_kernel.specs.Gates.{HasMoved, IsActOf, act_entry, answer_for}
+use Rattle.so_kernel.proofs.HeldLaws.{held_whose}
 
 module _ (k : Core) (t : Turn) (m : Move) (scene : IsScene k.scene) (legal : Legal k.scene k.history) (moved : HasMoved k.scene k.history t m) where
   pub sound_before : IsSound k.scene (record { agent = t.agent; frame = moved.before })
@@ -37,21 +43,31 @@ module _ (k : Core) (t : Turn) (m : Move) (scene : IsScene k.scene) (legal : Leg
   moved_is_frame = subst (IsFrame (code_of k.scene t.agent)) frame_is (moved_frame k.scene scene _ sound_before)
 
 module _ (k : Core) (t : Turn) (e : Effect) where
-  pub moved_named : IsScene k.scene → Legal k.scene k.history → HasMoved k.scene k.history t (Do e) → NamesEffect k.scene e
+  pub moved_named : IsScene k.scene → Legal k.scene k.history → HasMoved k.scene k.history t (Do e) → NamesEffect k.scene t.agent e
   moved_named scene legal moved = names_parts k.scene scene _ (sound_before k t (Do e) scene legal moved) e (does k t (Do e) scene legal moved)
 
   pub moved_running : IsScene k.scene → Legal k.scene k.history → HasMoved k.scene k.history t (Do e) → IsRunning t.frame
   moved_running scene legal moved =
       is_running (code_of k.scene t.agent) (agent_code k.scene t.agent scene (sound_before k t (Do e) scene legal moved).known) t.frame (moved_is_frame k t (Do e) scene legal moved)
 
-pub moved_fits : (k : Core) (t : Turn) (e : Effect) (a : Answer) → IsScene k.scene → Legal k.scene k.history → HasMoved k.scene k.history t (Do e) → answer_of k.scene k.history e ≡ Some a → IsAnswerTo t.frame.todo a
+pub moved_fits : (k : Core) (t : Turn) (e : Effect) (a : Answer) → IsScene k.scene → Legal k.scene k.history → HasMoved k.scene k.history t (Do e) → answer_of k.scene k.history t.agent e ≡ Some a → IsAnswerTo t.frame.todo a
 moved_fits k t e a scene legal moved answers =
     let waits = moved_waits k.scene scene _ (sound_before k t (Do e) scene legal moved) e (does k t (Do e) scene legal moved) in
     let todo_is : t.frame.todo ≡ todo.Wait e = ap (λ (f : Frame). f.todo) (sym (frame_is k t (Do e) scene legal moved)) ∙ waits in
-    subst (λ x. IsAnswerTo x a) (sym todo_is) (answer_fits k.scene k.history e a answers)
+    subst (λ x. IsAnswerTo x a) (sym todo_is) (answer_fits k.scene k.history t.agent e a answers)
 
-pub answer_is : (k : Core) (e : Effect) (a : Answer) → answer_of k.scene k.history e ≡ Some a → answer_for k e ≡ a
-answer_is k e a answers = rw answers refl
+pub answer_is : (k : Core) (agent : AgentId) (e : Effect) (a : Answer) → answer_of k.scene k.history agent e ≡ Some a → answer_for k agent e ≡ a
+answer_is k agent e a answers = rw answers refl
+
+-- the entry of an act is one of its turn's agent
+pub acts_for_agent : (k : Core) (t : Turn) (e : Effect) (a : Answer) → HasMoved k.scene k.history t (Do e) → answer_of k.scene k.history t.agent e ≡ Some a → IsActOf k.scene k.history (act_entry k t e) t.agent e
+acts_for_agent k t e a moved answers = record {
+  turn = t.begun;
+  answer = a;
+  is = ap (Act t.begun e) (answer_is k t.agent e a answers);
+  whose = beginner_of k.history t.begun.0 moved.held.turn (turn_looked_up k.history t.begun.0 moved.held.turn moved.held.runs) ∙ held_whose k.scene k.history _ moved.held;
+  answers = answers;
+}
 
 -- an opening that begins with acts
 fits_event : (c : Chosen) → opens_acts (opening.Event c) ≡ true → FitsOpening (opening.Event c)

@@ -1,13 +1,16 @@
 -- What is asked of one agent more.
-use Rattle.std.proofs.Common.{◌≡◌, ℕ, suc, ◌+◌, List, [], ◌∷◌, ◌++◌, length, arith, refl, sym, ◌∙◌, ap, add-one, append_assoc}
-use Rattle.std.proofs.lemmas.List.{map-append, append-nil}
+use Rattle.std.proofs.Common.{◌≡◌, ℕ, zero, suc, ◌+◌, List, [], ◌∷◌, ◌++◌, length, map, take, Some, arith, refl, sym, ◌∙◌, ap, add-one, append_assoc}
+use Rattle.std.proofs.lemmas.List.{map-append, length-map, append-nil}
+use Rattle.std.proofs.lemmas.Option.{same_Some}
+use Rattle.std.specs.Prelude.{slice_get}
+use Rattle.so_ids.specs.declared.Queued.{Queued}
 use Rattle.so_ids.specs.declared.AgentId.{AgentId}
 use Rattle.so_lists.specs.Lists.{each_below}
 use Rattle.so_scene.specs.Parts.{agents_from}
 use Rattle.so_lists.proofs.EachBelow.{length-each_below}
 use Rattle.so_history.specs.declared.entry.Demand.{Demand}
 use Rattle.so_history.specs.declared.entry.DemandKind.{DemandKind}
-use Rattle.so_history.specs.Demands.{ask_each, demands_from}
+use Rattle.so_history.specs.Demands.{ask, ask_each, demand_of, demands_from}
 use Rattle.so_history.proofs.NameLaws.{demands_from-append, length-demands_from}
 
 each_below-next : (f : ℕ → AgentId) (k : ℕ) → each_below f (k + 1) ≡ each_below f k ++ f k ∷ []
@@ -47,3 +50,29 @@ unfolding each_below
 queue_none queue place kind first = append-nil queue
 
 pub ruleset asked = (length-asked_from)
+
+take_next : (xs : List Queued) (k : ℕ) (x : Queued) → slice_get xs k ≡ Some x → take (k + 1) xs ≡ take k xs ++ x ∷ []
+take_next [] k x here = absurd cc
+take_next (y ∷ xs) zero x here = ap (λ z. z ∷ []) (same_Some y x here)
+take_next (y ∷ xs) (suc k) x here =
+    let next : suc k + 1 ≡ suc (k + 1) = omega arith in
+    ap (λ n. take n (y ∷ xs)) next ∙ ap (λ ys. y ∷ ys) (take_next xs k x here)
+
+length_taken : (xs : List Queued) (k : ℕ) (x : Queued) → slice_get xs k ≡ Some x → length (take k xs) ≡ k
+length_taken [] k x here = absurd cc
+length_taken (y ∷ xs) zero x here = refl
+length_taken (y ∷ xs) (suc k) x here = ap suc (length_taken xs k x here)
+
+-- the waiting demands while the events of a delivery are queued
+pub events_next : (queue : List Demand) (place : ℕ) (events : List Queued) (k : ℕ) (q : Queued) → slice_get events k ≡ Some q →
+    (queue ++ demands_from place 0 (map ask (take k events))) ++ demand_of place k (ask q) ∷ [] ≡ queue ++ demands_from place 0 (map ask (take (k + 1) events))
+events_next queue place events k q here =
+    let one : take (k + 1) events ≡ take k events ++ q ∷ [] = take_next events k q here in
+    let n : 0 + length (map ask (take k events)) ≡ k = omega (arith, length-map (take k events) ask, length_taken events k q here) in
+    append_assoc queue _ _
+    ∙ ap (λ ds. queue ++ ds)
+    (sym
+    (ap (λ xs. demands_from place 0 (map ask xs)) one
+    ∙ (ap (demands_from place 0) (map-append ask (take k events) (q ∷ []))
+    ∙ (demands_from-append place 0 (map ask (take k events)) (map ask (q ∷ []))
+    ∙ ap (λ m. demands_from place 0 (map ask (take k events)) ++ demands_from place m (map ask (q ∷ []))) n))))

@@ -5,7 +5,7 @@ use Rattle.so_lists.proofs.First.{first_below-from}
 use Rattle.so_history.specs.declared.entry.Entry.{Entry}
 use Rattle.so_history.specs.Units.{fits}
 use Rattle.so_history.specs.declared.entry.EntryKind.{EntryKind}
-use Rattle.so_history.specs.declared.entry.EntryKind.TheVariants.{Register, Begin, Act, End, Leaving, Left, Stop, Abort}
+use Rattle.so_history.specs.declared.entry.EntryKind.TheVariants.{Register, Begin, Skip, Act, End, Leaving, Left, Stop, Abort}
 use Rattle.so_history.specs.Steps.{is_over}
 use Rattle.so_history.proofs.ChainLaws.{IsTidying}
 use Rattle.so_history.specs.Chain.{first, fitting, next_entry}
@@ -53,6 +53,7 @@ added_something (Act turn effect answer) h = cc
 added_something (End turn) h = cc
 added_something (Leaving coop reason) h = cc
 added_something (Left coop) h = cc
+added_something (Skip lane demand why) h = cc
 added_something (Stop cause) h = cc
 
 failed_fits : (e : Entry) (t u : Turn) (b : Bool) → failed (cond b (Ok e) (Err Full)) t ≡ ended_answer.Full u → stepped_answer.Full ≡ stepped (cond b (Ok e) (Err Full))
@@ -81,6 +82,7 @@ act_over k e h = acted_over (gated k (Some e)) h
 pub added_tidied : (kind : EntryKind) → IsTidying kind → stepped_answer.Added ≡ added kind
 added_tidied (Leaving coop reason) t = refl
 added_tidied (Left coop) t = refl
+added_tidied (Skip lane demand why) t = absurd t
 added_tidied (Stop cause) t = refl
 added_tidied (Abort cause) t = absurd t
 added_tidied (Register coop) t = absurd t
@@ -181,6 +183,7 @@ one_entry (Act turn effect answer) = refl
 one_entry (End turn) = refl
 one_entry (Leaving coop reason) = refl
 one_entry (Left coop) = refl
+one_entry (Skip lane demand why) = refl
 one_entry (Stop cause) = refl
 
 pub counted : (k : Core) (g : Result Entry Refused) → length (core_after k g).history ≡ length k.history + entries (stepped g)

@@ -20,16 +20,18 @@ use Rattle.so_code.specs.Openings.{begun}
 use Rattle.so_code.specs.Answers.{answered}
 use Rattle.so_code.specs.declared.effect.FailKind.{FailKind}
 use Rattle.so_scene.specs.declared.parts.SceneParts.{SceneParts}
-use Rattle.so_scene.specs.Parts.{IsScene}
+use Rattle.so_scene.specs.Checked.{IsScene}
 use Rattle.so_scene.specs.Lanes.{lanes}
 use Rattle.so_history.specs.declared.entry.Entry.{Entry}
 use Rattle.so_history.specs.declared.entry.EntryKind.{EntryKind}
-use Rattle.so_history.specs.declared.entry.EntryKind.TheVariants.{Register, Begin, Act, End, Leaving, Left, Stop, Abort}
+use Rattle.so_history.specs.declared.entry.EntryKind.TheVariants.{Register, Begin, Skip, Act, End, Leaving, Left, Stop, Abort}
 use Rattle.so_history.specs.declared.entry.Demand.{Demand}
+use Rattle.so_history.specs.declared.entry.SkipWhy.{SkipWhy}
+use Rattle.so_ids.specs.declared.Opening.{Opening}
 use Rattle.so_history.specs.Turns.{Started, Course, vars, ends, running_at, running_on, lane_number, turn_at, move_of, answer_to, course}
 use Rattle.so_history.specs.Coops.{aborted}
 use Rattle.so_history.specs.Demands.{message_of}
-use Rattle.so_history.specs.Order.{pick, opening_of, taking}
+use Rattle.so_history.specs.Order.{pick, opening_of, skipped, taking_as, taking}
 use Rattle.so_history.specs.Steps.{finished, answer_of, Legal}
 use Rattle.so_history.specs.Chain.{registration, tidying, turn_on, turn_entry, lane_entry, first}
 use Rattle.so_history.proofs.TurnLaws.{running_at-begun, running_at-same, running_at-ended, alone, turn_found, turn-begun, turn-spared, turn_of, turn_looked_up, turn_agent, lanes_free}
@@ -43,12 +45,13 @@ use Rattle.so_kernel.specs.declared.answers.Stepped.TheVariants as stepped_answe
 use Rattle.so_kernel.specs.declared.answers.Ended.TheVariants as ended_answer
 use Rattle.so_kernel.specs.declared.answers.Begun.TheVariants as begun_answer
 use Rattle.so_kernel.specs.Shapes.{Core}
-use Rattle.so_kernel.specs.Gates.{IsHeld, HasMoved, IsBegun, gated, gated_entry, core_after, begin_by, answer_for, act_entry, end_entry, fail_entry, acted, ended, failed, added, stepped, turn_after}
+use Rattle.so_kernel.specs.Gates.{is_skip, IsHeld, HasMoved, IsBegun, gated, gated_entry, core_after, begin_by, answer_for, act_entry, end_entry, fail_entry, acted, ended, failed, added, stepped, turn_after}
 use Rattle.so_kernel.specs.Held.{IsLaneHeld, AreHeld, turn_move, Moves}
 use Rattle.so_kernel.proofs.KeptLaws.{gated_next}
+use Rattle.so_kernel.proofs.TableLaws.{begins_turn}
 
 -- the turn that a Begin hands out is held
-pub held_begun : (s : SceneParts) (h : List Entry) (e : Entry) (lane : LaneId) (d : Demand) → Legal s h → e.kind ≡ taking s h lane d →
+pub held_begun : (s : SceneParts) (h : List Entry) (e : Entry) (lane : LaneId) (d : Demand) → Legal s h → e.kind ≡ Begin lane (Some d.id) (opening_of s h d) d.agent →
     IsHeld s (e ∷ h) (record { begun = record { 0 = length h }; by = e.by; lane = lane; agent = d.agent; frame = begun (opening_of s h d) (vars s h d.agent) (message_of s h (Some d.id)) })
 held_begun s h e lane d legal is =
     record {
@@ -61,18 +64,18 @@ held_begun s h e lane d legal is =
 
 -- and so is the turn after its act
 pub held_acted : (k : Core) (t : Turn) (effect : Effect) → Legal k.scene k.history → HasMoved k.scene k.history t (Do effect) →
-    IsHeld k.scene (act_entry k t effect ∷ k.history) (record t { frame = answered (answer_for k effect) t.frame })
+    IsHeld k.scene (act_entry k t effect ∷ k.history) (record t { frame = answered (answer_for k t.agent effect) t.frame })
 held_acted k t effect legal moved =
     let c : Course = record { agent = t.agent; frame = moved.before } in
     let frame : (move_of k.scene c).1 ≡ t.frame = ap (λ (p : Move × Frame). p.1) moved.moves in
-    let after_it : answer_to k.scene (answer_for k effect) c ≡ record { agent = t.agent; frame = answered (answer_for k effect) t.frame } =
-    ap (λ (f : Frame). record { agent = t.agent; frame = answered (answer_for k effect) f }) frame in
+    let after_it : answer_to k.scene (answer_for k t.agent effect) c ≡ record { agent = t.agent; frame = answered (answer_for k t.agent effect) t.frame } =
+    ap (λ (f : Frame). record { agent = t.agent; frame = answered (answer_for k t.agent effect) f }) frame in
     record {
       turn = moved.held.turn;
       runs = turn-spared k.scene k.history (act_entry k t effect) t.begun.0 moved.held.turn legal refl moved.held.runs;
       by = moved.held.by;
       lane = moved.held.lane;
-      course = course-acted k.scene k.history t.by t.begun.0 effect (answer_for k effect) c moved.held.course ∙ ap Some after_it;
+      course = course-acted k.scene k.history t.by t.begun.0 effect (answer_for k t.agent effect) c moved.held.course ∙ ap Some after_it;
     }
 
 -- an entry has nothing to do with a lane's turn
@@ -113,6 +116,7 @@ lane_spared s h by (Register coop) j None legal going spares free = λ _. rw (ru
 lane_spared s h by (Act turn effect answer) j None legal going spares free = λ _. rw (running_at-same lane_number s h (record { by = by; kind = Act turn effect answer }) j legal refl (λ t. refl)) (free going)
 lane_spared s h by (Leaving coop reason) j None legal going spares free = λ _. rw (running_at-same lane_number s h (record { by = by; kind = Leaving coop reason }) j legal refl (λ t. refl)) (free going)
 lane_spared s h by (Left coop) j None legal going spares free = λ _. rw (running_at-same lane_number s h (record { by = by; kind = Left coop }) j legal refl (λ t. refl)) (free going)
+lane_spared s h by (Skip lane demand why) j None legal going spares free = λ _. rw (running_at-same lane_number s h (record { by = by; kind = Skip lane demand why }) j legal refl (λ t. refl)) (free going)
 lane_spared s h by (Stop cause) j None legal going spares free = λ _. rw (running_at-same lane_number s h (record { by = by; kind = Stop cause }) j legal refl (λ t. refl)) (free going)
 lane_spared s h by (Abort cause) j None legal going spares free = λ e. absurd cc
 lane_spared s h by (Begin lane demand opening agent) j (Some t) legal going spares held = (spared s h (record { by = by; kind = Begin lane demand opening agent }) t legal held.0 refl refl, held.1)
@@ -121,6 +125,7 @@ lane_spared s h by (Act turn effect answer) j (Some t) legal going spares held =
 lane_spared s h by (Register coop) j (Some t) legal going spares held = (spared s h (record { by = by; kind = Register coop }) t legal held.0 refl refl, held.1)
 lane_spared s h by (Leaving coop reason) j (Some t) legal going spares held = (spared s h (record { by = by; kind = Leaving coop reason }) t legal held.0 refl refl, held.1)
 lane_spared s h by (Left coop) j (Some t) legal going spares held = (spared s h (record { by = by; kind = Left coop }) t legal held.0 refl refl, held.1)
+lane_spared s h by (Skip lane demand why) j (Some t) legal going spares held = (spared s h (record { by = by; kind = Skip lane demand why }) t legal held.0 refl refl, held.1)
 lane_spared s h by (Stop cause) j (Some t) legal going spares held = (spared s h (record { by = by; kind = Stop cause }) t legal held.0 refl refl, held.1)
 lane_spared s h by (Abort cause) j (Some t) legal going spares held = (spared s h (record { by = by; kind = Abort cause }) t legal held.0 refl refl, held.1)
 
@@ -181,6 +186,7 @@ main_spared k (Err Over) ts legal going spares held = held
 tidied_spares : (h : List Entry) (kind : EntryKind) (j : ℕ) → IsTidying kind → Spares h kind j
 tidied_spares h (Leaving coop reason) j t = tt
 tidied_spares h (Left coop) j t = tt
+tidied_spares h (Skip lane demand why) j t = absurd t
 tidied_spares h (Stop cause) j t = tt
 tidied_spares h (Abort cause) j t = absurd t
 tidied_spares h (Register coop) j t = absurd t
@@ -316,7 +322,7 @@ pub fail_added : (k : Core) (t : Turn) (kind : FailKind) → failed (gated k (So
 fail_added k t kind h = sym (ap stepped (failed_ok k t kind (sym h)))
 
 -- the entry of a turn's move
-pub move_is_act : (k : Core) (t : Turn) (before : Frame) (effect : Effect) (a : Answer) → Moves k t before (Do effect) → answer_of k.scene k.history effect ≡ Some a →
+pub move_is_act : (k : Core) (t : Turn) (before : Frame) (effect : Effect) (a : Answer) → Moves k t before (Do effect) → answer_of k.scene k.history t.agent effect ≡ Some a →
     turn_move k.scene k.history (record t { frame = before }) ≡ Some (act_entry k t effect)
 move_is_act k t before effect a moves answers = rw (moves, answers) refl
 
@@ -369,8 +375,8 @@ failed_over (Err Full) t u is = cc
 failed_over (Err Over) t u is = cc
 
 -- a turn that begins
-begun_parts : (l : Core) (by : PartyId) (lane : LaneId) (g : Result Entry Refused) (t : Turn) → IsBegun l by lane g (begun_answer.Turn t) → (e : Entry) × (g ≡ Ok e) × IsHeld l.scene l.history t × (t.lane ≡ lane)
-begun_parts l by lane (Ok e) t b = (e, refl, b.0, b.2)
+begun_parts : (l : Core) (by : PartyId) (lane : LaneId) (g : Result Entry Refused) (t : Turn) → IsBegun l by lane g (begun_answer.Turn t) → (e : Entry) × (g ≡ Ok e) × IsHeld l.scene l.history t × (t.lane ≡ lane) × (is_skip e.kind ≡ false)
+begun_parts l by lane (Ok e) t b = (e, refl, b.1, b.3, b.0)
 begun_parts l by lane (Err Nothing) t b = cc
 begun_parts l by lane (Err Full) t b = cc
 begun_parts l by lane (Err Over) t b = cc
@@ -379,7 +385,10 @@ picked_entry : (s : SceneParts) (g : List Entry) (by : PartyId) (lane : LaneId) 
 picked_entry s g by lane None e h = cc
 picked_entry s g by lane (Some d) e h = (d, ap (λ (o : Option Entry). elim o [ None ↦ taking s g lane d | Some x ↦ x.kind ]) (sym h))
 
-held_begun_on : (k : Core) (ts : List (Option Turn)) (lane : LaneId) (e : Entry) (d : Demand) (t : Turn) → Legal k.scene k.history → aborted k.history ≡ false → lane.0 < lanes k.scene → e.kind ≡ taking k.scene k.history lane d →
+begins_entry : (s : SceneParts) (h : List Entry) (lane : LaneId) (e : Entry) (d : Demand) → e.kind ≡ taking s h lane d → is_skip e.kind ≡ false → e.kind ≡ Begin lane (Some d.id) (opening_of s h d) d.agent
+begins_entry s h lane e d is begins = is ∙ begins_turn s h lane d (sym (ap is_skip is) ∙ begins)
+
+held_begun_on : (k : Core) (ts : List (Option Turn)) (lane : LaneId) (e : Entry) (d : Demand) (t : Turn) → Legal k.scene k.history → aborted k.history ≡ false → lane.0 < lanes k.scene → e.kind ≡ Begin lane (Some d.id) (opening_of k.scene k.history d) d.agent →
     AreHeld k ts → IsHeld k.scene (e ∷ k.history) t → t.lane.0 ≡ lane.0 → AreHeld (record k { history = e ∷ k.history }) (slice_set ts lane.0 (Some t))
 held_begun_on k ts lane e d t legal going in_range is held theld on =
     held_set k e ts lane.0 (Some t) legal going in_range
@@ -394,18 +403,56 @@ held_began k l ts by lane t legal in_range held b after =
     let l_is : l ≡ record k { history = p.0 ∷ k.history } = after ∙ ap (core_after k) p.1 in
     let P : Core → Type 0 = λ x. IsHeld x.scene x.history t in
     let Q : Core → Type 0 = λ x. AreHeld x (slice_set ts lane.0 (Some t)) in
-    subst Q (sym l_is) (held_begun_on k ts lane p.0 d.0 t legal (ok_going k (begin_by k by lane) p.0 p.1) in_range d.1 held (subst P l_is p.2) (ap (λ (x : LaneId). x.0) p.3))
+    subst Q (sym l_is) (held_begun_on k ts lane p.0 d.0 t legal (ok_going k (begin_by k by lane) p.0 p.1) in_range (begins_entry k.scene k.history lane p.0 d.0 d.1 p.4) held (subst P l_is p.2) (ap (λ (x : LaneId). x.0) p.3))
 
 -- the turn at a place, looked up by that place
 looked_up : (h : List Entry) (place : ℕ) (t : Started) → turn_at h place ≡ Some t → turn_of h t.place ≡ Some t
 looked_up h place t runs = ap (turn_of h) (turn_found h place t runs).0 ∙ turn_looked_up h place t runs
 
 -- the answer of a step that began a turn
+added_taking : (kind : EntryKind) (lane : LaneId) (d : Demand) (o : Opening) (w : Option SkipWhy) → kind ≡ taking_as lane d o w → stepped_answer.Added ≡ added kind
+added_taking kind lane d o None is = ap added (sym is)
+added_taking kind lane d o (Some why) is = ap added (sym is)
+
+taking_added : (k : Core) (by : PartyId) (lane : LaneId) (e : Entry) → gated k (begin_by k by lane) ≡ Ok e → stepped_answer.Added ≡ stepped (gated k (begin_by k by lane))
+taking_added k by lane e g =
+    let d = picked_entry k.scene k.history by lane (pick k.scene k.history lane) e (gated_next k (begin_by k by lane) e g) in
+    added_taking e.kind lane d.0 (opening_of k.scene k.history d.0) (skipped (opening_of k.scene k.history d.0)) d.1 ∙ ap stepped (sym g)
+
 pub begun_added : (k l : Core) (by : PartyId) (lane : LaneId) (t : Turn) → IsBegun l by lane (gated k (begin_by k by lane)) (begun_answer.Turn t) → stepped_answer.Added ≡ stepped (gated k (begin_by k by lane))
 begun_added k l by lane t b =
     let p = begun_parts l by lane (gated k (begin_by k by lane)) t b in
-    let d = picked_entry k.scene k.history by lane (pick k.scene k.history lane) p.0 (gated_next k (begin_by k by lane) p.0 p.1) in
-    ap added (sym d.1) ∙ ap stepped (sym p.1)
+    taking_added k by lane p.0 p.1
+
+-- a demand that was skipped
+skipped_parts : (l : Core) (by : PartyId) (lane : LaneId) (g : Result Entry Refused) → IsBegun l by lane g begun_answer.Skipped → (e : Entry) × (g ≡ Ok e) × (is_skip e.kind ≡ true)
+skipped_parts l by lane (Ok e) b = (e, refl, b)
+skipped_parts l by lane (Err Nothing) b = cc
+skipped_parts l by lane (Err Full) b = cc
+skipped_parts l by lane (Err Over) b = cc
+
+pub skip_added : (k l : Core) (by : PartyId) (lane : LaneId) → IsBegun l by lane (gated k (begin_by k by lane)) begun_answer.Skipped → stepped_answer.Added ≡ stepped (gated k (begin_by k by lane))
+skip_added k l by lane b =
+    let p = skipped_parts l by lane (gated k (begin_by k by lane)) b in
+    taking_added k by lane p.0 p.1
+
+skip_spares : (h : List Entry) (kind : EntryKind) (j : ℕ) → is_skip kind ≡ true → Spares h kind j
+skip_spares h (Skip lane demand why) j e = tt
+skip_spares h (Register coop) j e = cc
+skip_spares h (Begin lane demand opening agent) j e = cc
+skip_spares h (Act turn effect answer) j e = cc
+skip_spares h (End turn) j e = cc
+skip_spares h (Leaving coop reason) j e = cc
+skip_spares h (Left coop) j e = cc
+skip_spares h (Stop cause) j e = cc
+skip_spares h (Abort cause) j e = cc
+
+pub held_skipped : (k l : Core) (ts : List (Option Turn)) (by : PartyId) (lane : LaneId) → Legal k.scene k.history → AreHeld k ts → IsBegun l by lane (gated k (begin_by k by lane)) begun_answer.Skipped → l ≡ core_after k (gated k (begin_by k by lane)) → AreHeld l ts
+held_skipped k l ts by lane legal held b after =
+    let p = skipped_parts l by lane (gated k (begin_by k by lane)) b in
+    let l_is : l ≡ record k { history = p.0 ∷ k.history } = after ∙ ap (core_after k) p.1 in
+    let Q : Core → Type 0 = λ x. AreHeld x ts in
+    subst Q (sym l_is) (held_spared k p.0 ts legal (ok_going k (begin_by k by lane) p.0 p.1) (λ j. skip_spares k.history p.0.kind j p.2) held)
 
 -- the entry of a lane whose turn is in hand
 pub turn_move_is : (k : Core) (t : Turn) (lane : LaneId) → Legal k.scene k.history → IsHeld k.scene k.history t → t.lane.0 ≡ lane.0 →

@@ -1,19 +1,23 @@
 -- What the kernel keeps goes on after one more entry.
-use Rattle.std.proofs.Common.{◌≡◌, ℕ, ◌+◌, ◌<◌, ◌≤◌, List, ◌∷◌, length, Bool, true, false, Option, Some, None, Ok, Err, arith, refl, sym, ◌∙◌, ap, subst, cond}
-use Rattle.std.proofs.lemmas.Bool.{leb-true, false≢true, or_parts}
+use Rattle.std.proofs.Common.{◌≡◌, ℕ, ◌+◌, ◌<◌, ◌≤◌, List, ◌∷◌, length, Bool, true, false, Option, Some, None, Ok, Err, arith, refl, sym, ◌∙◌, ap, subst, cond, inl, inr}
+use Rattle.std.proofs.lemmas.Bool.{leb-true, cases_Bool, false≢true, or_parts}
 use Rattle.so_ids.specs.declared.LaneId.{LaneId}
 use Rattle.so_ids.specs.declared.CoopId.{CoopId}
 use Rattle.so_ids.specs.declared.Reason.{Reason}
 use Rattle.so_scene.specs.Lanes.{lanes}
 use Rattle.so_history.specs.declared.entry.EntryKind.{EntryKind}
-use Rattle.so_history.specs.declared.entry.EntryKind.TheVariants.{Register, Leaving}
+use Rattle.so_history.specs.declared.entry.EntryKind.TheVariants.{Register, Begin, Skip, Leaving, Left}
 use Rattle.so_history.specs.declared.entry.Demand.{Demand}
-use Rattle.so_history.specs.Order.{taking}
+use Rattle.so_history.specs.Order.{opening_of, skipped, taking_as, taking}
+use Rattle.so_history.specs.declared.entry.SkipWhy.{SkipWhy}
+use Rattle.so_ids.specs.declared.Opening.{Opening}
+use Rattle.so_ids.specs.declared.PartyId.{PartyId}
+use Rattle.so_history.proofs.CoopLaws.{present_tried}
 use Rattle.so_scene.specs.declared.parts.SceneParts.{SceneParts}
-use Rattle.so_scene.specs.Parts.{IsScene}
+use Rattle.so_scene.specs.Checked.{IsScene}
 use Rattle.so_history.specs.declared.entry.Entry.{Entry}
 use Rattle.so_history.specs.Units.{units, cost, fits}
-use Rattle.so_history.specs.Coops.{the_coop, aborted}
+use Rattle.so_history.specs.Coops.{the_coop, present, aborted}
 use Rattle.so_history.specs.Steps.{finished, is_over, IsRow}
 use Rattle.so_history.proofs.DemandLaws.{waiting-units}
 use Rattle.so_kernel.specs.declared.answers.Refused.TheVariants.{Full, Over}
@@ -107,10 +111,34 @@ leaving_coop {s} {limit} {h} e coop reason kept ready is =
     let row : IsRow s h e.by (Leaving coop reason) = subst (IsRow s h e.by) is ready.step.row in
     the_coop_there s coop kept.scene (ap coop_in row.is)
 
+-- the lane of what is taken is one of the scene's
+taking_lane : (s : SceneParts) (h : List Entry) (by : PartyId) (lane : LaneId) (d : Demand) (o : Opening) (w : Option SkipWhy) → IsRow s h by (taking_as lane d o w) → lane.0 < lanes s
+taking_lane s h by lane d o None row = row.in_range
+taking_lane s h by lane d o (Some why) row = row.in_range
+
 pub begun_lane : {s : SceneParts} {limit : ℕ} {h : List Entry} {t : Tables} {full : Bool} (e : Entry) (lane : LaneId) (d : Demand) → IsKept s limit h t full →
     IsReady (record { scene = s; limit = limit; history = h; full = full }) e → e.kind ≡ taking s h lane d → lane.0 < lanes s
 begun_lane {s} {limit} {h} e lane d kept ready is =
-    let row : IsRow s h e.by (taking s h lane d) = subst (IsRow s h e.by) is ready.step.row in row.in_range
+    taking_lane s h e.by lane d (opening_of s h d) (skipped (opening_of s h d)) (subst (IsRow s h e.by) is ready.step.row)
+
+pub left_one : {s : SceneParts} {limit : ℕ} {h : List Entry} {t : Tables} {full : Bool} (e : Entry) (coop : CoopId) → IsKept s limit h t full →
+    IsReady (record { scene = s; limit = limit; history = h; full = full }) e → e.kind ≡ Left coop → coop ≡ the_coop
+left_one {s} {limit} {h} e coop kept ready is =
+    let row : IsRow s h e.by (Left coop) = subst (IsRow s h e.by) is ready.step.row in row.the_one
+
+pub left_coop : {s : SceneParts} {limit : ℕ} {h : List Entry} {t : Tables} {full : Bool} (e : Entry) (coop : CoopId) → IsKept s limit h t full →
+    IsReady (record { scene = s; limit = limit; history = h; full = full }) e → e.kind ≡ Left coop → coop.0 < length s.coops
+left_coop {s} {limit} {h} e coop kept ready is = the_coop_there s coop kept.scene (left_one e coop kept ready is)
+
+-- a cooperation that is registered isn't there before
+pub absent_before : {s : SceneParts} {limit : ℕ} {h : List Entry} {t : Tables} {full : Bool} (e : Entry) (coop : CoopId) → IsKept s limit h t full →
+    IsReady (record { scene = s; limit = limit; history = h; full = full }) e → e.kind ≡ Register coop → present h ≡ false
+absent_before {s} {limit} {h} e coop kept ready is =
+    let row : IsRow s h e.by (Register coop) = subst (IsRow s h e.by) is ready.step.row in
+    elim (cases_Bool (present h)) [
+      | inl y ↦ absurd (false≢true (sym row.untried ∙ present_tried h y))
+      | inr n ↦ n
+    ]
 
 pub registered_one : {s : SceneParts} {limit : ℕ} {h : List Entry} {t : Tables} {full : Bool} (e : Entry) (coop : CoopId) → IsKept s limit h t full →
     IsReady (record { scene = s; limit = limit; history = h; full = full }) e → e.kind ≡ Register coop → coop ≡ the_coop

@@ -1,9 +1,8 @@
 pub mod KeptLaws
+pub mod MboxLaws
 pub mod TableLaws
 pub mod GateLaws
 pub mod HeldLaws
 pub mod Asking
-pub mod RowLaws
-pub mod ReachLaws
 pub mod ActLaws
 pub mod VarLaws

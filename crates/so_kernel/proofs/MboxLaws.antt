@@ -125,6 +125,17 @@ filters-entered t (suc n) =
     ∙ (ap (λ xs. set xs n (filters_first (filters_of (entered (all_from n) t).scene (record { 0 = n })))) (filters-entered t n)
     ∙ ap (λ s. set (written (first_filters t.scene) t.filters n) n (filters_first (filters_of s (record { 0 = n })))) (scene-entered (all_from n) t)))
 
+-- a list is what stands at each of its numbers
+each_below-front : {X : Type 0} (f : ℕ → X) (n : ℕ) → each_below f (suc n) ≡ f 0 ∷ each_below (λ k. f (suc k)) n
+unfolding each_below
+each_below-front f zero = refl
+each_below-front f (suc n) = ap (λ ys. ys ++ f (suc n) ∷ []) (each_below-front f n)
+
+each_of_all : {X Y : Type 0} (f : X → Y) (xs : List X) (d : X) → each_below (λ k. f (get_or xs k d)) (length xs) ≡ map f xs
+unfolding each_below
+each_of_all f [] d = refl
+each_of_all f (x ∷ xs) d = each_below-front (λ k. f (get_or (x ∷ xs) k d)) (length xs) ∙ ap (λ ys. f x ∷ ys) (each_of_all f xs d)
+
 -- ---- agents that leave one after the other
 
 pub departed-append : (xs ys : List AgentId) (t : Subscriptions) → departed (xs ++ ys) t ≡ departed ys (departed xs t)
@@ -216,6 +227,10 @@ nobody_left n = gone-all (all_from n) (all_from n) (each-weaker (λ (b : AgentId
 
 -- ---- the entries
 
+pub mboxes-fresh : (s : SceneParts) → subscriptions_of s [] ≡ nobody s
+unfolding present active_rows active_filters
+mboxes-fresh s = rw (each_of_all (λ (a : AgentDef). none_active a.rows) s.agents no_agent, each_of_all (λ (a : AgentDef). filters_first a.filters) s.agents no_agent) refl
+
 order-same : (s : SceneParts) (h : List Entry) (e : Entry) → present (e ∷ h) ≡ present h → registered s (e ∷ h) ≡ registered s h
 order-same s h e same = ap (λ b. cond b (agents_of s the_coop) []) same
 
@@ -252,3 +267,110 @@ mboxes-registered s h e coop scene is one absent =
     λ t a b c d. rw (← a, ← b, ← c, ← d) refl in
     parts (entered (all_from n) (subscriptions_of s h)) new_scene (new_order ∙ sym order) (new_rows ∙ sym rows) (new_filters ∙ sym filters)
     ∙ ap (λ xs. entered xs (subscriptions_of s h)) (sym agents)
+
+nobody_stays : (s : SceneParts) (h : List Entry) (b : Bool) → IsScene s → gone (all_from (length s.agents)) (cond b (agents_of s the_coop) []) ≡ []
+nobody_stays s h true scene = ap (gone (all_from (length s.agents))) (all_agents s scene) ∙ nobody_left (length s.agents)
+nobody_stays s h false scene = gone-nil (all_from (length s.agents))
+
+pub mboxes-left : (s : SceneParts) (h : List Entry) (e : Entry) (coop : CoopId) → IsScene s → e.kind ≡ Left coop → coop ≡ the_coop → subscriptions_of s (e ∷ h) ≡ departed (agents_of s coop) (subscriptions_of s h)
+unfolding active_rows active_filters present last_rows
+mboxes-left s h e coop scene is one =
+    let n = length s.agents in
+    let agents : agents_of s coop ≡ all_from n = ap (agents_of s) one ∙ all_agents s scene in
+    let rows : each_below (rows_after s (e ∷ h)) n ≡ each_below (last_rows s) n = each_below-same _ _ n (λ k l. rw (is, its_coop s coop k scene one l) refl) in
+    let filters : each_below (filters_after s (e ∷ h)) n ≡ each_below (filters_after s h) n = each_below-same _ _ n (λ k l. rw is refl) in
+    let new_rows : (departed (all_from n) (subscriptions_of s h)).rows ≡ each_below (last_rows s) n = rows-departed (subscriptions_of s h) n ∙ all_written (last_rows s) (subscriptions_of s h).rows n (sym (length-each_below (rows_after s h) n)) in
+    let new_filters : (departed (all_from n) (subscriptions_of s h)).filters ≡ each_below (filters_after s h) n = filters-departed (all_from n) (subscriptions_of s h) in
+    let new_order : (departed (all_from n) (subscriptions_of s h)).order ≡ [] = order-departed (all_from n) (subscriptions_of s h) ∙ nobody_stays s h (present h) scene in
+    let order : registered s (e ∷ h) ≡ [] = rw is refl in
+    let new_scene : (departed (all_from n) (subscriptions_of s h)).scene ≡ s = scene-departed (all_from n) (subscriptions_of s h) in
+    let parts : (t : Subscriptions) → t.scene ≡ s → t.order ≡ registered s (e ∷ h) → t.rows ≡ each_below (rows_after s (e ∷ h)) n → t.filters ≡ each_below (filters_after s (e ∷ h)) n → subscriptions_of s (e ∷ h) ≡ t =
+    λ t a b c d. rw (← a, ← b, ← c, ← d) refl in
+    parts (departed (all_from n) (subscriptions_of s h)) new_scene (new_order ∙ sym order) (new_rows ∙ sym rows) (new_filters ∙ sym filters)
+    ∙ ap (λ xs. departed xs (subscriptions_of s h)) (sym agents)
+
+-- ---- the acts
+
+-- an act of the agent's turn
+module _ (s : SceneParts) (h : List Entry) (e : Entry) (turn : Place) (x : Effect) (answer : Answer) (a : AgentId) (is : e.kind ≡ Act turn x answer) (whose : beginner_at (entry_at h turn.0) ≡ a) (known : a.0 < length s.agents) where
+  present_acted : present (e ∷ h) ≡ present h
+  unfolding present
+  present_acted = rw is refl
+
+  mine : is_turn_of h turn a ≡ true
+  mine = eq-eqb _ _ (ap (λ (b : AgentId). b.0) whose)
+
+  others : (k : ℕ) → (k ≡ a.0 → ⊥) → is_turn_of h turn (record { 0 = k }) ≡ false
+  others k other = rw whose (ne_eqb a.0 k (λ same. other (sym same)))
+
+  rows-acted : each_below (rows_after s (e ∷ h)) (length s.agents) ≡ slice_set (each_below (rows_after s h) (length s.agents)) a.0 (rows_by_effect x answer (active_rows s h a))
+  unfolding active_rows
+  rows-acted =
+      each_below-set (rows_after s h) (rows_after s (e ∷ h)) (length s.agents) a.0 _ known
+      (rw (is, mine) refl)
+      (λ k l other. rw (is, others k other) refl)
+
+  filters-acted : each_below (filters_after s (e ∷ h)) (length s.agents) ≡ slice_set (each_below (filters_after s h) (length s.agents)) a.0 (filters_by_effect s a x answer (active_filters s h a))
+  unfolding active_filters
+  filters-acted =
+      each_below-set (filters_after s h) (filters_after s (e ∷ h)) (length s.agents) a.0 _ known
+      (rw (is, mine) refl)
+      (λ k l other. rw (is, others k other) refl)
+
+  -- one that changes neither
+  pub mboxes-quiet : ((rows : List Bool) → rows_by_effect x answer rows ≡ rows) → ((b : AgentId) (filters : List Bool) → filters_by_effect s b x answer filters ≡ filters) → subscriptions_of s (e ∷ h) ≡ subscriptions_of s h
+  mboxes-quiet rows filters =
+      mboxes-same s h e present_acted
+      (λ b r. rw (is, rows r) (either_same (is_turn_of h turn b) r))
+      (λ b f. rw (is, filters b f) (either_same (is_turn_of h turn b) f))
+
+  pub rows_here : get_or (subscriptions_of s h).rows a.0 [] ≡ active_rows s h a
+  rows_here = get_or-each_below (rows_after s h) (length s.agents) a.0 [] known
+
+  pub filters_here : get_or (subscriptions_of s h).filters a.0 [] ≡ active_filters s h a
+  filters_here = get_or-each_below (filters_after s h) (length s.agents) a.0 [] known
+
+  -- one that changes the rows alone
+  pub mboxes-rows : (rows : List Bool) → rows_by_effect x answer (active_rows s h a) ≡ rows → ((b : AgentId) (filters : List Bool) → filters_by_effect s b x answer filters ≡ filters) →
+      subscriptions_of s (e ∷ h) ≡ record (subscriptions_of s h) { rows = slice_set (subscriptions_of s h).rows a.0 rows }
+  unfolding active_filters
+  mboxes-rows rows changes filters =
+      let same : each_below (filters_after s (e ∷ h)) (length s.agents) ≡ each_below (filters_after s h) (length s.agents) =
+      each_below-same _ _ (length s.agents) (λ k _. rw (is, filters (record { 0 = k }) (active_filters s h (record { 0 = k }))) (either_same (is_turn_of h turn (record { 0 = k })) (active_filters s h (record { 0 = k })))) in
+      rw (order-same s h e present_acted, rows-acted, changes, same) refl
+
+  -- and one that changes the filters alone
+  pub mboxes-filters : (filters : List Bool) → filters_by_effect s a x answer (active_filters s h a) ≡ filters → ((rows : List Bool) → rows_by_effect x answer rows ≡ rows) →
+      subscriptions_of s (e ∷ h) ≡ record (subscriptions_of s h) { filters = slice_set (subscriptions_of s h).filters a.0 filters }
+  unfolding active_rows
+  mboxes-filters filters changes rows =
+      let same : each_below (rows_after s (e ∷ h)) (length s.agents) ≡ each_below (rows_after s h) (length s.agents) =
+      each_below-same _ _ (length s.agents) (λ k _. rw (is, rows (active_rows s h (record { 0 = k }))) (either_same (is_turn_of h turn (record { 0 = k })) (active_rows s h (record { 0 = k })))) in
+      rw (order-same s h e present_acted, filters-acted, changes, same) refl
+
+-- a flag that is down already
+pub set-down : (flags : List Bool) (k : ℕ) → is_active flags k ≡ false → slice_set flags k false ≡ flags
+set-down flags k e = ap (slice_set flags k) (sym e) ∙ set-get_or flags k false
+
+-- ---- the rules of registration hold in a scene
+
+no_row_fault : (s : SceneParts) (a : AgentId) (row : RowId) → IsScene s → a.0 < length s.agents → row.0 < length (rows_of s a) → row_fault_after s a (take row.0 (rows_of s a)) (row_of s a row) ≡ None
+unfolding definition_fault
+no_row_fault s a row scene known within =
+    let none = or_else-none (first_below (row_fault s a) (length (rows_of s a))) _ (scene.admitted a known) in
+    let its : row_fault s a row.0 ≡ None = none-first_below (row_fault s a) (length (rows_of s a)) none.0 row.0 within in
+    rw (slice_get-get_or (rows_of s a) row.0 no_row within) at its
+
+owner_case : (b : Bool) (rest : Option DefFault) (fault : DefFault) → cond b (Some fault) rest ≡ None → b ≡ false
+owner_case true rest fault e = cc
+owner_case false rest fault e = refl
+
+pub its_owner : (s : SceneParts) (a : AgentId) (row : RowId) → IsScene s → a.0 < length s.agents → row.0 < length (rows_of s a) → is_not_owner s a (row_of s a row) ≡ false
+its_owner s a row scene known within = owner_case (is_not_owner s a (row_of s a row)) _ _ (no_row_fault s a row scene known within)
+
+pub no_filter_fault : (s : SceneParts) (a : AgentId) (filter : FilterId) → IsScene s → a.0 < length s.agents → filter.0 < length (filters_of s a) → filter_fault_of s (filter_of s a filter) ≡ None
+unfolding definition_fault
+no_filter_fault s a filter scene known within =
+    let none = or_else-none (first_below (row_fault s a) (length (rows_of s a))) _ (scene.admitted a known) in
+    let its : filter_fault s a filter.0 ≡ None = none-first_below (filter_fault s a) (length (filters_of s a)) none.1 filter.0 within in
+    rw (slice_get-get_or (filters_of s a) filter.0 no_filter within) at its

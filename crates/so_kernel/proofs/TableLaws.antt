@@ -1,48 +1,62 @@
 -- The tables after one more entry: one law for each kind.
-use Rattle.std.proofs.Common.{◌≡◌, ℕ, ◌+◌, ◌<◌, List, [], ◌∷◌, length, Bool, true, false, Option, Some, None, arith, refl, sym, ◌∙◌, ap, inl, inr, get_or}
+use Rattle.std.proofs.Common.{◌≡◌, ℕ, ◌+◌, ◌<◌, List, [], ◌∷◌, length, map, Bool, true, false, not, Option, Some, None, arith, refl, sym, ◌∙◌, ap, inl, inr, get_or}
 use Rattle.std.specs.Prelude.{◌==◌, ◌↔◌, ◌&&◌, IsTrue, slice_set}
 use Rattle.std.specs.List.{find, All}
 use Rattle.std.specs.Option.{is_none}
-use Rattle.std.proofs.lemmas.List.{append-nil}
-use Rattle.std.proofs.lemmas.Bool.{cases_Bool, and_parts, false≢true, ne_eqb, eq-eqb}
+use Rattle.std.proofs.lemmas.List.{append-nil, length-map, set-get_or}
+use Rattle.std.proofs.lemmas.Bool.{cases_Bool, and_parts, not-true, not-false, false≢true, ne_eqb, eq-eqb}
+use Rattle.std.proofs.lemmas.Option.{same_Some}
 use Rattle.so_ids.specs.declared.CoopId.{CoopId}
 use Rattle.so_ids.specs.declared.LaneId.{LaneId}
 use Rattle.so_ids.specs.declared.Place.{Place}
 use Rattle.so_ids.specs.declared.AgentId.{AgentId}
 use Rattle.so_ids.specs.declared.MsgId.{MsgId}
+use Rattle.so_ids.specs.declared.MboxId.{MboxId}
+use Rattle.so_ids.specs.declared.RowId.{RowId}
+use Rattle.so_ids.specs.declared.FilterId.{FilterId}
+use Rattle.so_ids.specs.declared.Opening.{Opening}
+use Rattle.so_ids.specs.declared.Target.TheVariants.{Mbox}
 use Rattle.so_ids.specs.declared.Payload.{Payload}
-use Rattle.so_ids.specs.declared.Target.{Target}
 use Rattle.so_ids.specs.declared.TextId.{TextId}
 use Rattle.so_ids.specs.declared.Vars.{Vars}
 use Rattle.so_ids.specs.declared.Reason.{Reason}
 use Rattle.so_code.specs.declared.effect.Effect.{Effect}
 use Rattle.so_code.specs.declared.effect.Effect.TheVariants as effect
 use Rattle.so_code.specs.declared.effect.Answer.{Answer}
+use Rattle.so_code.specs.declared.effect.Answer.TheVariants.{Yes, No}
 use Rattle.so_lists.specs.Lists.{is_empty}
 use Rattle.so_lists.proofs.First.{empty-list}
 use Rattle.so_lists.proofs.EachBelow.{length-each_below, get_or-each_below, each_below-same, each_below-set, each_below-replicate}
 use Rattle.so_scene.specs.declared.parts.SceneParts.{SceneParts}
-use Rattle.so_scene.specs.Parts.{no_agent, agent_of, agents_from, agents_of, IsScene}
+use Rattle.so_scene.specs.Parts.{no_agent, agent_of, agents_of, rows_of, filters_of}
+use Rattle.so_scene.specs.Checked.{IsScene}
+use Rattle.so_scene.specs.Definition.{is_not_owner, is_twice}
+use Rattle.so_scene.specs.Delivery.{events}
+use Rattle.so_scene.specs.Subscriptions.{row_of, row_set, row_dropped, filter_set, filter_dropped}
 use Rattle.so_scene.specs.Lanes.{lanes, keys, key_of, serves}
 use Rattle.so_scene.proofs.LaneLaws.{key_in_range}
 use Rattle.so_history.specs.declared.entry.Entry.{Entry}
-use Rattle.so_history.specs.declared.entry.EntryKind.TheVariants.{Register, Act, End, Leaving, Left, Stop, Abort}
+use Rattle.so_history.specs.declared.entry.EntryKind.TheVariants.{Register, Begin, Skip, Act, End, Leaving, Left, Stop, Abort}
 use Rattle.so_history.specs.declared.entry.AbortCause.{AbortCause}
 use Rattle.so_history.specs.declared.entry.Demand.{Demand}
-use Rattle.so_history.specs.declared.entry.DemandKind.{DemandKind}
+use Rattle.so_history.specs.declared.entry.SkipWhy.{SkipWhy}
 use Rattle.so_history.specs.declared.entry.DemandKind.TheVariants.{Start, Finish}
 use Rattle.so_history.specs.declared.entry.StopCause.{StopCause}
-use Rattle.so_history.specs.Demands.{ask_each, asked_by_target, asked_by_effect, demands, taken, waiting}
+use Rattle.so_history.specs.Places.{entry_at, beginner_at}
+use Rattle.so_history.specs.Delivery.{active_rows, active_filters, delivered}
+use Rattle.so_history.specs.Demands.{ask, ask_each, asked_by_effect, queued_by, demands, taken, waiting}
 use Rattle.so_history.specs.Units.{cost, units}
 use Rattle.so_history.specs.Turns.{Started, Course, move_of, vars_after, vars, course, started_by, ends, turns, running, running_at, running_on, running_with, lane_number, key_number, turn_at}
-use Rattle.so_history.specs.Coops.{the_coop, tried, present, leaving, stop_asked, stopped, aborted}
-use Rattle.so_history.specs.Order.{may_take, pick, opening_of, taking}
-use Rattle.so_history.specs.Steps.{Legal}
+use Rattle.so_history.specs.Coops.{the_coop, tried, present, leaving, is_stop, stop_asked, stopped, aborted}
+use Rattle.so_history.specs.Order.{may_take, pick, opening_of, skipped, taking_as, taking}
+use Rattle.so_history.specs.Steps.{Legal, yes_where, may_subscribe, is_active}
 use Rattle.so_history.proofs.DemandLaws.{waiting-queued, waiting-same, waiting-taken, picked}
 use Rattle.so_history.proofs.NameLaws.{length-demands_from}
 use Rattle.so_history.proofs.TurnLaws.{Frees, running_at-begun, running_at-same, running_at-ended, running_at-other, alone, turn_found, running_nowhere, running_at-nil, lanes_free, keys_free, may_be_taken}
-use Rattle.so_kernel.proofs.Asking.{length-asked_from}
-use Rattle.so_kernel.specs.Tables.{tables_of, variables_of, initial, places, first_place, fresh, queued, after_asking, after_abort, may_take_by, after_register, after_begin, after_act, after_end, after_leaving, after_left, after_stop}
+use Rattle.so_mbox.specs.Table.{Subscriptions, after_unsubscribe, after_set_filter, after_drop_filter}
+use Rattle.so_kernel.specs.Gates.{is_skip, IsActOf}
+use Rattle.so_kernel.specs.Tables.{tables_of, variables_of, subscriptions_of, initial, places, first_place, fresh, queued, with_mboxes, subscribed, after_asking, after_abort, may_take_by, after_register, after_begin, after_skip, after_act, after_end, after_leaving, after_left, after_stop}
+use Rattle.so_kernel.proofs.MboxLaws.{mboxes-fresh, mboxes-same, mboxes-registered, mboxes-left, mboxes-quiet, mboxes-rows, mboxes-filters, rows_here, filters_here, set-down, its_owner}
 
 -- where turns run after an entry that begins and ends nothing
 places-same : (f : Started → ℕ) (s : SceneParts) (h : List Entry) (e : Entry) (n : ℕ) → Legal s h → started_by (length h) e.by e.kind ≡ [] → ((t : ℕ) → ends e.kind t ≡ false) →
@@ -74,61 +88,159 @@ vars-ended s h e place c is has known =
 
 pub tables-fresh : (s : SceneParts) (room : ℕ) → tables_of s room [] ≡ fresh s room
 unfolding waiting demands taken units tried present leaving stop_asked stopped aborted running turns vars
-tables-fresh s room = rw (each_below-replicate (λ i. first_place (running_at lane_number [] i)) (lanes s) None (λ i. refl), each_below-replicate (λ i. first_place (running_at (key_number s) [] i)) (keys s) None (λ i. refl)) refl
+tables-fresh s room = rw (mboxes-fresh s, each_below-replicate (λ i. first_place (running_at lane_number [] i)) (lanes s) None (λ i. refl), each_below-replicate (λ i. first_place (running_at (key_number s) [] i)) (keys s) None (λ i. refl)) refl
 
-pub tables-register : (s : SceneParts) (room : ℕ) (h : List Entry) (e : Entry) (coop : CoopId) → e.kind ≡ Register coop → Legal s h → IsScene s → coop ≡ the_coop → aborted h ≡ false →
+pub tables-register : (s : SceneParts) (room : ℕ) (h : List Entry) (e : Entry) (coop : CoopId) → e.kind ≡ Register coop → Legal s h → IsScene s → coop ≡ the_coop → present h ≡ false → aborted h ≡ false →
     tables_of s room (e ∷ h) ≡ after_register s (length h) (agents_of s coop) (tables_of s room h)
 unfolding tried present leaving stop_asked stopped aborted units
-tables-register s room h e coop is legal scene one going =
-    rw (vars-registered s h e coop scene is one, going, waiting-queued s h e legal (λ d. rw is refl), places-same lane_number s h e (lanes s) legal (rw is refl) (λ t. rw is refl), places-same (key_number s) s h e (keys s) legal (rw is refl) (λ t. rw is refl), is, length-demands_from (length h) 0 (ask_each Start (agents_of s coop))) refl
+tables-register s room h e coop is legal scene one absent going =
+    rw (mboxes-registered s h e coop scene is one absent, vars-registered s h e coop scene is one, going, waiting-queued s h e legal (λ d. rw is refl), places-same lane_number s h e (lanes s) legal (rw is refl) (λ t. rw is refl), places-same (key_number s) s h e (keys s) legal (rw is refl) (λ t. rw is refl), is, length-demands_from (length h) 0 (ask_each Start (agents_of s coop))) refl
 
 pub tables-leaving : (s : SceneParts) (room : ℕ) (h : List Entry) (e : Entry) (coop : CoopId) (reason : Reason) → e.kind ≡ Leaving coop reason → Legal s h → aborted h ≡ false →
     tables_of s room (e ∷ h) ≡ after_leaving (length h) (agents_of s coop) (tables_of s room h)
 unfolding tried present leaving stop_asked stopped aborted units
 tables-leaving s room h e coop reason is legal going =
-    rw (vars-same s h e (λ c a v. rw is refl), going, waiting-queued s h e legal (λ d. rw is refl), places-same lane_number s h e (lanes s) legal (rw is refl) (λ t. rw is refl), places-same (key_number s) s h e (keys s) legal (rw is refl) (λ t. rw is refl), is, length-demands_from (length h) 0 (ask_each Finish (agents_of s coop))) refl
+    rw (mboxes-same s h e (rw is refl) (λ a r. rw is refl) (λ a f. rw is refl), vars-same s h e (λ c a v. rw is refl), going, waiting-queued s h e legal (λ d. rw is refl), places-same lane_number s h e (lanes s) legal (rw is refl) (λ t. rw is refl), places-same (key_number s) s h e (keys s) legal (rw is refl) (λ t. rw is refl), is, length-demands_from (length h) 0 (ask_each Finish (agents_of s coop))) refl
 
-pub tables-log : (s : SceneParts) (room : ℕ) (h : List Entry) (e : Entry) → (turn : Place) × (text : TextId) × (payload : Payload) × (answer : Answer) × (e.kind ≡ Act turn (effect.Log text payload) answer) → Legal s h → aborted h ≡ false →
+-- an act that changes neither variables nor demands
+module _ (s : SceneParts) (room : ℕ) (h : List Entry) (e : Entry) (a : AgentId) (x : Effect) (acts : IsActOf s h e a x) (legal : Legal s h) (going : aborted h ≡ false) where
+  acted : asked_by_effect s h x ≡ [] → is_stop x ≡ false → tables_of s room (e ∷ h) ≡ with_mboxes (subscriptions_of s (e ∷ h)) (tables_of s room h)
+  unfolding tried present leaving stop_asked stopped aborted units
+  acted nothing quiet =
+      let none : queued_by s h e.kind ≡ [] = rw (acts.is, nothing) refl in
+      rw (vars-same s h e (λ c b v. rw acts.is refl), going, waiting-same s h e legal none (λ d. rw acts.is refl), places-same lane_number s h e (lanes s) legal (rw acts.is refl) (λ t. rw acts.is refl), places-same (key_number s) s h e (keys s) legal (rw acts.is refl) (λ t. rw acts.is refl), acts.is, nothing, quiet) refl
+
+pub tables-log : (s : SceneParts) (room : ℕ) (h : List Entry) (e : Entry) (a : AgentId) → (text : TextId) × (payload : Payload) × IsActOf s h e a (effect.Log text payload) → a.0 < length s.agents → Legal s h → aborted h ≡ false →
     tables_of s room (e ∷ h) ≡ after_act (tables_of s room h)
-unfolding tried present leaving stop_asked stopped aborted units
-tables-log s room h e is legal going =
-    rw (vars-same s h e (λ c a v. rw is.4 refl), going, waiting-same s h e legal (rw is.4 refl) (λ d. rw is.4 refl), places-same lane_number s h e (lanes s) legal (rw is.4 refl) (λ t. rw is.4 refl), places-same (key_number s) s h e (keys s) legal (rw is.4 refl) (λ t. rw is.4 refl), is.4) refl
+tables-log s room h e a is known legal going =
+    acted s room h e a (effect.Log is.0 is.1) is.2 legal going refl refl
+    ∙ ap (λ m. with_mboxes m (tables_of s room h)) (mboxes-quiet s h e is.2.turn (effect.Log is.0 is.1) is.2.answer a is.2.is is.2.whose known (λ r. refl) (λ b f. refl))
 
-pub tables-send : (s : SceneParts) (room : ℕ) (h : List Entry) (e : Entry) (target : Target) (msg : MsgId) (payload : Payload) → (turn : Place) × (answer : Answer) × (e.kind ≡ Act turn (effect.Send target msg payload) answer) → Legal s h → aborted h ≡ false →
-    tables_of s room (e ∷ h) ≡ queued (length h) (asked_by_effect s h (effect.Send target msg payload)) (tables_of s room h)
-unfolding tried present leaving stop_asked stopped aborted units
-tables-send s room h e target msg payload is legal going =
-    rw (vars-same s h e (λ c a v. rw is.2 refl), going, waiting-queued s h e legal (λ d. rw is.2 refl), places-same lane_number s h e (lanes s) legal (rw is.2 refl) (λ t. rw is.2 refl), places-same (key_number s) s h e (keys s) legal (rw is.2 refl) (λ t. rw is.2 refl), is.2, length-demands_from (length h) 0 (asked_by_target s h target msg payload)) refl
+-- what an act costs
+pub cost-acted : (s : SceneParts) (h : List Entry) (e : Entry) (a : AgentId) (x : Effect) → IsActOf s h e a x → asked_by_effect s h x ≡ [] → cost s h e ≡ 1
+cost-acted s h e a x acts nothing = rw (acts.is, nothing) refl
 
 -- what a send costs
-pub cost-sent : (s : SceneParts) (h : List Entry) (e : Entry) (x : Effect) → (turn : Place) × (answer : Answer) × (e.kind ≡ Act turn x answer) → (kind : DemandKind) (first : AgentId) (n : ℕ) → ask_each kind (agents_from first n) ≡ asked_by_effect s h x →
-    cost s h e ≡ 1 + n
-cost-sent s h e x is kind first n asked =
-    rw is.2 (ap (λ m. 1 + m) (length-demands_from (length h) 0 (asked_by_effect s h x) ∙ (ap length (sym asked) ∙ length-asked_from kind first n)))
+pub cost-sent : (s : SceneParts) (h : List Entry) (turn : Place) (mbox : MboxId) (msg : MsgId) (payload : Payload) (answer : Answer) →
+    length (queued_by s h (Act turn (effect.Send (Mbox mbox) msg payload) answer)) ≡ length (events (delivered s h mbox msg payload))
+cost-sent s h turn mbox msg payload answer = length-demands_from (length h) 0 (map ask (events (delivered s h mbox msg payload))) ∙ length-map (events (delivered s h mbox msg payload)) ask
 
-pub tables-asking : (s : SceneParts) (room : ℕ) (h : List Entry) (e : Entry) → (turn : Place) × (answer : Answer) × (e.kind ≡ Act turn effect.Stop answer) → Legal s h → aborted h ≡ false →
+pub tables-send : (s : SceneParts) (room : ℕ) (h : List Entry) (e : Entry) (a : AgentId) (mbox : MboxId) (msg : MsgId) (payload : Payload) → IsActOf s h e a (effect.Send (Mbox mbox) msg payload) → a.0 < length s.agents → Legal s h → aborted h ≡ false →
+    tables_of s room (e ∷ h) ≡ queued (length h) (map ask (events (delivered s h mbox msg payload))) (tables_of s room h)
+unfolding tried present leaving stop_asked stopped aborted units
+tables-send s room h e a mbox msg payload acts known legal going =
+    rw (
+      mboxes-quiet s h e acts.turn (effect.Send (Mbox mbox) msg payload) acts.answer a acts.is acts.whose known (λ r. refl) (λ b f. refl),
+      vars-same s h e (λ c b v. rw acts.is refl),
+      going,
+      waiting-queued s h e legal (λ d. rw acts.is refl),
+      places-same lane_number s h e (lanes s) legal (rw acts.is refl) (λ t. rw acts.is refl),
+      places-same (key_number s) s h e (keys s) legal (rw acts.is refl) (λ t. rw acts.is refl),
+      acts.is,
+      length-demands_from (length h) 0 (map ask (events (delivered s h mbox msg payload))),
+    ) refl
+
+subscribe_case : (s : SceneParts) (h : List Entry) (e : Entry) (a : AgentId) (row : RowId) (turn : Place) (b : Bool) → may_subscribe s h a row ≡ b → e.kind ≡ Act turn (effect.Subscribe row) (yes_where b) → beginner_at (entry_at h turn.0) ≡ a → a.0 < length s.agents → is_not_owner s a (row_of s a row) ≡ false →
+    subscriptions_of s (e ∷ h) ≡ subscribed a row (subscriptions_of s h)
+subscribe_case s h e a row turn true may is whose known owner =
+    let rows : get_or (subscriptions_of s h).rows a.0 [] ≡ active_rows s h a = rows_here s h e turn (effect.Subscribe row) Yes a is whose known in
+    mboxes-rows s h e turn (effect.Subscribe row) Yes a is whose known (row_set row (active_rows s h a)) refl (λ b f. refl)
+    ∙ rw (owner, rows, not-true (is_twice (rows_of s a) (active_rows s h a) (row_of s a row)) may) refl
+subscribe_case s h e a row turn false may is whose known owner =
+    let rows : get_or (subscriptions_of s h).rows a.0 [] ≡ active_rows s h a = rows_here s h e turn (effect.Subscribe row) No a is whose known in
+    mboxes-quiet s h e turn (effect.Subscribe row) No a is whose known (λ r. refl) (λ b f. refl)
+    ∙ rw (owner, rows, not-false (is_twice (rows_of s a) (active_rows s h a) (row_of s a row)) may) refl
+
+pub tables-subscribe : (s : SceneParts) (room : ℕ) (h : List Entry) (e : Entry) (a : AgentId) (row : RowId) → IsActOf s h e a (effect.Subscribe row) → IsScene s → a.0 < length s.agents → row.0 < length (rows_of s a) → Legal s h → aborted h ≡ false →
+    tables_of s room (e ∷ h) ≡ with_mboxes (subscribed a row (subscriptions_of s h)) (tables_of s room h)
+tables-subscribe s room h e a row acts scene known within legal going =
+    let answer : acts.answer ≡ yes_where (may_subscribe s h a row) = sym (same_Some _ acts.answer acts.answers) in
+    let is : e.kind ≡ Act acts.turn (effect.Subscribe row) (yes_where (may_subscribe s h a row)) = acts.is ∙ ap (Act acts.turn (effect.Subscribe row)) answer in
+    acted s room h e a (effect.Subscribe row) acts legal going refl refl
+    ∙ ap (λ m. with_mboxes m (tables_of s room h)) (subscribe_case s h e a row acts.turn (may_subscribe s h a row) refl is acts.whose known (its_owner s a row scene known within))
+
+unsubscribe_case : (s : SceneParts) (h : List Entry) (e : Entry) (a : AgentId) (row : RowId) (turn : Place) (b : Bool) → is_active (active_rows s h a) row.0 ≡ b → e.kind ≡ Act turn (effect.Unsubscribe row) (yes_where b) → beginner_at (entry_at h turn.0) ≡ a → a.0 < length s.agents →
+    subscriptions_of s (e ∷ h) ≡ after_unsubscribe a row (subscriptions_of s h)
+unsubscribe_case s h e a row turn true was is whose known =
+    let rows : get_or (subscriptions_of s h).rows a.0 [] ≡ active_rows s h a = rows_here s h e turn (effect.Unsubscribe row) Yes a is whose known in
+    mboxes-rows s h e turn (effect.Unsubscribe row) Yes a is whose known (row_dropped row (active_rows s h a)) refl (λ b f. refl)
+    ∙ rw rows refl
+unsubscribe_case s h e a row turn false was is whose known =
+    let rows : get_or (subscriptions_of s h).rows a.0 [] ≡ active_rows s h a = rows_here s h e turn (effect.Unsubscribe row) No a is whose known in
+    mboxes-quiet s h e turn (effect.Unsubscribe row) No a is whose known (λ r. refl) (λ b f. refl)
+    ∙ sym (ap (λ r. record (subscriptions_of s h) { rows = slice_set (subscriptions_of s h).rows a.0 r }) (ap (λ r. slice_set r row.0 false) rows ∙ (set-down (active_rows s h a) row.0 was ∙ sym rows))
+    ∙ ap (λ r. record (subscriptions_of s h) { rows = r }) (set-get_or (subscriptions_of s h).rows a.0 []))
+
+pub tables-unsubscribe : (s : SceneParts) (room : ℕ) (h : List Entry) (e : Entry) (a : AgentId) (row : RowId) → IsActOf s h e a (effect.Unsubscribe row) → a.0 < length s.agents → Legal s h → aborted h ≡ false →
+    tables_of s room (e ∷ h) ≡ with_mboxes (after_unsubscribe a row (subscriptions_of s h)) (tables_of s room h)
+tables-unsubscribe s room h e a row acts known legal going =
+    let answer : acts.answer ≡ yes_where (is_active (active_rows s h a) row.0) = sym (same_Some _ acts.answer acts.answers) in
+    let is : e.kind ≡ Act acts.turn (effect.Unsubscribe row) (yes_where (is_active (active_rows s h a) row.0)) = acts.is ∙ ap (Act acts.turn (effect.Unsubscribe row)) answer in
+    acted s room h e a (effect.Unsubscribe row) acts legal going refl refl
+    ∙ ap (λ m. with_mboxes m (tables_of s room h)) (unsubscribe_case s h e a row acts.turn (is_active (active_rows s h a) row.0) refl is acts.whose known)
+
+pub tables-set_filter : (s : SceneParts) (room : ℕ) (h : List Entry) (e : Entry) (a : AgentId) (filter : FilterId) → IsActOf s h e a (effect.SetFilter filter) → a.0 < length s.agents → Legal s h → aborted h ≡ false →
+    tables_of s room (e ∷ h) ≡ with_mboxes (after_set_filter a filter (subscriptions_of s h)) (tables_of s room h)
+tables-set_filter s room h e a filter acts known legal going =
+    let answer : acts.answer ≡ Yes = sym (same_Some _ acts.answer acts.answers) in
+    let is : e.kind ≡ Act acts.turn (effect.SetFilter filter) Yes = acts.is ∙ ap (Act acts.turn (effect.SetFilter filter)) answer in
+    let filters : get_or (subscriptions_of s h).filters a.0 [] ≡ active_filters s h a = filters_here s h e acts.turn (effect.SetFilter filter) Yes a is acts.whose known in
+    acted s room h e a (effect.SetFilter filter) acts legal going refl refl
+    ∙ ap (λ m. with_mboxes m (tables_of s room h))
+    (mboxes-filters s h e acts.turn (effect.SetFilter filter) Yes a is acts.whose known (filter_set (filters_of s a) filter.0 (active_filters s h a)) refl (λ r. refl)
+    ∙ rw filters refl)
+
+drop_case : (s : SceneParts) (h : List Entry) (e : Entry) (a : AgentId) (filter : FilterId) (turn : Place) (b : Bool) → is_active (active_filters s h a) filter.0 ≡ b → e.kind ≡ Act turn (effect.DropFilter filter) (yes_where b) → beginner_at (entry_at h turn.0) ≡ a → a.0 < length s.agents →
+    subscriptions_of s (e ∷ h) ≡ after_drop_filter a filter (subscriptions_of s h)
+drop_case s h e a filter turn true was is whose known =
+    let filters : get_or (subscriptions_of s h).filters a.0 [] ≡ active_filters s h a = filters_here s h e turn (effect.DropFilter filter) Yes a is whose known in
+    mboxes-filters s h e turn (effect.DropFilter filter) Yes a is whose known (filter_dropped filter.0 (active_filters s h a)) refl (λ r. refl)
+    ∙ rw filters refl
+drop_case s h e a filter turn false was is whose known =
+    let filters : get_or (subscriptions_of s h).filters a.0 [] ≡ active_filters s h a = filters_here s h e turn (effect.DropFilter filter) No a is whose known in
+    mboxes-quiet s h e turn (effect.DropFilter filter) No a is whose known (λ r. refl) (λ b f. refl)
+    ∙ sym (ap (λ r. record (subscriptions_of s h) { filters = slice_set (subscriptions_of s h).filters a.0 r }) (ap (λ r. slice_set r filter.0 false) filters ∙ (set-down (active_filters s h a) filter.0 was ∙ sym filters))
+    ∙ ap (λ r. record (subscriptions_of s h) { filters = r }) (set-get_or (subscriptions_of s h).filters a.0 []))
+
+pub tables-drop_filter : (s : SceneParts) (room : ℕ) (h : List Entry) (e : Entry) (a : AgentId) (filter : FilterId) → IsActOf s h e a (effect.DropFilter filter) → a.0 < length s.agents → Legal s h → aborted h ≡ false →
+    tables_of s room (e ∷ h) ≡ with_mboxes (after_drop_filter a filter (subscriptions_of s h)) (tables_of s room h)
+tables-drop_filter s room h e a filter acts known legal going =
+    let answer : acts.answer ≡ yes_where (is_active (active_filters s h a) filter.0) = sym (same_Some _ acts.answer acts.answers) in
+    let is : e.kind ≡ Act acts.turn (effect.DropFilter filter) (yes_where (is_active (active_filters s h a) filter.0)) = acts.is ∙ ap (Act acts.turn (effect.DropFilter filter)) answer in
+    acted s room h e a (effect.DropFilter filter) acts legal going refl refl
+    ∙ ap (λ m. with_mboxes m (tables_of s room h)) (drop_case s h e a filter acts.turn (is_active (active_filters s h a) filter.0) refl is acts.whose known)
+
+pub tables-asking : (s : SceneParts) (room : ℕ) (h : List Entry) (e : Entry) (a : AgentId) → IsActOf s h e a effect.Stop → a.0 < length s.agents → Legal s h → aborted h ≡ false →
     tables_of s room (e ∷ h) ≡ after_asking (tables_of s room h)
 unfolding tried present leaving stop_asked stopped aborted units
-tables-asking s room h e is legal going =
-    rw (vars-same s h e (λ c a v. rw is.2 refl), going, waiting-same s h e legal (rw is.2 refl) (λ d. rw is.2 refl), places-same lane_number s h e (lanes s) legal (rw is.2 refl) (λ t. rw is.2 refl), places-same (key_number s) s h e (keys s) legal (rw is.2 refl) (λ t. rw is.2 refl), is.2) refl
+tables-asking s room h e a acts known legal going =
+    rw (
+      mboxes-quiet s h e acts.turn effect.Stop acts.answer a acts.is acts.whose known (λ r. refl) (λ b f. refl),
+      vars-same s h e (λ c b v. rw acts.is refl),
+      going,
+      waiting-same s h e legal (rw acts.is refl) (λ d. rw acts.is refl),
+      places-same lane_number s h e (lanes s) legal (rw acts.is refl) (λ t. rw acts.is refl),
+      places-same (key_number s) s h e (keys s) legal (rw acts.is refl) (λ t. rw acts.is refl),
+      acts.is,
+    ) refl
 
 pub tables-abort : (s : SceneParts) (room : ℕ) (h : List Entry) (e : Entry) → (cause : AbortCause) × (e.kind ≡ Abort cause) → Legal s h →
     tables_of s room (e ∷ h) ≡ after_abort (tables_of s room h)
 unfolding tried present leaving stop_asked stopped aborted units
 tables-abort s room h e is legal =
-    rw (vars-same s h e (λ c a v. rw is.1 refl), waiting-same s h e legal (rw is.1 refl) (λ d. rw is.1 refl), places-same lane_number s h e (lanes s) legal (rw is.1 refl) (λ t. rw is.1 refl), places-same (key_number s) s h e (keys s) legal (rw is.1 refl) (λ t. rw is.1 refl), is.1) refl
+    rw (mboxes-same s h e (rw is.1 refl) (λ a r. rw is.1 refl) (λ a f. rw is.1 refl), vars-same s h e (λ c a v. rw is.1 refl), waiting-same s h e legal (rw is.1 refl) (λ d. rw is.1 refl), places-same lane_number s h e (lanes s) legal (rw is.1 refl) (λ t. rw is.1 refl), places-same (key_number s) s h e (keys s) legal (rw is.1 refl) (λ t. rw is.1 refl), is.1) refl
 
-pub tables-left : (s : SceneParts) (room : ℕ) (h : List Entry) (e : Entry) → (coop : CoopId) × (e.kind ≡ Left coop) → Legal s h → aborted h ≡ false →
-    tables_of s room (e ∷ h) ≡ after_left (tables_of s room h)
+pub tables-left : (s : SceneParts) (room : ℕ) (h : List Entry) (e : Entry) (coop : CoopId) → e.kind ≡ Left coop → Legal s h → IsScene s → coop ≡ the_coop → aborted h ≡ false →
+    tables_of s room (e ∷ h) ≡ after_left (agents_of s coop) (tables_of s room h)
 unfolding tried present leaving stop_asked stopped aborted units
-tables-left s room h e is legal going =
-    rw (vars-same s h e (λ c a v. rw is.1 refl), going, waiting-same s h e legal (rw is.1 refl) (λ d. rw is.1 refl), places-same lane_number s h e (lanes s) legal (rw is.1 refl) (λ t. rw is.1 refl), places-same (key_number s) s h e (keys s) legal (rw is.1 refl) (λ t. rw is.1 refl), is.1) refl
+tables-left s room h e coop is legal scene one going =
+    rw (mboxes-left s h e coop scene is one, vars-same s h e (λ c a v. rw is refl), going, waiting-same s h e legal (rw is refl) (λ d. rw is refl), places-same lane_number s h e (lanes s) legal (rw is refl) (λ t. rw is refl), places-same (key_number s) s h e (keys s) legal (rw is refl) (λ t. rw is refl), is) refl
 
 pub tables-stop : (s : SceneParts) (room : ℕ) (h : List Entry) (e : Entry) → (cause : StopCause) × (e.kind ≡ Stop cause) → Legal s h → aborted h ≡ false →
     tables_of s room (e ∷ h) ≡ after_stop (tables_of s room h)
 unfolding tried present leaving stop_asked stopped aborted units
 tables-stop s room h e is legal going =
-    rw (vars-same s h e (λ c a v. rw is.1 refl), going, waiting-same s h e legal (rw is.1 refl) (λ d. rw is.1 refl), places-same lane_number s h e (lanes s) legal (rw is.1 refl) (λ t. rw is.1 refl), places-same (key_number s) s h e (keys s) legal (rw is.1 refl) (λ t. rw is.1 refl), is.1) refl
+    rw (mboxes-same s h e (rw is.1 refl) (λ a r. rw is.1 refl) (λ a f. rw is.1 refl), vars-same s h e (λ c a v. rw is.1 refl), going, waiting-same s h e legal (rw is.1 refl) (λ d. rw is.1 refl), places-same lane_number s h e (lanes s) legal (rw is.1 refl) (λ t. rw is.1 refl), places-same (key_number s) s h e (keys s) legal (rw is.1 refl) (λ t. rw is.1 refl), is.1) refl
 
 -- a Begin where no turn runs
 places-begin : (f : Started → ℕ) (s : SceneParts) (h : List Entry) (e : Entry) (n i : ℕ) (t : Started) → Legal s h → ((x : ℕ) → ends e.kind x ≡ false) → started_by (length h) e.by e.kind ≡ t ∷ [] → t.place ≡ length h → f t ≡ i → i < n → running_at f h i ≡ [] →
@@ -147,18 +259,48 @@ free_key s h lane d picks =
     let may = may_be_taken s h lane (waiting s h) d (picked s h lane d picks).1 in
     empty-list (running_with s h (key_of s d.agent)) (and_parts (serves s lane (key_of s d.agent)) _ may).1
 
-pub tables-begin : (s : SceneParts) (room : ℕ) (h : List Entry) (e : Entry) (lane : LaneId) (d : Demand) → e.kind ≡ taking s h lane d → Legal s h → lane.0 < lanes s → pick s h lane ≡ Some d → aborted h ≡ false →
+-- what a lane takes begins a turn, or is skipped
+taken_as : (lane : LaneId) (d : Demand) (o : Opening) (w : Option SkipWhy) → is_skip (taking_as lane d o w) ≡ false → taking_as lane d o w ≡ Begin lane (Some d.id) o d.agent
+taken_as lane d o None begins = refl
+taken_as lane d o (Some w) begins = cc
+
+pub begins_turn : (s : SceneParts) (h : List Entry) (lane : LaneId) (d : Demand) → is_skip (taking s h lane d) ≡ false → taking s h lane d ≡ Begin lane (Some d.id) (opening_of s h d) d.agent
+begins_turn s h lane d begins = taken_as lane d (opening_of s h d) (skipped (opening_of s h d)) begins
+
+skipped_as : (lane : LaneId) (d : Demand) (o : Opening) (w : Option SkipWhy) → is_skip (taking_as lane d o w) ≡ true → (why : SkipWhy) × (taking_as lane d o w ≡ Skip lane d.id why)
+skipped_as lane d o None skips = cc
+skipped_as lane d o (Some w) skips = (w, refl)
+
+pub skips_turn : (s : SceneParts) (h : List Entry) (lane : LaneId) (d : Demand) → is_skip (taking s h lane d) ≡ true → (why : SkipWhy) × (taking s h lane d ≡ Skip lane d.id why)
+skips_turn s h lane d skips = skipped_as lane d (opening_of s h d) (skipped (opening_of s h d)) skips
+
+pub tables-begin : (s : SceneParts) (room : ℕ) (h : List Entry) (e : Entry) (lane : LaneId) (d : Demand) → e.kind ≡ Begin lane (Some d.id) (opening_of s h d) d.agent → Legal s h → lane.0 < lanes s → pick s h lane ≡ Some d → aborted h ≡ false →
     tables_of s room (e ∷ h) ≡ after_begin (record { 0 = length h }) lane (key_of s d.agent) d (tables_of s room h)
 unfolding tried present leaving stop_asked stopped aborted units
 tables-begin s room h e lane d is legal in_range picks going =
     let t : Started = record { place = length h; by = e.by; lane = lane; agent = d.agent; opening = opening_of s h d } in
     let starts : started_by (length h) e.by e.kind ≡ t ∷ [] = rw is refl in
     rw (
+      mboxes-same s h e (rw is refl) (λ a r. rw is refl) (λ a f. rw is refl),
       vars-same s h e (λ c a v. rw is refl),
       going,
       waiting-taken s h e d.id (rw is refl) (λ x. rw is refl),
       places-begin lane_number s h e (lanes s) lane.0 t legal (λ x. rw is refl) starts refl refl in_range (free_lane s h lane d picks),
       places-begin (key_number s) s h e (keys s) (key_of s d.agent).0 t legal (λ x. rw is refl) starts refl refl (key_in_range s d.agent) (free_key s h lane d picks),
+      is,
+    ) refl
+
+pub tables-skip : (s : SceneParts) (room : ℕ) (h : List Entry) (e : Entry) (lane : LaneId) (d : Demand) (why : SkipWhy) → e.kind ≡ Skip lane d.id why → Legal s h → aborted h ≡ false →
+    tables_of s room (e ∷ h) ≡ after_skip d (tables_of s room h)
+unfolding tried present leaving stop_asked stopped aborted units
+tables-skip s room h e lane d why is legal going =
+    rw (
+      mboxes-same s h e (rw is refl) (λ a r. rw is refl) (λ a f. rw is refl),
+      vars-same s h e (λ c a v. rw is refl),
+      going,
+      waiting-taken s h e d.id (rw is refl) (λ x. rw is refl),
+      places-same lane_number s h e (lanes s) legal (rw is refl) (λ t. rw is refl),
+      places-same (key_number s) s h e (keys s) legal (rw is refl) (λ t. rw is refl),
       is,
     ) refl
 
@@ -177,6 +319,7 @@ pub tables-end : (s : SceneParts) (room : ℕ) (h : List Entry) (e : Entry) (pla
 unfolding tried present leaving stop_asked stopped aborted units
 tables-end s room h e place t c is legal in_range runs has whose known going =
     rw (
+      mboxes-same s h e (rw is refl) (λ a r. rw is refl) (λ a f. rw is refl),
       vars-ended s h e place c is has known,
       going,
       waiting-same s h e legal (rw is refl) (λ d. rw is refl),

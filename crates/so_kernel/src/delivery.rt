@@ -7,16 +7,17 @@ ghost use Rattle.so_history.specs.Steps.{NamesEffect, answer_of, yes_where, may_
 
 use crate::kernel::Kernel;
 use so_code::{Answer, Effect};
-use so_deliver::count_delivery;
+use so_deliver::{Planned, plan_delivery};
 use so_ids::{AgentId, FilterId, MboxId, MsgId, Payload, RowId, Sent, Target};
 use so_scene::is_twice;
 
 impl<'a> Kernel<'a> {
     /// The answer to an effect of an agent's turn.
-    pub(crate) fn answer_to(&self, agent: AgentId, effect: Effect) -> Answer
-        requires agent { agent.0 < length self.now.scene.agents }
-        requires named { NamesEffect self.now.scene agent effect }
-        ensures { answer_of self.now.scene self.now.history agent effect ≡ Some result }
+    pub(crate) fn answer_to(&mut self, agent: AgentId, effect: Effect) -> Answer
+        requires agent { agent.0 < length self.old.scene.agents }
+        requires named { NamesEffect self.old.scene agent effect }
+        ensures value { answer_of self.old.scene self.old.history agent effect ≡ Some result }
+        ensures same { self.new ≡ self.old }
     {
         match effect {
             Effect::Log { .. } | Effect::Stop => Answer::Okay,
@@ -34,12 +35,23 @@ impl<'a> Kernel<'a> {
     }
 
     /// What becomes of a message that is sent through the mbox.
-    fn sent(&self, mbox: MboxId, msg: MsgId, payload: Payload) -> Sent
-        requires mbox { mbox.0 < mboxes self.now.scene }
-        requires msg { msg.0 < length self.now.scene.messages }
-        ensures { result ≡ sent self.now.scene self.now.history mbox msg payload }
+    fn sent(&mut self, mbox: MboxId, msg: MsgId, payload: Payload) -> Sent
+        requires mbox { mbox.0 < mboxes self.old.scene }
+        requires msg { msg.0 < length self.old.scene.messages }
+        ensures value { result ≡ sent self.old.scene self.old.history mbox msg payload }
+        ensures same { self.new ≡ self.old }
     {
-        count_delivery(&self.tables.mboxes, self.tables.marks.leaving, mbox, msg, payload)
+        let closed = self.tables.marks.leaving;
+        let target = Target::Mbox(mbox);
+        let Planned::Fits(sent) = plan_delivery(
+            &self.tables.mboxes,
+            closed,
+            target,
+            msg,
+            payload,
+            &mut self.outcomes,
+        );
+        sent
     }
 
     /// Tells whether a row of the agent may become active.
@@ -67,7 +79,7 @@ impl<'a> Kernel<'a> {
         requires filter { filter.0 < length (filters_of self.now.scene agent) }
         ensures { result ≡ is_active (active_filters self.now.scene self.now.history agent) filter.0 }
     {
-        self.tables.mboxes.is_filter_active(agent, filter)
+        self.tables.mboxes.active_filters(agent)[filter.0 as usize]
     }
 }
 

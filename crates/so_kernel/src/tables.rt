@@ -122,8 +122,8 @@ impl<'a> Tables<'a> {
 
     /// After the send of a message whose delivery queues these events.
     pub fn delivered(&mut self, place: Place, outcomes: &Outcomes)
-        requires { HasRoom self.old (length outcomes.now.events) }
-        ensures { self.new ≡ queued place.0 (map ask outcomes.now.events) self.old }
+        requires { HasRoom self.old (length outcomes.now.queued) }
+        ensures { self.new ≡ queued place.0 (map ask outcomes.now.queued) self.old }
     {
         self.waiting.push_events(place, outcomes);
         self.units += 1 + outcomes.len();

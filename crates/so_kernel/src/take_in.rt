@@ -22,7 +22,7 @@ use crate::answers::Turn;
 use crate::decide::payload_of;
 use crate::kernel::Kernel;
 use so_code::{Answer, Effect, Frame};
-use so_deliver::{Planned, plan_delivery};
+use so_deliver::plan_delivery;
 use so_history::{Demand, Entry, EntryKind};
 use so_ids::{AgentId, CoopId, FilterId, LaneId, MboxId, MsgId, Payload, Place, Reason, RowId, Target};
 
@@ -128,6 +128,7 @@ impl<'a> Kernel<'a> {
 
     /// Takes in a line of the log, which changes nothing but the units.
     fn add_log(&mut self, entry: Entry, agent: AgentId)
+        requires agent { agent.0 < length self.old.scene.agents }
         requires acts { (text : AnyText) × (payload : AnyPayload) × IsActOf self.old.scene self.old.history entry agent (Log text payload) }
         requires ready { IsReady self.old entry }
         ensures { self.new ≡ core_after self.old (Ok entry) }
@@ -145,6 +146,7 @@ impl<'a> Kernel<'a> {
         msg: MsgId,
         payload: Payload,
     )
+        requires agent { agent.0 < length self.old.scene.agents }
         requires mbox { mbox.0 < mboxes self.old.scene }
         requires msg { msg.0 < length self.old.scene.messages }
         requires acts { IsActOf self.old.scene self.old.history entry agent (Send (Mbox mbox) msg payload) }
@@ -152,10 +154,12 @@ impl<'a> Kernel<'a> {
         ensures { self.new ≡ core_after self.old (Ok entry) }
     {
         let place = Place(self.history.len());
-        let Planned::Fits(_sent) = plan_delivery(
+        let closed = self.tables.marks.leaving;
+        let target = Target::Mbox(mbox);
+        let _planned = plan_delivery(
             &self.tables.mboxes,
-            self.tables.marks.leaving,
-            Target::Mbox(mbox),
+            closed,
+            target,
             msg,
             payload,
             &mut self.outcomes,
@@ -214,6 +218,7 @@ impl<'a> Kernel<'a> {
 
     /// Takes in a stop that a turn asks for.
     fn add_asking(&mut self, entry: Entry, agent: AgentId)
+        requires agent { agent.0 < length self.old.scene.agents }
         requires acts { IsActOf self.old.scene self.old.history entry agent (Effect.Stop) }
         requires ready { IsReady self.old entry }
         ensures { self.new ≡ core_after self.old (Ok entry) }

@@ -80,8 +80,8 @@ impl Waiting {
 
     /// Adds the events of a delivery, which the entry at a place queues.
     pub fn push_events(&mut self, place: Place, outcomes: &Outcomes)
-        requires { length self.old.items + length outcomes.now.events ≤ self.old.room }
-        ensures { self.new ≡ record self.old { items = self.old.items ++ demands_from place.0 0 (map ask outcomes.now.events) } }
+        requires { length self.old.items + length outcomes.now.queued ≤ self.old.room }
+        ensures { self.new ≡ record self.old { items = self.old.items ++ demands_from place.0 0 (map ask outcomes.now.queued) } }
     {
         for k in 0..outcomes.len() {
             match outcomes.queued_at(k) {

@@ -228,6 +228,16 @@ impl<'a> Table<'a> {
         rows.as_slice()
     }
 
+    /// A flag for each filter of the agent, in order: whether it is active.
+    pub fn active_filters(&self, agent: AgentId) -> &[bool]
+        requires { IsAgentOf self.now.scene agent }
+        ensures value { result.now ≡ active_filters self.now agent }
+        ensures each { length result.now ≡ length (filters_of self.now.scene agent) }
+    {
+        let filters = &self.filters[agent.0 as usize];
+        filters.as_slice()
+    }
+
     fn put_row(&mut self, agent: AgentId, row: RowId, on: bool)
         requires agent { IsAgentOf self.old.scene agent }
         requires row { row.0 < length (rows_of self.old.scene agent) }

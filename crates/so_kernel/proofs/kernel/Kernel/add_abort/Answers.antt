@@ -4,13 +4,13 @@ use Rattle.so_kernel.proofs.TableLaws.{tables-abort}
 use Rattle.so_kernel.proofs.kernel.Kernel.add_abort.Goals as goal
 
 pub aborted-requires : goal.aborted-requires
-aborted-requires c = has_room c.args.entry 0 c.self.invariant (rw c.self.view_is c.requires.ready) (rw c.requires.is.1 refl)
+aborted-requires c = has_room c.args.entry 0 c.self.invariant.0 (rw c.self.view_is c.requires.ready) (rw c.requires.is.1 refl)
 
 pub push-requires : goal.push-requires
-push-requires c = has_place c.args.entry c.self.invariant (rw c.self.view_is c.requires.ready)
+push-requires c = has_place c.args.entry c.self.invariant.0 (rw c.self.view_is c.requires.ready)
 
 pub invariant_of-self : goal.invariant_of-self
 invariant_of-self c =
-    rw (c.push.ensures.entries, c.push.ensures.limit)
-    (kept_after c.args.entry c.aborted.new.self c.self.invariant (rw c.self.view_is c.requires.ready)
-    (c.aborted.ensures ∙ rw c.self.invariant.tables (sym (tables-abort c.self.inside.scene.now c.self.inside.history.limit c.self.inside.history.entries c.args.entry c.requires.is c.self.invariant.legal))))
+    let kept = kept_after c.args.entry c.aborted.new.self c.self.invariant.0 (rw c.self.view_is c.requires.ready)
+    (c.aborted.ensures ∙ rw c.self.invariant.0.tables (sym (tables-abort c.self.inside.scene.now c.self.inside.history.limit c.self.inside.history.entries c.args.entry c.requires.is c.self.invariant.0.legal))) in
+    rw (c.push.ensures.entries, c.push.ensures.limit) (kept, c.self.invariant.1)

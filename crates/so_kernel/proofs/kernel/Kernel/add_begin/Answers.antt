@@ -1,4 +1,4 @@
-use Rattle.std.proofs.Common.{◌≡◌, Some, refl, sym, ◌∙◌, subst}
+use Rattle.std.proofs.Common.{◌≡◌, Some, refl, sym, ◌∙◌, ap, subst}
 use Rattle.so_lists.proofs.EachBelow.{length-each_below}
 use Rattle.so_code.specs.Openings.{begun}
 use Rattle.so_history.specs.Order.{pick, opening_of, taking}
@@ -7,43 +7,49 @@ use Rattle.so_history.specs.Demands.{payload_of}
 use Rattle.so_history.proofs.OrderLaws.{message_picked}
 use Rattle.so_history.proofs.DemandLaws.{picked_of}
 use Rattle.so_kernel.specs.Shapes.{Core}
+use Rattle.so_kernel.specs.Gates.{is_skip}
 use Rattle.so_kernel.proofs.KeptLaws.{kept_after, has_room, has_place, begun_lane, going}
-use Rattle.so_kernel.proofs.TableLaws.{tables-begin}
+use Rattle.so_kernel.proofs.TableLaws.{tables-begin, begins_turn}
 use Rattle.so_kernel.proofs.HeldLaws.{held_begun}
 use Rattle.so_kernel.proofs.kernel.Kernel.add_begin.Goals as goal
 
 pub key-key-requires : goal.key-key-requires
 key-key-requires c =
     let P : Core → Type 0 = λ k. pick k.scene k.history c.args.lane ≡ Some c.args.demand in
-    picked_of c.self.inside.scene.now c.self.inside.history.entries c.args.lane c.args.demand c.self.invariant.scene (subst P (sym c.self.view_is) c.requires.picked)
+    picked_of c.self.inside.scene.now c.self.inside.history.entries c.args.lane c.args.demand c.self.invariant.0.scene (subst P (sym c.self.view_is) c.requires.picked)
 
 pub begun-requires-clause-room : goal.begun-requires-clause-room
-begun-requires-clause-room c = has_room c.args.entry 0 c.self.invariant (rw c.self.view_is c.requires.ready) (rw c.requires.is refl)
+begun-requires-clause-room c =
+    let Q : Core → Type 0 = λ k. c.args.entry.kind ≡ taking k.scene k.history c.args.lane c.args.demand in
+    let is = subst Q (sym c.self.view_is) c.requires.is in
+    let begins = begins_turn c.self.inside.scene.now c.self.inside.history.entries c.args.lane c.args.demand (sym (ap is_skip is) ∙ c.requires.begins) in
+    has_room c.args.entry 0 c.self.invariant.0 (rw c.self.view_is c.requires.ready) (rw (is, begins) refl)
 
 pub push-requires : goal.push-requires
-push-requires c = has_place c.args.entry c.self.invariant (rw c.self.view_is c.requires.ready)
+push-requires c = has_place c.args.entry c.self.invariant.0 (rw c.self.view_is c.requires.ready)
 
 pub begin_frame-frame-requires : goal.begin_frame-frame-requires
 begin_frame-frame-requires c =
     let P : Core → Type 0 = λ k. pick k.scene k.history c.args.lane ≡ Some c.args.demand in
-    rw (← c.self.view_is) (picked_of c.self.inside.scene.now c.self.inside.history.entries c.args.lane c.args.demand c.self.invariant.scene (subst P (sym c.self.view_is) c.requires.picked))
+    rw (← c.self.view_is) (picked_of c.self.inside.scene.now c.self.inside.history.entries c.args.lane c.args.demand c.self.invariant.0.scene (subst P (sym c.self.view_is) c.requires.picked))
 
 pub begun-requires-clause-lane : goal.begun-requires-clause-lane
 begun-requires-clause-lane c =
     let Q : Core → Type 0 = λ k. c.args.entry.kind ≡ taking k.scene k.history c.args.lane c.args.demand in
-    rw (c.self.invariant.tables, length-each_below) (begun_lane c.args.entry c.args.lane c.args.demand c.self.invariant (rw c.self.view_is c.requires.ready) (subst Q (sym c.self.view_is) c.requires.is))
+    rw (c.self.invariant.0.tables, length-each_below) (begun_lane c.args.entry c.args.lane c.args.demand c.self.invariant.0 (rw c.self.view_is c.requires.ready) (subst Q (sym c.self.view_is) c.requires.is))
 
 pub begun-requires-clause-key : goal.begun-requires-clause-key
-begun-requires-clause-key c = rw (c.self.invariant.tables, length-each_below) c.key-key.ensures.range
+begun-requires-clause-key c = rw (c.self.invariant.0.tables, length-each_below) c.key-key.ensures.range
 
 pub invariant_of-self : goal.invariant_of-self
 invariant_of-self c =
     let P : Core → Type 0 = λ k. pick k.scene k.history c.args.lane ≡ Some c.args.demand in
     let Q : Core → Type 0 = λ k. c.args.entry.kind ≡ taking k.scene k.history c.args.lane c.args.demand in
     let is = subst Q (sym c.self.view_is) c.requires.is in
-    rw (c.push.ensures.entries, c.push.ensures.limit)
-    (kept_after c.args.entry c.begun.new.self c.self.invariant (rw c.self.view_is c.requires.ready)
-    (c.begun.ensures ∙ rw (c.len.ensures.value, c.key-key.ensures.value, c.self.invariant.tables) (sym (tables-begin c.self.inside.scene.now c.self.inside.history.limit c.self.inside.history.entries c.args.entry c.args.lane c.args.demand is c.self.invariant.legal (begun_lane c.args.entry c.args.lane c.args.demand c.self.invariant (rw c.self.view_is c.requires.ready) is) (subst P (sym c.self.view_is) c.requires.picked) (going c.args.entry c.self.invariant (rw c.self.view_is c.requires.ready))))))
+    let begins = begins_turn c.self.inside.scene.now c.self.inside.history.entries c.args.lane c.args.demand (sym (ap is_skip is) ∙ c.requires.begins) in
+    let kept = kept_after c.args.entry c.begun.new.self c.self.invariant.0 (rw c.self.view_is c.requires.ready)
+    (c.begun.ensures ∙ rw (c.len.ensures.value, c.key-key.ensures.value, c.self.invariant.0.tables) (sym (tables-begin c.self.inside.scene.now c.self.inside.history.limit c.self.inside.history.entries c.args.entry c.args.lane c.args.demand (is ∙ begins) c.self.invariant.0.legal (begun_lane c.args.entry c.args.lane c.args.demand c.self.invariant.0 (rw c.self.view_is c.requires.ready) is) (subst P (sym c.self.view_is) c.requires.picked) (going c.args.entry c.self.invariant.0 (rw c.self.view_is c.requires.ready))))) in
+    rw (c.push.ensures.entries, c.push.ensures.limit) (kept, c.self.invariant.1)
 
 pub returns-clause-turn : goal.returns-clause-turn
 returns-clause-turn c =
@@ -51,5 +57,7 @@ returns-clause-turn c =
     let Q : Core → Type 0 = λ k. c.args.entry.kind ≡ taking k.scene k.history c.args.lane c.args.demand in
     let F : Core → Type 0 = λ k. c.begin_frame-frame.result ≡ begun (opening_of k.scene k.history c.args.demand) (vars k.scene k.history c.args.demand.agent) (payload_of c.args.demand.kind) in
     let frame = subst F (sym c.self.view_is) c.begin_frame-frame.ensures in
+    let is = subst Q (sym c.self.view_is) c.requires.is in
+    let begins = begins_turn c.self.inside.scene.now c.self.inside.history.entries c.args.lane c.args.demand (sym (ap is_skip is) ∙ c.requires.begins) in
     rw (c.push.ensures.entries, c.len.ensures.value, frame, ← message_picked c.self.inside.scene.now c.self.inside.history.entries c.args.lane c.args.demand (subst P (sym c.self.view_is) c.requires.picked))
-    (held_begun c.self.inside.scene.now c.self.inside.history.entries c.args.entry c.args.lane c.args.demand c.self.invariant.legal (subst Q (sym c.self.view_is) c.requires.is))
+    (held_begun c.self.inside.scene.now c.self.inside.history.entries c.args.entry c.args.lane c.args.demand c.self.invariant.0.legal (is ∙ begins))

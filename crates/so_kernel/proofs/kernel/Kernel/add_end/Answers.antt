@@ -18,43 +18,43 @@ pub key-key-requires : goal.key-key-requires
 key-key-requires c =
     let P : Core → Type 0 = λ k. HasMoved k.scene k.history c.args.turn.now Done in
     let moved : HasMoved c.self.inside.scene.now c.self.inside.history.entries c.args.turn.now Done = subst P (sym c.self.view_is) c.requires.moved in
-    held_agent c.self.inside.scene.now c.self.inside.history.entries _ c.self.invariant.scene c.self.invariant.legal moved.held
+    held_agent c.self.inside.scene.now c.self.inside.history.entries _ c.self.invariant.0.scene c.self.invariant.0.legal moved.held
 
 pub ended-requires-clause-room : goal.ended-requires-clause-room
-ended-requires-clause-room c = has_room c.args.entry 0 c.self.invariant (rw c.self.view_is c.requires.ready) (rw c.requires.is refl)
+ended-requires-clause-room c = has_room c.args.entry 0 c.self.invariant.0 (rw c.self.view_is c.requires.ready) (rw c.requires.is refl)
 
 pub push-requires : goal.push-requires
-push-requires c = has_place c.args.entry c.self.invariant (rw c.self.view_is c.requires.ready)
+push-requires c = has_place c.args.entry c.self.invariant.0 (rw c.self.view_is c.requires.ready)
 
 pub ended-requires-clause-lane : goal.ended-requires-clause-lane
 ended-requires-clause-lane c =
     let P : Core → Type 0 = λ k. HasMoved k.scene k.history c.args.turn.now Done in
     let moved : HasMoved c.self.inside.scene.now c.self.inside.history.entries c.args.turn.now Done = subst P (sym c.self.view_is) c.requires.moved in
-    let in_range : moved.held.turn.lane.0 < lanes c.self.inside.scene.now = turn_in_range c.self.inside.scene.now c.self.inside.history.entries c.args.turn.now.begun.0 moved.held.turn c.self.invariant.legal moved.held.runs in
-    rw (c.self.invariant.tables, length-each_below, ← moved.held.lane) in_range
+    let in_range : moved.held.turn.lane.0 < lanes c.self.inside.scene.now = turn_in_range c.self.inside.scene.now c.self.inside.history.entries c.args.turn.now.begun.0 moved.held.turn c.self.invariant.0.legal moved.held.runs in
+    rw (c.self.invariant.0.tables, length-each_below, ← moved.held.lane) in_range
 
 pub ended-requires-clause-key : goal.ended-requires-clause-key
-ended-requires-clause-key c = rw (c.self.invariant.tables, length-each_below) c.key-key.ensures.range
+ended-requires-clause-key c = rw (c.self.invariant.0.tables, length-each_below) c.key-key.ensures.range
 
 pub ended-requires-clause-agent : goal.ended-requires-clause-agent
 ended-requires-clause-agent c =
     let P : Core → Type 0 = λ k. HasMoved k.scene k.history c.args.turn.now Done in
     let moved : HasMoved c.self.inside.scene.now c.self.inside.history.entries c.args.turn.now Done = subst P (sym c.self.view_is) c.requires.moved in
-    rw (c.self.invariant.tables, length-each_below) (held_agent c.self.inside.scene.now c.self.inside.history.entries _ c.self.invariant.scene c.self.invariant.legal moved.held)
+    rw (c.self.invariant.0.tables, length-each_below) (held_agent c.self.inside.scene.now c.self.inside.history.entries _ c.self.invariant.0.scene c.self.invariant.0.legal moved.held)
 
 pub invariant_of-self : goal.invariant_of-self
 invariant_of-self c =
     let P : Core → Type 0 = λ k. HasMoved k.scene k.history c.args.turn.now Done in
     let moved : HasMoved c.self.inside.scene.now c.self.inside.history.entries c.args.turn.now Done = subst P (sym c.self.view_is) c.requires.moved in
-    let in_range : moved.held.turn.lane.0 < lanes c.self.inside.scene.now = turn_in_range c.self.inside.scene.now c.self.inside.history.entries c.args.turn.now.begun.0 moved.held.turn c.self.invariant.legal moved.held.runs in
+    let in_range : moved.held.turn.lane.0 < lanes c.self.inside.scene.now = turn_in_range c.self.inside.scene.now c.self.inside.history.entries c.args.turn.now.begun.0 moved.held.turn c.self.invariant.0.legal moved.held.runs in
     let whose = held_whose c.self.inside.scene.now c.self.inside.history.entries _ moved.held in
-    let known = held_agent c.self.inside.scene.now c.self.inside.history.entries _ c.self.invariant.scene c.self.invariant.legal moved.held in
+    let known = held_agent c.self.inside.scene.now c.self.inside.history.entries _ c.self.invariant.0.scene c.self.invariant.0.legal moved.held in
     let before : Course = record { agent = c.args.turn.now.agent; frame = moved.before } in
     let vars : (move_of c.self.inside.scene.now before).1.vars ≡ c.args.turn.now.frame.vars = ap (λ (p : Move × Frame). p.1.vars) moved.moves in
-    rw (c.push.ensures.entries, c.push.ensures.limit)
-    (kept_after c.args.entry c.ended.new.self c.self.invariant (rw c.self.view_is c.requires.ready)
+    let kept = kept_after c.args.entry c.ended.new.self c.self.invariant.0 (rw c.self.view_is c.requires.ready)
     (c.ended.ensures
     ∙ (ap (λ k. after_end c.args.turn.now.lane k c.args.turn.now.agent c.args.turn.now.frame.vars c.self.inside.tables) (c.key-key.ensures.value ∙ ap (key_of c.self.inside.scene.now) (sym whose))
     ∙ (ap (λ l. after_end l (key_of c.self.inside.scene.now moved.held.turn.agent) c.args.turn.now.agent c.args.turn.now.frame.vars c.self.inside.tables) (sym moved.held.lane)
     ∙ (ap (λ v. after_end moved.held.turn.lane (key_of c.self.inside.scene.now moved.held.turn.agent) c.args.turn.now.agent v c.self.inside.tables) (sym vars)
-    ∙ rw c.self.invariant.tables (sym (tables-end c.self.inside.scene.now c.self.inside.history.limit c.self.inside.history.entries c.args.entry c.args.turn.now.begun moved.held.turn before c.requires.is c.self.invariant.legal in_range moved.held.runs moved.held.course whose known (going c.args.entry c.self.invariant (rw c.self.view_is c.requires.ready)))))))))
+    ∙ rw c.self.invariant.0.tables (sym (tables-end c.self.inside.scene.now c.self.inside.history.limit c.self.inside.history.entries c.args.entry c.args.turn.now.begun moved.held.turn before c.requires.is c.self.invariant.0.legal in_range moved.held.runs moved.held.course whose known (going c.args.entry c.self.invariant.0 (rw c.self.view_is c.requires.ready)))))))) in
+    rw (c.push.ensures.entries, c.push.ensures.limit) (kept, c.self.invariant.1)

@@ -1,0 +1,26 @@
+use Rattle.std.proofs.Common.{◌≡◌, refl, sym, ◌∙◌, ap, subst}
+use Rattle.so_history.specs.Order.{taking}
+use Rattle.so_kernel.specs.Shapes.{Core}
+use Rattle.so_kernel.specs.Gates.{is_skip}
+use Rattle.so_kernel.proofs.KeptLaws.{kept_after, has_room, has_place, going}
+use Rattle.so_kernel.proofs.TableLaws.{tables-skip, skips_turn}
+use Rattle.so_kernel.proofs.kernel.Kernel.add_skip.Goals as goal
+
+pub skipped-requires : goal.skipped-requires
+skipped-requires c =
+    let Q : Core → Type 0 = λ k. c.args.entry.kind ≡ taking k.scene k.history c.args.lane c.args.demand in
+    let is = subst Q (sym c.self.view_is) c.requires.is in
+    let skips = skips_turn c.self.inside.scene.now c.self.inside.history.entries c.args.lane c.args.demand (sym (ap is_skip is) ∙ c.requires.skips) in
+    has_room c.args.entry 0 c.self.invariant.0 (rw c.self.view_is c.requires.ready) (rw (is, skips.1) refl)
+
+pub push-requires : goal.push-requires
+push-requires c = has_place c.args.entry c.self.invariant.0 (rw c.self.view_is c.requires.ready)
+
+pub invariant_of-self : goal.invariant_of-self
+invariant_of-self c =
+    let Q : Core → Type 0 = λ k. c.args.entry.kind ≡ taking k.scene k.history c.args.lane c.args.demand in
+    let is = subst Q (sym c.self.view_is) c.requires.is in
+    let skips = skips_turn c.self.inside.scene.now c.self.inside.history.entries c.args.lane c.args.demand (sym (ap is_skip is) ∙ c.requires.skips) in
+    let kept = kept_after c.args.entry c.skipped.new.self c.self.invariant.0 (rw c.self.view_is c.requires.ready)
+    (c.skipped.ensures ∙ rw c.self.invariant.0.tables (sym (tables-skip c.self.inside.scene.now c.self.inside.history.limit c.self.inside.history.entries c.args.entry c.args.lane c.args.demand skips.0 (is ∙ skips.1) c.self.invariant.0.legal (going c.args.entry c.self.invariant.0 (rw c.self.view_is c.requires.ready))))) in
+    rw (c.push.ensures.entries, c.push.ensures.limit) (kept, c.self.invariant.1)

@@ -1,0 +1,41 @@
+use Rattle.std.proofs.Common.{◌≡◌, ◌<◌, length, refl, sym, ◌∙◌, subst}
+use Rattle.so_code.specs.declared.effect.Effect.TheVariants as effect
+use Rattle.so_scene.specs.Parts.{rows_of, filters_of}
+use Rattle.so_kernel.specs.Shapes.{Core}
+use Rattle.so_kernel.specs.Gates.{IsActOf}
+use Rattle.so_kernel.proofs.KeptLaws.{kept_after, has_room, has_place, going}
+use Rattle.so_kernel.proofs.TableLaws.{tables-subscribe, cost-acted}
+use Rattle.so_kernel.proofs.kernel.Kernel.add_subscribe.Goals as goal
+
+pub subscribed-requires-clause-room : goal.subscribed-requires-clause-room
+subscribed-requires-clause-room c =
+    let A : Core → Type 0 = λ k. IsActOf k.scene k.history c.args.entry c.args.agent (effect.Subscribe c.args.row) in
+    let acts = subst A (sym c.self.view_is) c.requires.acts in
+    has_room c.args.entry 0 c.self.invariant.0 (rw c.self.view_is c.requires.ready) (cost-acted c.self.inside.scene.now c.self.inside.history.entries c.args.entry c.args.agent (effect.Subscribe c.args.row) acts refl)
+
+pub subscribed-requires-clause-agent : goal.subscribed-requires-clause-agent
+subscribed-requires-clause-agent c =
+    let K : Core → Type 0 = λ k. c.args.agent.0 < length k.scene.agents in
+    let known = subst K (sym c.self.view_is) c.requires.agent in
+    rw c.self.invariant.0.tables known
+
+pub subscribed-requires-clause-row : goal.subscribed-requires-clause-row
+subscribed-requires-clause-row c =
+    let W : Core → Type 0 = λ k. c.args.row.0 < length (rows_of k.scene c.args.agent) in
+    let within = subst W (sym c.self.view_is) c.requires.row in
+    rw c.self.invariant.0.tables within
+
+pub push-requires : goal.push-requires
+push-requires c = has_place c.args.entry c.self.invariant.0 (rw c.self.view_is c.requires.ready)
+
+pub invariant_of-self : goal.invariant_of-self
+invariant_of-self c =
+    let A : Core → Type 0 = λ k. IsActOf k.scene k.history c.args.entry c.args.agent (effect.Subscribe c.args.row) in
+    let acts = subst A (sym c.self.view_is) c.requires.acts in
+    let K : Core → Type 0 = λ k. c.args.agent.0 < length k.scene.agents in
+    let known = subst K (sym c.self.view_is) c.requires.agent in
+    let W : Core → Type 0 = λ k. c.args.row.0 < length (rows_of k.scene c.args.agent) in
+    let within = subst W (sym c.self.view_is) c.requires.row in
+    let kept = kept_after c.args.entry c.subscribed.new.self c.self.invariant.0 (rw c.self.view_is c.requires.ready)
+    (c.subscribed.ensures ∙ rw c.self.invariant.0.tables (sym (tables-subscribe c.self.inside.scene.now c.self.inside.history.limit c.self.inside.history.entries c.args.entry c.args.agent c.args.row acts c.self.invariant.0.scene known within c.self.invariant.0.legal (going c.args.entry c.self.invariant.0 (rw c.self.view_is c.requires.ready))))) in
+    rw (c.push.ensures.entries, c.push.ensures.limit) (kept, c.self.invariant.1)
