@@ -44,8 +44,9 @@ impl Outcomes {
     }
 
     /// How many there are.
-    pub(crate) fn len(&self) -> u32
-        ensures { result ≡ length self.now.queued }
+    pub fn len(&self) -> u32
+        ensures value { result ≡ length self.now.queued }
+        ensures few { length self.now.queued ≤ self.now.room }
     {
         self.queued.len() as u32
     }

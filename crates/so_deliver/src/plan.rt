@@ -20,6 +20,17 @@ pub enum Planned {
     Fits(Sent),
 }
 
+impl Planned {
+    /// What the sender is told.
+    pub fn sent(self) -> Sent
+        ensures { Fits result ≡ self }
+    {
+        match self {
+            Planned::Fits(sent) => sent,
+        }
+    }
+}
+
 /// What becomes of a message that is sent to a mbox. Each agent with an active row for the type from the mbox
 /// gets it, in order of registration, where its filter passes it. It is lost to one whose cooperation is
 /// leaving, which is so of all exactly where `closed`, and queued for the others. A message that a filter

@@ -194,7 +194,7 @@ asked_of : (s : SceneParts) (kind : DemandKind) (agents : List AgentId) (place k
 asked_of s kind [] place k a = tt
 asked_of s kind (x ∷ agents) place k a = (a.0, asked_of s kind agents place (k + 1) a.1)
 
-registered_of : (s : SceneParts) (h : List Entry) → IsScene s → AllByRecursion (λ a. a.0 < length s.agents) (registered s h)
+pub registered_of : (s : SceneParts) (h : List Entry) → IsScene s → AllByRecursion (λ a. a.0 < length s.agents) (registered s h)
 registered_of s h scene =
     elim (cases_Bool (present h)) [
       | inl y ↦ rw y (agents_in_range s the_coop scene)

@@ -1,5 +1,5 @@
 -- The effect of a turn that has moved, and its answer.
-use Rattle.std.proofs.Common.{◌≡◌, true, Some, refl, sym, ◌∙◌, ap, subst}
+use Rattle.std.proofs.Common.{◌≡◌, List, true, Some, refl, sym, ◌∙◌, ap, subst}
 use Rattle.so_code.specs.declared.effect.Answer.{Answer}
 use Rattle.so_code.specs.declared.effect.Effect.{Effect}
 use Rattle.so_code.specs.declared.effect.Move.{Move}
@@ -18,7 +18,9 @@ use Rattle.so_code.proofs.Moves.{is_running}
 use Rattle.so_scene.specs.Parts.{code_of}
 use Rattle.so_scene.specs.Checked.{IsScene}
 use Rattle.so_history.specs.Turns.{move_of}
-use Rattle.so_history.specs.Steps.{NamesEffect, answer_of, Legal}
+use Rattle.so_history.specs.Steps.{NamesEffect, answer_of, IsMove, Legal}
+use Rattle.so_history.specs.declared.entry.Entry.{Entry}
+use Rattle.so_scene.specs.declared.parts.SceneParts.{SceneParts}
 use Rattle.so_history.proofs.SoundLaws.{IsSound, agent_code, moved_waits, moved_frame, names_parts, answer_fits, course_sound}
 use Rattle.so_kernel.specs.declared.answers.Turn.{Turn}
 use Rattle.so_kernel.specs.Shapes.{Core}
@@ -84,3 +86,14 @@ fits_acts opening.Start h = tt
 fits_acts opening.Finish h = tt
 fits_acts opening.Thread h = tt
 fits_acts (opening.Time to) h = tt
+
+-- and a legal step
+pub moves_act : (s : SceneParts) (h : List Entry) (t : Turn) (e : Effect) (a : Answer) → HasMoved s h t (Do e) → answer_of s h t.agent e ≡ Some a → IsMove s h t.by t.begun.0 (Act t.begun e a)
+moves_act s h t e a moved answers = record {
+  turn = moved.held.turn;
+  runs = moved.held.runs;
+  signed = sym moved.held.by;
+  reached = record { agent = t.agent; frame = moved.before };
+  has = moved.held.course;
+  is = rw (moved.moves, answers) refl;
+}

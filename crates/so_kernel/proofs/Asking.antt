@@ -1,5 +1,5 @@
 -- What is asked of one agent more.
-use Rattle.std.proofs.Common.{◌≡◌, ℕ, zero, suc, ◌+◌, List, [], ◌∷◌, ◌++◌, length, map, take, Some, arith, refl, sym, ◌∙◌, ap, add-one, append_assoc}
+use Rattle.std.proofs.Common.{◌≡◌, ℕ, zero, suc, ◌+◌, ◌<◌, List, [], ◌∷◌, ◌++◌, length, map, take, Some, None, arith, refl, sym, ◌∙◌, ap, add-one, append_assoc}
 use Rattle.std.proofs.lemmas.List.{map-append, length-map, append-nil}
 use Rattle.std.proofs.lemmas.Option.{same_Some}
 use Rattle.std.specs.Prelude.{slice_get}
@@ -17,7 +17,7 @@ each_below-next : (f : ℕ → AgentId) (k : ℕ) → each_below f (k + 1) ≡ e
 unfolding each_below
 each_below-next f k = ap (each_below f) (add-one k)
 
-agents_from-next : (first : AgentId) (k : ℕ) → agents_from first (k + 1) ≡ agents_from first k ++ record { 0 = first.0 + k } ∷ []
+pub agents_from-next : (first : AgentId) (k : ℕ) → agents_from first (k + 1) ≡ agents_from first k ++ record { 0 = first.0 + k } ∷ []
 agents_from-next first k = each_below-next (λ i. record { 0 = first.0 + i }) k
 
 length-asked : (kind : DemandKind) (agents : List AgentId) → length (ask_each kind agents) ≡ length agents
@@ -58,7 +58,7 @@ take_next (y ∷ xs) (suc k) x here =
     let next : suc k + 1 ≡ suc (k + 1) = omega arith in
     ap (λ n. take n (y ∷ xs)) next ∙ ap (λ ys. y ∷ ys) (take_next xs k x here)
 
-length_taken : (xs : List Queued) (k : ℕ) (x : Queued) → slice_get xs k ≡ Some x → length (take k xs) ≡ k
+pub length_taken : (xs : List Queued) (k : ℕ) (x : Queued) → slice_get xs k ≡ Some x → length (take k xs) ≡ k
 length_taken [] k x here = absurd cc
 length_taken (y ∷ xs) zero x here = refl
 length_taken (y ∷ xs) (suc k) x here = ap suc (length_taken xs k x here)
@@ -76,3 +76,8 @@ events_next queue place events k q here =
     ∙ (ap (demands_from place 0) (map-append ask (take k events) (q ∷ []))
     ∙ (demands_from-append place 0 (map ask (take k events)) (map ask (q ∷ []))
     ∙ ap (λ m. demands_from place 0 (map ask (take k events)) ++ demands_from place m (map ask (q ∷ []))) n))))
+
+pub past_end : (xs : List Queued) (k : ℕ) → k < length xs → slice_get xs k ≡ None → ⊥
+past_end [] k l none = absurd (omega arith)
+past_end (x ∷ xs) zero l none = cc
+past_end (x ∷ xs) (suc k) l none = past_end xs k (omega (arith, l)) none

@@ -1,8 +1,9 @@
 pub mod KeptLaws
+pub mod Asking
 pub mod MboxLaws
 pub mod TableLaws
+pub mod CostLaws
 pub mod GateLaws
 pub mod HeldLaws
-pub mod Asking
 pub mod ActLaws
 pub mod VarLaws

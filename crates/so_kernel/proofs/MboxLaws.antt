@@ -1,5 +1,5 @@
 -- The subscriptions after one more entry.
-use Rattle.std.proofs.Common.{◌≡◌, ℕ, zero, suc, ◌+◌, ◌<◌, ◌≤◌, List, [], ◌∷◌, ◌++◌, length, take, set, get_or, map, zip, Bool, true, false, not, cond, Option, Some, None, Result, Ok, Err, arith, refl, sym, ◌∙◌, ap, subst, inl, inr, append_assoc}
+use Rattle.std.proofs.Common.{◌≡◌, ℕ, zero, suc, ◌+◌, ◌<◌, ◌≤◌, List, [], ◌∷◌, ◌++◌, length, take, set, get_or, map, zip, Bool, true, false, not, ◌||◌, cond, Option, Some, None, Result, Ok, Err, arith, refl, sym, ◌∙◌, ap, subst, inl, inr, append_assoc}
 use Rattle.std.specs.Prelude.{◌==◌, slice_set, slice_get, replicate, is_ok}
 use Rattle.std.specs.List.{filter, list_any, AllByRecursion}
 use Rattle.std.proofs.lemmas.List.{append-nil, length-set, take_more_set, take_all, set-get_or}
@@ -18,7 +18,7 @@ use Rattle.so_code.specs.declared.effect.Effect.TheVariants as effect
 use Rattle.so_lists.specs.Lists.{each_below, or_else, first_below}
 use Rattle.so_lists.proofs.EachBelow.{length-each_below, get_or-each_below, each_below-same, each_below-set, all-each_below}
 use Rattle.so_lists.proofs.First.{or_else-none, none-first_below}
-use Rattle.so_lists.proofs.Filters.{each-weaker}
+use Rattle.so_lists.proofs.Filters.{each-weaker, each-filter}
 use Rattle.so_state.specs.declared.choice.Row.{Row}
 use Rattle.so_scene.specs.declared.parts.AgentDef.{AgentDef}
 use Rattle.so_scene.specs.declared.parts.FilterDef.{FilterDef}
@@ -31,11 +31,18 @@ use Rattle.so_history.specs.declared.entry.Entry.{Entry}
 use Rattle.so_history.specs.declared.entry.EntryKind.{EntryKind}
 use Rattle.so_history.specs.declared.entry.EntryKind.TheVariants.{Register, Act, Left}
 use Rattle.so_history.specs.Places.{entry_at, beginner_at}
-use Rattle.so_history.specs.Coops.{the_coop, present}
-use Rattle.so_history.specs.Delivery.{registered, is_of, is_turn_of, no_rows, rows_by, rows_by_effect, active_rows, filters_by, filters_by_effect, active_filters}
+use Rattle.so_history.specs.Coops.{the_coop, present, leaving}
+use Rattle.so_history.specs.Delivery.{registered, is_of, is_turn_of, no_rows, rows_by, rows_by_effect, active_rows, filters_by, filters_by_effect, active_filters, receivers, delivered}
 use Rattle.so_history.specs.Steps.{yes_where, may_subscribe, is_active}
-use Rattle.so_mbox.specs.Table.{Subscriptions, nobody, none_active, all_none, all_filters_first, is_other, same_agent, after_enter, after_leave, after_subscribe, after_unsubscribe, after_set_filter, after_drop_filter}
+use Rattle.so_mbox.specs.Table.{active_rows as table_rows, active_filters as table_filters, receivers as table_receivers, passes as table_passes, Subscriptions, nobody, none_active, all_none, all_filters_first, is_other, same_agent, is_entered, after_enter, after_leave, after_subscribe, after_unsubscribe, after_set_filter, after_drop_filter}
 use Rattle.so_mbox.specs.Answers.{subscribe_answer}
+use Rattle.so_deliver.specs.Planned.{outcomes_of}
+use Rattle.so_scene.specs.Delivery.{Outcome, is_subscribed, passes_with, outcome_for, outcomes}
+use Rattle.so_ids.specs.declared.MboxId.{MboxId}
+use Rattle.so_ids.specs.declared.MsgId.{MsgId}
+use Rattle.so_ids.specs.declared.Payload.{Payload}
+use Rattle.so_history.proofs.DemandLaws.{registered_of}
+use Rattle.so_kernel.proofs.Asking.{agents_from-next}
 use Rattle.so_kernel.specs.Tables.{rows_after, filters_after, subscriptions_of, entered, departed, subscribed}
 
 -- ---- the one cooperation
@@ -77,6 +84,24 @@ scene-entered (x ∷ xs) t = scene-entered xs (after_enter x t)
 pub order-entered : (xs : List AgentId) (t : Subscriptions) → (entered xs t).order ≡ t.order ++ xs
 order-entered [] t = sym (append-nil t.order)
 order-entered (x ∷ xs) t = order-entered xs (after_enter x t) ∙ append_assoc t.order (x ∷ []) xs
+
+-- the first agents, and one more
+pub entered_none : (first : AgentId) (t : Subscriptions) → t ≡ entered (agents_from first 0) t
+unfolding each_below
+entered_none first t = refl
+
+pub entered_next : (first : AgentId) (k : ℕ) (t : Subscriptions) → after_enter (record { 0 = first.0 + k }) (entered (agents_from first k) t) ≡ entered (agents_from first (k + 1)) t
+entered_next first k t = sym (ap (λ xs. entered xs t) (agents_from-next first k) ∙ entered-append (agents_from first k) (record { 0 = first.0 + k } ∷ []) t)
+
+any_none : (p : AgentId → Bool) (xs : List AgentId) → AllByRecursion (λ x. p x ≡ false) xs → list_any p xs ≡ false
+any_none p [] all = refl
+any_none p (x ∷ xs) all = rw (all.0, any_none p xs all.1) refl
+
+pub not_entered : (first : AgentId) (k : ℕ) (t : Subscriptions) → t.order ≡ [] → is_entered (entered (agents_from first k) t) (record { 0 = first.0 + k }) ≡ false
+not_entered first k t nobody_yet =
+    ap (list_any (same_agent (record { 0 = first.0 + k }))) (order-entered (agents_from first k) t ∙ ap (λ o. o ++ agents_from first k) nobody_yet)
+    ∙ any_none (same_agent (record { 0 = first.0 + k })) (agents_from first k)
+    (all-each_below (λ (b : AgentId). same_agent (record { 0 = first.0 + k }) b ≡ false) (λ i. record { 0 = first.0 + i }) k (λ i l. ne_eqb (first.0 + k) (first.0 + i) (λ same. omega (arith, l, same))))
 
 -- what is written at each number below n, from the left on
 module _ (f : ℕ → List Bool) where
@@ -146,6 +171,13 @@ pub scene-departed : (xs : List AgentId) (t : Subscriptions) → (departed xs t)
 scene-departed [] t = refl
 scene-departed (x ∷ xs) t = scene-departed xs (after_leave x t)
 
+pub departed_none : (first : AgentId) (t : Subscriptions) → t ≡ departed (agents_from first 0) t
+unfolding each_below
+departed_none first t = refl
+
+pub departed_next : (first : AgentId) (k : ℕ) (t : Subscriptions) → after_leave (record { 0 = first.0 + k }) (departed (agents_from first k) t) ≡ departed (agents_from first (k + 1)) t
+departed_next first k t = sym (ap (λ xs. departed xs t) (agents_from-next first k) ∙ departed-append (agents_from first k) (record { 0 = first.0 + k } ∷ []) t)
+
 filters-departed : (xs : List AgentId) (t : Subscriptions) → (departed xs t).filters ≡ t.filters
 filters-departed [] t = refl
 filters-departed (x ∷ xs) t = filters-departed xs (after_leave x t)
@@ -191,9 +223,9 @@ gone-all : (xs order : List AgentId) → AllByRecursion (λ b. list_any (λ y. s
 gone-all xs [] all = gone-nil xs
 gone-all xs (b ∷ order) all = gone-among xs order b all.0 ∙ gone-all xs order all.1
 
-or_right : (a b : Bool) → b ≡ true → cond a true b ≡ true
-or_right true b e = refl
-or_right false b e = e
+or_true : (b : Bool) → (b || true) ≡ true
+or_true true = refl
+or_true false = refl
 
 any-append_left : (p : AgentId → Bool) (xs ys : List AgentId) → list_any p xs ≡ true → list_any p (xs ++ ys) ≡ true
 any-append_left p [] ys e = cc
@@ -205,7 +237,7 @@ any-append_left p (x ∷ xs) ys e =
 
 any-append_right : (p : AgentId → Bool) (xs ys : List AgentId) → list_any p ys ≡ true → list_any p (xs ++ ys) ≡ true
 any-append_right p [] ys e = e
-any-append_right p (x ∷ xs) ys e = rw (any-append_right p xs ys e) (or_right (p x) true refl)
+any-append_right p (x ∷ xs) ys e = rw (any-append_right p xs ys e) (or_true (p x))
 
 among_all : (n : ℕ) (b : AgentId) → b.0 < n → list_any (λ y. same_agent y b) (all_from n) ≡ true
 unfolding each_below
@@ -222,7 +254,7 @@ among_all (suc n) b l =
 all_below : (n : ℕ) → AllByRecursion (λ (b : AgentId). b.0 < n) (all_from n)
 all_below n = all-each_below (λ (b : AgentId). b.0 < n) (λ k. record { 0 = 0 + k }) n (λ i l. omega (arith, l))
 
-pub nobody_left : (n : ℕ) → gone (all_from n) (all_from n) ≡ []
+nobody_left : (n : ℕ) → gone (all_from n) (all_from n) ≡ []
 nobody_left n = gone-all (all_from n) (all_from n) (each-weaker (λ (b : AgentId). b.0 < n) (λ b. list_any (λ y. same_agent y b) (all_from n) ≡ true) (λ b l. among_all n b l) (all_from n) (all_below n))
 
 -- ---- the entries
@@ -233,6 +265,10 @@ mboxes-fresh s = rw (each_of_all (λ (a : AgentDef). none_active a.rows) s.agent
 
 order-same : (s : SceneParts) (h : List Entry) (e : Entry) → present (e ∷ h) ≡ present h → registered s (e ∷ h) ≡ registered s h
 order-same s h e same = ap (λ b. cond b (agents_of s the_coop) []) same
+
+same_parts : (t : Subscriptions) (s : SceneParts) (order : List AgentId) (rows filters : List (List Bool)) → t.scene ≡ s → t.order ≡ order → t.rows ≡ rows → t.filters ≡ filters →
+    record { scene = s; order = order; rows = rows; filters = filters } ≡ t
+same_parts t s order rows filters a b c d = rw (← a, ← b, ← c, ← d) refl
 
 -- after an entry that changes no subscription
 pub mboxes-same : (s : SceneParts) (h : List Entry) (e : Entry) → present (e ∷ h) ≡ present h → ((a : AgentId) (rows : List Bool) → rows_by s h e.kind a rows ≡ rows) → ((a : AgentId) (filters : List Bool) → filters_by s h e.kind a filters ≡ filters) →
@@ -263,9 +299,7 @@ mboxes-registered s h e coop scene is one absent =
     let new_order : (entered (all_from n) (subscriptions_of s h)).order ≡ all_from n = order-entered (all_from n) (subscriptions_of s h) ∙ ap (λ o. o ++ all_from n) nobody_yet in
     let order : registered s (e ∷ h) ≡ all_from n = rw is (all_agents s scene) in
     let new_scene : (entered (all_from n) (subscriptions_of s h)).scene ≡ s = scene-entered (all_from n) (subscriptions_of s h) in
-    let parts : (t : Subscriptions) → t.scene ≡ s → t.order ≡ registered s (e ∷ h) → t.rows ≡ each_below (rows_after s (e ∷ h)) n → t.filters ≡ each_below (filters_after s (e ∷ h)) n → subscriptions_of s (e ∷ h) ≡ t =
-    λ t a b c d. rw (← a, ← b, ← c, ← d) refl in
-    parts (entered (all_from n) (subscriptions_of s h)) new_scene (new_order ∙ sym order) (new_rows ∙ sym rows) (new_filters ∙ sym filters)
+    same_parts (entered (all_from n) (subscriptions_of s h)) s _ _ _ new_scene (new_order ∙ sym order) (new_rows ∙ sym rows) (new_filters ∙ sym filters)
     ∙ ap (λ xs. entered xs (subscriptions_of s h)) (sym agents)
 
 nobody_stays : (s : SceneParts) (h : List Entry) (b : Bool) → IsScene s → gone (all_from (length s.agents)) (cond b (agents_of s the_coop) []) ≡ []
@@ -284,9 +318,7 @@ mboxes-left s h e coop scene is one =
     let new_order : (departed (all_from n) (subscriptions_of s h)).order ≡ [] = order-departed (all_from n) (subscriptions_of s h) ∙ nobody_stays s h (present h) scene in
     let order : registered s (e ∷ h) ≡ [] = rw is refl in
     let new_scene : (departed (all_from n) (subscriptions_of s h)).scene ≡ s = scene-departed (all_from n) (subscriptions_of s h) in
-    let parts : (t : Subscriptions) → t.scene ≡ s → t.order ≡ registered s (e ∷ h) → t.rows ≡ each_below (rows_after s (e ∷ h)) n → t.filters ≡ each_below (filters_after s (e ∷ h)) n → subscriptions_of s (e ∷ h) ≡ t =
-    λ t a b c d. rw (← a, ← b, ← c, ← d) refl in
-    parts (departed (all_from n) (subscriptions_of s h)) new_scene (new_order ∙ sym order) (new_rows ∙ sym rows) (new_filters ∙ sym filters)
+    same_parts (departed (all_from n) (subscriptions_of s h)) s _ _ _ new_scene (new_order ∙ sym order) (new_rows ∙ sym rows) (new_filters ∙ sym filters)
     ∙ ap (λ xs. departed xs (subscriptions_of s h)) (sym agents)
 
 -- ---- the acts
@@ -374,3 +406,30 @@ no_filter_fault s a filter scene known within =
     let none = or_else-none (first_below (row_fault s a) (length (rows_of s a))) _ (scene.admitted a known) in
     let its : filter_fault s a filter.0 ≡ None = none-first_below (filter_fault s a) (length (filters_of s a)) none.1 filter.0 within in
     rw (slice_get-get_or (filters_of s a) filter.0 no_filter within) at its
+
+-- ---- the table and the history say the same of a delivery
+
+filter_each : (p q : AgentId → Bool) (xs : List AgentId) → AllByRecursion (λ x. p x ≡ q x) xs → filter p xs ≡ filter q xs
+filter_each p q [] all = refl
+filter_each p q (x ∷ xs) all = rw (all.0, filter_each p q xs all.1) refl
+
+map_each : (f g : AgentId → Outcome) (xs : List AgentId) → AllByRecursion (λ x. f x ≡ g x) xs → map f xs ≡ map g xs
+map_each f g [] all = refl
+map_each f g (x ∷ xs) all = rw (all.0, map_each f g xs all.1) refl
+
+pub rows_known : (s : SceneParts) (h : List Entry) (a : AgentId) → a.0 < length s.agents → table_rows (subscriptions_of s h) a ≡ active_rows s h a
+rows_known s h a known = get_or-each_below (rows_after s h) (length s.agents) a.0 [] known
+
+pub filters_known : (s : SceneParts) (h : List Entry) (a : AgentId) → a.0 < length s.agents → table_filters (subscriptions_of s h) a ≡ active_filters s h a
+filters_known s h a known = get_or-each_below (filters_after s h) (length s.agents) a.0 [] known
+
+pub same_delivery : (s : SceneParts) (h : List Entry) (mbox : MboxId) (msg : MsgId) (payload : Payload) → IsScene s → outcomes_of (subscriptions_of s h) (leaving h) mbox msg payload ≡ delivered s h mbox msg payload
+unfolding receivers
+same_delivery s h mbox msg payload scene =
+    let known = registered_of s h scene in
+    let reach : table_receivers (subscriptions_of s h) mbox msg ≡ receivers s h mbox msg =
+    filter_each _ _ (registered s h) (each-weaker (λ (a : AgentId). a.0 < length s.agents) _ (λ a l. ap (is_subscribed s mbox msg a) (rows_known s h a l)) (registered s h) known) in
+    ap (outcomes (table_passes (subscriptions_of s h) mbox msg payload) (λ a. leaving h) mbox msg payload) reach
+    ∙ map_each _ _ (receivers s h mbox msg)
+    (each-weaker (λ (a : AgentId). a.0 < length s.agents) _ (λ a l. ap (λ f. outcome_for (passes_with s mbox msg payload a f) (leaving h) (record { agent = a; mbox = mbox; msg = msg; payload = payload })) (filters_known s h a l)) (receivers s h mbox msg)
+    (each-filter (λ (a : AgentId). a.0 < length s.agents) _ (registered s h) known))

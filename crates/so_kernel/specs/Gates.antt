@@ -12,6 +12,7 @@ use Rattle.so_code.specs.Machine.{after}
 use Rattle.so_code.specs.Answers.{answered}
 use Rattle.so_code.specs.declared.effect.Answer.{Answer}
 use Rattle.so_code.specs.declared.effect.Answer.TheVariants.{Okay}
+use Rattle.so_code.specs.declared.effect.Answer.TheVariants as answer
 use Rattle.so_code.specs.declared.effect.FailKind.{FailKind}
 use Rattle.so_scene.specs.declared.parts.SceneParts.{SceneParts}
 use Rattle.so_scene.specs.Parts.{code_of}
@@ -112,6 +113,11 @@ answer_for k a effect = unwrap_or (answer_of k.scene k.history a effect) Okay
 
 abbrev pub act_entry : Core → Turn → Effect → Entry
 act_entry k t effect = record { by = t.by; kind = Act t.begun effect (answer_for k t.agent effect) }
+
+-- how many demands an act with this answer queues
+abbrev pub queued_by_answer : Answer → ℕ
+queued_by_answer (answer.Sent sent) = sent.queued
+queued_by_answer other = 0
 
 -- an entry is an act of an agent's turn, with the answer to its effect
 pub record IsActOf (s : SceneParts) (h : List Entry) (e : Entry) (a : AgentId) (effect : Effect) : Type 0 where

@@ -10,7 +10,7 @@ ghost use Rattle.so_history.specs.Units.{cost};
 ghost use Rattle.so_history.specs.Order.{pick, opening_of, skipped, taking};
 ghost use Rattle.so_history.specs.Steps.{finished, is_over, IsRow, IsSigner};
 ghost use Rattle.so_history.specs.Chain.{by_main, registration, tidying};
-ghost use Rattle.so_kernel.specs.Gates.{begin_by};
+ghost use Rattle.so_kernel.specs.Gates.{begin_by, queued_by_answer};
 
 use crate::kernel::Kernel;
 use so_code::Answer;
@@ -62,8 +62,8 @@ impl<'a> Kernel<'a> {
             EntryKind::Act {
                 turn: _,
                 effect: _,
-                answer: Answer::Sent(sent),
-            } => 1 + sent.queued,
+                answer,
+            } => 1 + queued_by(answer),
             _ => 1,
         }
     }
@@ -182,6 +182,16 @@ impl<'a> Kernel<'a> {
         let rows = self.scene.agent(agent).rows.as_slice();
         let active = self.tables.mboxes.active(agent);
         choose(&no_states, rows, active, StateId(0), mbox, msg)
+    }
+}
+
+/// How many demands an act with this answer queues.
+fn queued_by(answer: Answer) -> u32
+    ensures { result ≡ queued_by_answer answer }
+{
+    match answer {
+        Answer::Sent(sent) => sent.queued,
+        _ => 0,
     }
 }
 

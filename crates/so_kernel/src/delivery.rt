@@ -7,7 +7,7 @@ ghost use Rattle.so_history.specs.Steps.{NamesEffect, answer_of, yes_where, may_
 
 use crate::kernel::Kernel;
 use so_code::{Answer, Effect};
-use so_deliver::{Planned, plan_delivery};
+use so_deliver::plan_delivery;
 use so_ids::{AgentId, FilterId, MboxId, MsgId, Payload, RowId, Sent, Target};
 use so_scene::is_twice;
 
@@ -43,7 +43,7 @@ impl<'a> Kernel<'a> {
     {
         let closed = self.tables.marks.leaving;
         let target = Target::Mbox(mbox);
-        let Planned::Fits(sent) = plan_delivery(
+        let planned = plan_delivery(
             &self.tables.mboxes,
             closed,
             target,
@@ -51,7 +51,7 @@ impl<'a> Kernel<'a> {
             payload,
             &mut self.outcomes,
         );
-        sent
+        planned.sent()
     }
 
     /// Tells whether a row of the agent may become active.

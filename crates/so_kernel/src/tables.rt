@@ -224,6 +224,7 @@ impl<'a> Tables<'a> {
 
     /// After the Left of the agents from `first` on.
     pub fn left(&mut self, first: AgentId, count: u32)
+        requires agents { first.0 + count < 2 ^ 32 }
         requires range { first.0 + count ≤ length self.old.mboxes.scene.agents }
         requires room { HasRoom self.old 0 }
         ensures { self.new ≡ after_left (agents_from first count) self.old }
@@ -258,7 +259,7 @@ impl<'a> Tables<'a> {
 /// Registers the agents from `first` on, in order.
 fn enter_each(mboxes: &mut Table, first: AgentId, count: u32)
     requires range { first.0 + count ≤ length mboxes.old.scene.agents }
-    requires few { length mboxes.old.scene.agents ≤ 4096 }
+    requires numbers { first.0 + count < 2 ^ 32 }
     requires nobody { mboxes.old.order ≡ [] }
     ensures { mboxes.new ≡ entered (agents_from first count) mboxes.old }
 {
@@ -270,7 +271,7 @@ fn enter_each(mboxes: &mut Table, first: AgentId, count: u32)
 /// The agents from `first` on leave, in order.
 fn leave_each(mboxes: &mut Table, first: AgentId, count: u32)
     requires range { first.0 + count ≤ length mboxes.old.scene.agents }
-    requires few { length mboxes.old.scene.agents ≤ 4096 }
+    requires numbers { first.0 + count < 2 ^ 32 }
     ensures { mboxes.new ≡ departed (agents_from first count) mboxes.old }
 {
     for k in 0..count {

@@ -1,35 +1,42 @@
-use Rattle.std.proofs.Common.{◌≡◌, ◌+◌, ◌≤◌, length, arith, sym, ◌∙◌, ap, subst}
-use Rattle.so_code.specs.declared.effect.Effect.TheVariants.{Send}
-use Rattle.so_code.specs.declared.effect.Answer.{Answer}
-use Rattle.so_ids.specs.declared.Place.{Place}
-use Rattle.so_history.specs.declared.entry.EntryKind.TheVariants.{Act}
-use Rattle.so_scene.specs.Parts.{agents_from}
-use Rattle.so_history.specs.Demands.{ask_each, asked_by_effect}
+use Rattle.std.proofs.Common.{◌≡◌, ◌+◌, ◌<◌, ◌≤◌, length, map, refl, sym, ◌∙◌, ap, subst}
+use Rattle.so_code.specs.declared.effect.Effect.TheVariants as effect
+use Rattle.so_ids.specs.declared.Queued.{Queued}
+use Rattle.so_ids.specs.declared.Target.TheVariants.{Mbox}
+use Rattle.so_scene.specs.Parts.{mboxes}
+use Rattle.so_scene.specs.Delivery.{events}
+use Rattle.so_history.specs.Delivery.{delivered}
+use Rattle.so_history.specs.Demands.{ask}
+use Rattle.so_deliver.specs.Planned.{OutcomeTable}
 use Rattle.so_kernel.specs.Shapes.{Core}
+use Rattle.so_kernel.specs.Gates.{IsActOf}
+use Rattle.so_kernel.specs.Tables.{queued}
 use Rattle.so_kernel.proofs.KeptLaws.{kept_after, has_room, has_place, going}
+use Rattle.so_kernel.proofs.MboxLaws.{same_delivery}
 use Rattle.so_kernel.proofs.TableLaws.{tables-send, cost-sent}
 use Rattle.so_kernel.proofs.kernel.Kernel.add_send.Goals as goal
 
-pub sent-requires-clause-agents : goal.sent-requires-clause-agents
-sent-requires-clause-agents c =
-    let A : Core → Type 0 = λ k. c.asked_by-asks.result.agents.first.0 + c.asked_by-asks.result.agents.count ≤ length k.scene.agents in
-    omega (arith, subst A (sym c.self.view_is) c.asked_by-asks.ensures.range, c.self.invariant.0.scene.few_agents)
-
-pub sent-requires-clause-room : goal.sent-requires-clause-room
-sent-requires-clause-room c =
-    let A : Core → Type 0 = λ k. ask_each c.asked_by-asks.result.kind (agents_from c.asked_by-asks.result.agents.first c.asked_by-asks.result.agents.count) ≡ asked_by_effect k.scene k.history c.args.effect in
-    has_room c.args.entry _ c.self.invariant.0 (rw c.self.view_is c.requires.ready)
-    (cost-sent c.self.inside.scene.now c.self.inside.history.entries c.args.entry c.args.effect c.requires.is _ _ _ (subst A (sym c.self.view_is) c.asked_by-asks.ensures.value))
+pub delivered-requires : goal.delivered-requires
+delivered-requires c =
+    let A : Core → Type 0 = λ k. IsActOf k.scene k.history c.args.entry c.args.agent (effect.Send (Mbox c.args.mbox) c.args.msg c.args.payload) in
+    let acts = subst A (sym c.self.view_is) c.requires.acts in
+    let planned : c.plan_delivery-planned.new.outcomes.queued ≡ events (delivered c.self.inside.scene.now c.self.inside.history.entries c.args.mbox c.args.msg c.args.payload) =
+    ap (λ (o : OutcomeTable). o.queued) c.plan_delivery-planned.ensures.events ∙ rw c.self.invariant.0.tables (ap events (same_delivery c.self.inside.scene.now c.self.inside.history.entries c.args.mbox c.args.msg c.args.payload c.self.invariant.0.scene)) in
+    has_room c.args.entry (length c.plan_delivery-planned.new.outcomes.queued) c.self.invariant.0 (rw c.self.view_is c.requires.ready)
+    (rw (acts.is, planned) (ap (λ n. 1 + n) (cost-sent c.self.inside.scene.now c.self.inside.history.entries acts.turn c.args.mbox c.args.msg c.args.payload acts.answer)))
 
 pub push-requires : goal.push-requires
 push-requires c = has_place c.args.entry c.self.invariant.0 (rw c.self.view_is c.requires.ready)
 
 pub invariant_of-self : goal.invariant_of-self
 invariant_of-self c =
-    let A : Core → Type 0 = λ k. ask_each c.asked_by-asks.result.kind (agents_from c.asked_by-asks.result.agents.first c.asked_by-asks.result.agents.count) ≡ asked_by_effect k.scene k.history c.args.effect in
-    let asked = subst A (sym c.self.view_is) c.asked_by-asks.ensures.value ∙ ap (asked_by_effect c.self.inside.scene.now c.self.inside.history.entries) c.requires.sends.3 in
-    let is : (turn : Place) × (answer : Answer) × (c.args.entry.kind ≡ Act turn (Send c.requires.sends.0 c.requires.sends.1 c.requires.sends.2) answer) = (c.requires.is.0, c.requires.is.1, rw (← c.requires.sends.3) c.requires.is.2) in
-    rw (c.push.ensures.entries, c.push.ensures.limit)
-    (kept_after c.args.entry c.sent.new.self c.self.invariant.0 (rw c.self.view_is c.requires.ready)
-    (c.sent.ensures ∙ rw (c.len.ensures.value, asked, c.self.invariant.0.tables)
-    (sym (tables-send c.self.inside.scene.now c.self.inside.history.limit c.self.inside.history.entries c.args.entry c.requires.sends.0 c.requires.sends.1 c.requires.sends.2 is c.self.invariant.0.legal (going c.args.entry c.self.invariant.0 (rw c.self.view_is c.requires.ready))))))
+    let A : Core → Type 0 = λ k. IsActOf k.scene k.history c.args.entry c.args.agent (effect.Send (Mbox c.args.mbox) c.args.msg c.args.payload) in
+    let acts = subst A (sym c.self.view_is) c.requires.acts in
+    let K : Core → Type 0 = λ k. c.args.agent.0 < length k.scene.agents in
+    let known = subst K (sym c.self.view_is) c.requires.agent in
+    let planned : c.plan_delivery-planned.new.outcomes.queued ≡ events (delivered c.self.inside.scene.now c.self.inside.history.entries c.args.mbox c.args.msg c.args.payload) =
+    ap (λ (o : OutcomeTable). o.queued) c.plan_delivery-planned.ensures.events ∙ rw c.self.invariant.0.tables (ap events (same_delivery c.self.inside.scene.now c.self.inside.history.entries c.args.mbox c.args.msg c.args.payload c.self.invariant.0.scene)) in
+    let room = ap (λ (o : OutcomeTable). o.room) c.plan_delivery-planned.ensures.events in
+    let kept = kept_after c.args.entry c.delivered.new.self c.self.invariant.0 (rw c.self.view_is c.requires.ready)
+    (c.delivered.ensures ∙ rw (c.len.ensures.value, planned, c.self.invariant.0.tables)
+    (sym (tables-send c.self.inside.scene.now c.self.inside.history.limit c.self.inside.history.entries c.args.entry c.args.agent c.args.mbox c.args.msg c.args.payload acts known c.self.invariant.0.legal (going c.args.entry c.self.invariant.0 (rw c.self.view_is c.requires.ready))))) in
+    rw (c.push.ensures.entries, c.push.ensures.limit, room) (kept, c.self.invariant.1)
