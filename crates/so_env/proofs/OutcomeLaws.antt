@@ -1,7 +1,7 @@
 -- The outcome of a simulation from what its parts ensure.
 use Rattle.std.proofs.Common.{◌≡◌, ℕ, List, Bool, Option, sym, ◌∙◌, subst}
 use Rattle.so_scene.specs.declared.parts.SceneParts.{SceneParts}
-use Rattle.so_scene.specs.Parts.{IsScene}
+use Rattle.so_scene.specs.Checked.{IsScene}
 use Rattle.so_history.specs.declared.entry.Entry.{Entry}
 use Rattle.so_history.specs.declared.lines.Mode.{Mode}
 use Rattle.so_history.specs.Steps.{Legal}

@@ -5,7 +5,7 @@ use Rattle.so_ids.specs.declared.LaneId.{LaneId}
 use Rattle.so_lists.specs.Lists.{or_else}
 use Rattle.so_scene.specs.Lanes.{lanes}
 use Rattle.so_history.specs.declared.entry.Entry.{Entry}
-use Rattle.so_history.specs.Chain.{begin_entry, lane_entry, first}
+use Rattle.so_history.specs.Chain.{taking_entry, lane_entry, first}
 use Rattle.so_history.specs.Coops.{aborted}
 use Rattle.so_history.proofs.ChainLaws.{first-free}
 use Rattle.so_kernel.specs.Shapes.{Core}
@@ -42,23 +42,23 @@ first_of k l a b answer other s =
     record { answer_is = s.answer_is ∙ ap stepped (sym same); after = s.after ∙ ap (core_after k) (sym same) }
 
 -- a lane on which no turn runs begins one
-pub begins : (k l : Core) (lane : LaneId) (answer : Stepped) → NoneRuns k → lane.0 < lanes k.scene → Steps k l (lane_entry k.scene k.history lane) answer → Steps k l (begin_entry k.scene k.history lane) answer
+pub begins : (k l : Core) (lane : LaneId) (answer : Stepped) → NoneRuns k → lane.0 < lanes k.scene → Steps k l (lane_entry k.scene k.history lane) answer → Steps k l (taking_entry k.scene k.history lane) answer
 begins k l lane answer free in_range s =
     let same = lane_free k lane (λ going. free going lane.0 in_range) in
     record { answer_is = s.answer_is ∙ ap stepped same; after = s.after ∙ ap (core_after k) same }
 
 -- the first lane that says something
-pub first_lane : (k l : Core) (lane : ℕ) (answer : Stepped) → lane < lanes k.scene → gated k (lanes_entry k lane) ≡ Err Nothing → (answer ≡ NothingStep → ⊥) → Steps k l (begin_entry k.scene k.history (record { 0 = lane })) answer → Steps k l (lanes_entry k (lanes k.scene)) answer
+pub first_lane : (k l : Core) (lane : ℕ) (answer : Stepped) → lane < lanes k.scene → gated k (lanes_entry k lane) ≡ Err Nothing → (answer ≡ NothingStep → ⊥) → Steps k l (taking_entry k.scene k.history (record { 0 = lane })) answer → Steps k l (lanes_entry k (lanes k.scene)) answer
 first_lane k l lane answer in_range none other s =
-    let same = below-other k (λ i. begin_entry k.scene k.history (record { 0 = i })) (lanes k.scene) lane in_range none (λ n. other (s.answer_is ∙ n)) in
+    let same = below-other k (λ i. taking_entry k.scene k.history (record { 0 = i })) (lanes k.scene) lane in_range none (λ n. other (s.answer_is ∙ n)) in
     record { answer_is = s.answer_is ∙ ap stepped (sym same); after = s.after ∙ ap (core_after k) (sym same) }
 
 -- one lane more that says Nothing
-pub one_more : (k l : Core) (lane : ℕ) → gated k (lanes_entry k lane) ≡ Err Nothing → Steps k l (begin_entry k.scene k.history (record { 0 = lane })) NothingStep → gated k (lanes_entry k (lane + 1)) ≡ Err Nothing
+pub one_more : (k l : Core) (lane : ℕ) → gated k (lanes_entry k lane) ≡ Err Nothing → Steps k l (taking_entry k.scene k.history (record { 0 = lane })) NothingStep → gated k (lanes_entry k (lane + 1)) ≡ Err Nothing
 one_more k l lane none s =
     let before : lanes_entry k lane ≡ None = nothing_gated k (lanes_entry k lane) none in
-    let here : gated k (begin_entry k.scene k.history (record { 0 = lane })) ≡ Err Nothing = nothing_is _ (sym s.answer_is) in
-    let next : lanes_entry k (lane + 1) ≡ begin_entry k.scene k.history (record { 0 = lane }) = ap (lanes_entry k) (add-one lane) ∙ ap (λ o. or_else o (begin_entry k.scene k.history (record { 0 = lane }))) before in
+    let here : gated k (taking_entry k.scene k.history (record { 0 = lane })) ≡ Err Nothing = nothing_is _ (sym s.answer_is) in
+    let next : lanes_entry k (lane + 1) ≡ taking_entry k.scene k.history (record { 0 = lane }) = ap (lanes_entry k) (add-one lane) ∙ ap (λ o. or_else o (taking_entry k.scene k.history (record { 0 = lane }))) before in
     ap (gated k) next ∙ here
 
 -- the first step where no turn is in hand

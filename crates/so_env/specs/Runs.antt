@@ -6,7 +6,7 @@ use Rattle.so_scene.specs.Lanes.{lanes}
 use Rattle.so_history.specs.declared.entry.Entry.{Entry}
 use Rattle.so_history.specs.Turns.{running_at, lane_number}
 use Rattle.so_history.specs.Coops.{aborted}
-use Rattle.so_history.specs.Chain.{registration, tidying, begin_entry, FollowsFirst}
+use Rattle.so_history.specs.Chain.{registration, tidying, taking_entry, FollowsFirst}
 use Rattle.so_kernel.specs.Shapes.{Core}
 use Rattle.so_kernel.specs.Held.{AreHeld}
 use Rattle.so_kernel.specs.declared.answers.Turn.{Turn}
@@ -19,11 +19,11 @@ NoneBelow ts n = (l : ℕ) → l < n → slice_index_or ts l None ≡ None
 abbrev pub NoneRuns : Core → Type 0
 NoneRuns k = aborted k.history ≡ false → (l : ℕ) → l < lanes k.scene → running_at lane_number k.history l ≡ []
 
--- the first Begin of the first n lanes
+-- what the first of n lanes takes
 abbrev pub lanes_entry : Core → ℕ → Option Entry
-lanes_entry k n = first_below (λ l. begin_entry k.scene k.history (record { 0 = l })) n
+lanes_entry k n = first_below (λ l. taking_entry k.scene k.history (record { 0 = l })) n
 
--- what is to be tidied, else the first Begin
+-- what is to be tidied, else the first demand that is taken
 abbrev pub tidy_first : Core → Option Entry
 tidy_first k = or_else (tidying k.scene k.history) (lanes_entry k (lanes k.scene))
 

@@ -53,7 +53,7 @@ fn step_free(kernel: &mut Kernel, turns: &mut Turns) -> Stepped
     }
 }
 
-/// Tidies, or makes the first Begin.
+/// Tidies, or takes the first demand.
 fn step_tidy(kernel: &mut Kernel, turns: &mut Turns) -> Stepped
     requires held { AreHeld kernel.old turns.old }
     requires free { NoneRuns kernel.old }
@@ -67,7 +67,7 @@ fn step_tidy(kernel: &mut Kernel, turns: &mut Turns) -> Stepped
     }
 }
 
-/// Makes the first Begin of a lane.
+/// Takes the first demand that a lane may take.
 fn step_lanes(kernel: &mut Kernel, turns: &mut Turns) -> Stepped
     requires held { AreHeld kernel.old turns.old }
     requires free { NoneRuns kernel.old }

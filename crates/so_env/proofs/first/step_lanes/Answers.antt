@@ -1,6 +1,6 @@
 use Rattle.std.proofs.Common.{◌≡◌, ◌<◌, ◌+◌, ◌∙◌, sym, ap, Err, subst}
 use Rattle.so_scene.specs.Lanes.{lanes}
-use Rattle.so_history.specs.Chain.{begin_entry, lane_entry}
+use Rattle.so_history.specs.Chain.{taking_entry, lane_entry}
 use Rattle.so_kernel.specs.Shapes.{Core}
 use Rattle.so_kernel.specs.Gates.{gated}
 use Rattle.so_kernel.specs.declared.answers.Refused.TheVariants.{Nothing}
@@ -29,6 +29,6 @@ loop-lane-preserved c =
     let Q : Core → Type 0 = λ x. Steps x c.step.new.kernel (lane_entry x.scene x.history (record { 0 = c.loop-lane.lane })) NothingStep in
     let made = subst Q c.loop-lane.invariant.0 record { answer_is = sym c.in-Nothing.is ∙ c.step.ensures.answer; after = c.step.ensures.after } in
     let begun = begins k c.step.new.kernel (record { 0 = c.loop-lane.lane }) NothingStep c.requires.free below made in
-    let same : c.step.new.kernel ≡ k = unchanged k c.step.new.kernel (begin_entry k.scene k.history (record { 0 = c.loop-lane.lane })) begun in
+    let same : c.step.new.kernel ≡ k = unchanged k c.step.new.kernel (taking_entry k.scene k.history (record { 0 = c.loop-lane.lane })) begun in
     let R : Core → Type 0 = λ x. gated x (lanes_entry x (c.loop-lane.lane + 1)) ≡ Err Nothing in
     (same, c.step.ensures.held, subst R (sym same) (one_more k c.step.new.kernel c.loop-lane.lane (subst P c.loop-lane.invariant.0 c.loop-lane.invariant.2) begun))
