@@ -76,42 +76,48 @@ module _ (code : List Instr) (places : HasPlaces code) where
       let there : Some (after code f) ≡ Some (move, g) = sym here ∙ ap (go_on (first_move (steps code) code)) e in
       cc
 
--- what a move tells, where o is the opening of its frame
-pub record MoveTold (code : List Instr) (o : Opening) (r : Move × Frame) : Type 0 where
+-- what a move of a frame tells
+pub record MoveTold (code : List Instr) (before : Frame) (r : Move × Frame) : Type 0 where
   pub waits : (e : Effect) → r.0 ≡ Do e → r.1.todo ≡ todo.Wait e
   pub comes : (e : Effect) → r.0 ≡ Do e → Origin code e r.1
-  pub opening : r.1.opening ≡ o
+  pub opening : r.1.opening ≡ before.opening
+  pub plan : r.1.plan ≡ before.plan
 
 module _ (code : List Instr) (places : HasPlaces code) where
-  told_by : (n b : ℕ) (o : Opening) (s : Step) (r : Move × Frame) → Kept code b s → Told code o s → ((h : Frame) → IsFrame code h → first_move n code h ≡ Some r → MoveTold code h.opening r) → go_on (first_move n code) s ≡ Some r → MoveTold code o r
-  told_by n b o (None, h) r kept told more e = subst (λ (x : Opening). MoveTold code x r) told.opening (more h kept.frame e)
-  told_by n b o (Some m, h) r kept told more e =
+  told_by : (n b : ℕ) (before : Frame) (s : Step) (r : Move × Frame) → Kept code b s → Told code before s → ((h : Frame) → IsFrame code h → first_move n code h ≡ Some r → MoveTold code h r) → go_on (first_move n code) s ≡ Some r → MoveTold code before r
+  told_by n b before (None, h) r kept told more e =
+      let it = more h kept.frame e in
+      record { waits = it.waits; comes = it.comes; opening = it.opening ∙ told.opening; plan = it.plan ∙ told.plan }
+  told_by n b before (Some m, h) r kept told more e =
       let made : Some (m, h) ≡ Some r = e in
       let same : (m, h) ≡ r = cc in
-      let here : MoveTold code o (m, h) = record { waits = λ x asks. told.waits x (ap Some asks); comes = λ x asks. told.comes x (ap Some asks); opening = told.opening } in
-      subst (λ (x : Move × Frame). MoveTold code o x) same here
+      let here : MoveTold code before (m, h) = record { waits = λ x asks. told.waits x (ap Some asks); comes = λ x asks. told.comes x (ap Some asks); opening = told.opening; plan = told.plan } in
+      subst (λ (x : Move × Frame). MoveTold code before x) same here
 
-  first_told : (n : ℕ) (f : Frame) (r : Move × Frame) → IsFrame code f → first_move n code f ≡ Some r → MoveTold code f.opening r
+  first_told : (n : ℕ) (f : Frame) (r : Move × Frame) → IsFrame code f → first_move n code f ≡ Some r → MoveTold code f r
   first_told zero f r frame e = let wrong : None ≡ Some r = e in absurd cc
-  first_told (suc n) f r frame e = told_by n (budget code f) f.opening (step code f) r (step_keeps code places f frame) (step_told code f frame) (λ h kept further. first_told n h r kept further) e
+  first_told (suc n) f r frame e = told_by n (budget code f) f (step code f) r (step_keeps code places f frame) (step_told code f frame) (λ h kept further. first_told n h r kept further) e
 
   -- an effect leaves the frame waiting for its answer, and comes from an act of the code, a switch or a receive; the
-  -- opening stays
-  pub after_told_of : (f : Frame) → IsFrame code f → MoveTold code f.opening (after code f)
+  -- opening and the plan stay
+  pub after_told_of : (f : Frame) → IsFrame code f → MoveTold code f (after code f)
   after_told_of f frame = first_told (steps code) f (after code f) frame (after_comes code places f frame)
 
   pub after_waits : (f g : Frame) (e : Effect) → IsFrame code f → after code f ≡ (Do e, g) → g.todo ≡ todo.Wait e
   after_waits f g e frame m =
-      let told : MoveTold code f.opening (Do e, g) = subst (λ (x : Move × Frame). MoveTold code f.opening x) m (after_told_of f frame) in
+      let told : MoveTold code f (Do e, g) = subst (λ (x : Move × Frame). MoveTold code f x) m (after_told_of f frame) in
       told.waits e refl
 
   pub comes : (f g : Frame) (e : Effect) → IsFrame code f → after code f ≡ (Do e, g) → Origin code e g
   comes f g e frame m =
-      let told : MoveTold code f.opening (Do e, g) = subst (λ (x : Move × Frame). MoveTold code f.opening x) m (after_told_of f frame) in
+      let told : MoveTold code f (Do e, g) = subst (λ (x : Move × Frame). MoveTold code f x) m (after_told_of f frame) in
       told.comes e refl
 
   pub after_opening : (f : Frame) → IsFrame code f → (after code f).1.opening ≡ f.opening
   after_opening f frame = (after_told_of f frame).opening
+
+  pub after_plan : (f : Frame) → IsFrame code f → (after code f).1.plan ≡ f.plan
+  after_plan f frame = (after_told_of f frame).plan
 
 -- after i steps without a move, which are not all
 pub record IsOnItsWay (code : List Instr) (first : Frame) (i : ℕ) (f : Frame) : Type 0 where

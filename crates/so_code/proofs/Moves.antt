@@ -3,6 +3,7 @@ use Rattle.std.proofs.Common.{◌≡◌, ℕ, ◌<◌, Bool, true, false, List, 
 use Rattle.std.specs.Prelude.{if◌then◌else◌}
 use Rattle.std.proofs.lemmas.Option.{slice_get_within}
 use Rattle.so_ids.specs.declared.Opening.{Opening}
+use Rattle.so_ids.specs.declared.Plan.{Plan}
 use Rattle.so_ids.specs.declared.Opening.TheVariants as opening
 use Rattle.so_ids.specs.declared.Chosen.{Chosen}
 use Rattle.so_ids.specs.declared.Chosen.TheVariants as chosen
@@ -53,6 +54,9 @@ module _ (code : List Instr) (is_code : IsCode code) where
 
   pub after_opening : (f : Frame) → IsFrame code f → (after code f).1.opening ≡ f.opening
   after_opening f frame = law.after_opening code (places-code code is_code) f frame
+
+  pub after_plan : (f : Frame) → IsFrame code f → (after code f).1.plan ≡ f.plan
+  after_plan f frame = law.after_plan code (places-code code is_code) f frame
 
   -- after an effect the frame waits for its answer
   pub after_waits : (f g : Frame) (e : Effect) → IsFrame code f → after code f ≡ (Do e, g) → g.todo ≡ todo.Wait e
@@ -182,3 +186,89 @@ answered_in_opening other a f waits = keeps refl
 -- only the answer to a choice changes it
 pub answered_opening : (a : Answer) (f : Frame) → OpeningAfter a f (answered a f)
 answered_opening a f = answered_in_opening f.todo a f refl
+
+-- ---- a plan
+
+-- what an answer makes of the plan
+pub data PlanAfter (a : Answer) (f g : Frame) : Type 0 where
+  same : g.plan ≡ f.plan → PlanAfter a f g
+  plans : (plan : Plan) → a ≡ answer.Planned plan → g.plan ≡ plan → PlanAfter a f g
+
+module _ (f : Frame) where
+  said_plan : (a : Answer) → (said a f).plan ≡ f.plan
+  said_plan answer.Yes = refl
+  said_plan other = refl
+
+  armed_plan : (a : Answer) → (armed a f).plan ≡ f.plan
+  armed_plan (answer.Armed timer) = refl
+  armed_plan other = refl
+
+  put_plan : (p : Put) → (put_done p f).plan ≡ f.plan
+  put_plan put_is.Throw = refl
+  put_plan put_is.Stored = refl
+  put_plan put_is.RemovedOld = refl
+  put_plan other = refl
+
+  sent_plan : (a : Answer) → (sent a f).plan ≡ f.plan
+  sent_plan (answer.Put p) = put_plan p
+  sent_plan (answer.Sent s) = refl
+  sent_plan other = refl
+
+  subscribed_plan : (a : Answer) → (subscribed a f).plan ≡ f.plan
+  subscribed_plan answer.Yes = refl
+  subscribed_plan other = refl
+
+  registered_plan : (a : Answer) → (registered a f).plan ≡ f.plan
+  registered_plan (answer.Refused cause) = refl
+  registered_plan other = refl
+
+  landed_plan : (b : Option ℕ) (o : Opening) → (landed b o f).plan ≡ f.plan
+  landed_plan (Some place) o = refl
+  landed_plan None (opening.Event (chosen.Transfer from to)) = refl
+  landed_plan None (opening.Event other) = refl
+  landed_plan None other = refl
+
+  took_plan : (a : Answer) → (took a f).plan ≡ f.plan
+  took_plan (answer.Got case msg payload) = refl
+  took_plan (answer.Ended why) = refl
+  took_plan other = refl
+
+switched_plan : (a : Answer) (f : Frame) → PlanAfter a f (switched a f)
+switched_plan (answer.Planned plan) f = plans plan refl refl
+switched_plan other f = same (landed_plan f f.back f.opening)
+
+transfer_plan : (b : Bool) (x y : Frame) (p : Plan) → x.plan ≡ p → y.plan ≡ p → (if b then x else y).plan ≡ p
+transfer_plan true x y p a b = a
+transfer_plan false x y p a b = b
+
+chose_plan : (c : Chosen) (f : Frame) → (chose c f).plan ≡ f.plan
+chose_plan (chosen.Transfer from to) f = transfer_plan (has_transferred f from) _ _ f.plan refl refl
+chose_plan other f = refl
+
+chosen_plan : (a : Answer) (f : Frame) → (chosen_by a f).plan ≡ f.plan
+chosen_plan (answer.Chose c) f = chose_plan c (record f { opening = opening.Event c })
+chosen_plan other f = refl
+
+answered_to_plan : (e : Effect) (a : Answer) (f : Frame) → PlanAfter a f (answered_to e a f)
+answered_to_plan (effect.Log text payload) a f = same refl
+answered_to_plan (effect.Send target msg payload) a f = same (sent_plan f a)
+answered_to_plan (effect.Delayed target msg payload ms) a f = same (armed_plan f a)
+answered_to_plan (effect.Timer slot target msg payload ms period) a f = same (armed_plan f a)
+answered_to_plan (effect.Switch to) a f = switched_plan a f
+answered_to_plan (effect.SetState leaf) a f = same refl
+answered_to_plan effect.Choose a f = same (chosen_plan a f)
+answered_to_plan (effect.Subscribe row) a f = same (subscribed_plan f a)
+answered_to_plan (effect.Register coop) a f = same (registered_plan f a)
+answered_to_plan effect.Stop a f = same refl
+answered_to_plan (effect.Close chain keep) a f = same refl
+answered_to_plan (effect.Receive place) a f = same refl
+answered_to_plan (effect.Take place) a f = same (took_plan f a)
+answered_to_plan other a f = same (said_plan f a)
+
+answered_in_plan : (t : Todo) (a : Answer) (f : Frame) → PlanAfter a f (answered_in t a f)
+answered_in_plan (todo.Wait e) a f = answered_to_plan e a f
+answered_in_plan other a f = same refl
+
+-- only the answer to a switch changes it
+pub answered_plan : (a : Answer) (f : Frame) → PlanAfter a f (answered a f)
+answered_plan a f = answered_in_plan f.todo a f

@@ -21,5 +21,5 @@ loop-step-preserved c = goes_on_way c.args.code.now c.requires.code c.args.frame
 pub returns-in-Some-clause-waits : goal.returns-in-Some-clause-waits
 returns-in-Some-clause-waits c =
     let e : (Some c.in-Some.found, c.step.new.self) ≡ step c.args.code.now c.loop-step.frame = rw (← c.in-Some.is) c.step.ensures in
-    let told : Told c.args.code.now c.loop-step.frame.opening (Some c.in-Some.found, c.step.new.self) = rw e (step_told c.args.code.now c.loop-step.frame c.loop-step.invariant.frame) in
+    let told : Told c.args.code.now c.loop-step.frame (Some c.in-Some.found, c.step.new.self) = rw e (step_told c.args.code.now c.loop-step.frame c.loop-step.invariant.frame) in
     λ asked m. told.waits asked (ap Some m)
