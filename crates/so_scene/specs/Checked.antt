@@ -1,5 +1,5 @@
 -- What a checked scene keeps.
-use Rattle.std.specs.Prelude.{◌≡◌, ℕ, zero, suc, ◌<◌, ◌≤◌, List, [], ◌∷◌, length, map, slice_index_or, bytes_eq, false, true, Option, Some, None, is_some}
+use Rattle.std.specs.Prelude.{◌≡◌, ℕ, suc, ◌<◌, ◌≤◌, List, [], ◌∷◌, length, map, slice_index_or, bytes_eq, Bool, false, true, if◌then◌else◌, Option, Some, None, is_some}
 use Rattle.std.specs.List.{All, IsDistinct}
 use Rattle.so_ids.specs.declared.AgentId.{AgentId}
 use Rattle.so_ids.specs.declared.RowId.{RowId}
@@ -13,18 +13,23 @@ use Rattle.so_scene.specs.declared.parts.CoopDef.{CoopDef}
 use Rattle.so_scene.specs.declared.parts.FilterDef.{FilterDef}
 use Rattle.so_state.specs.declared.choice.Row.{Row}
 use Rattle.so_state.specs.declared.choice.RowKind.{RowKind}
-use Rattle.so_state.specs.declared.choice.RowKind.TheVariants.{Run, Dead}
+use Rattle.so_state.specs.declared.choice.RowKind.TheVariants.{Run, Switch, Transfer, Suppress, Dead}
+use Rattle.so_state.specs.declared.states.State.{State}
+use Rattle.so_state.specs.Fault.{IsTree}
+use Rattle.so_ids.specs.declared.StateId.{StateId}
 use Rattle.so_state.specs.States.{default_state}
 use Rattle.so_scene.specs.declared.parts.AgentDef.{AgentDef}
 use Rattle.so_scene.specs.declared.parts.SceneParts.{SceneParts}
 use Rattle.so_scene.specs.Parts.{message_name, mbox_names, mboxes}
 use Rattle.so_scene.specs.Definition.{definition_fault}
 
--- what an agent's acts may name: so many mboxes, messages and texts, and its rows and filters, each with its id or without
+-- what an agent's acts may name: so many mboxes, messages, texts and declared states, and its rows and filters, each with its
+-- id or without
 pub record Named : Type 0 where
   pub mboxes : ℕ
   pub messages : ℕ
   pub texts : ℕ
+  pub states : ℕ
   pub rows : List (Option (List ℕ))
   pub filters : List (Option (List ℕ))
 
@@ -48,6 +53,7 @@ NamesWithin n (instr.Skip count) = Unit {0}
 NamesWithin n (instr.Throw a) = Unit {0}
 NamesWithin n (instr.Log text args) = text.0 < n.texts
 NamesWithin n (instr.Send target msg args) = IsTarget n.mboxes target × (msg.0 < n.messages)
+NamesWithin n (instr.Switch to) = to.0 ≤ n.states
 NamesWithin n (instr.Subscribe row) = HasId n.rows row.0
 NamesWithin n (instr.Unsubscribe row) = HasId n.rows row.0
 NamesWithin n (instr.SetFilter filter) = HasId n.filters filter.0
@@ -65,7 +71,7 @@ filter_ids a = map filter_id a.filters
 
 -- what the acts of this agent may name
 abbrev pub named_by : SceneParts → AgentDef → Named
-named_by s a = record { mboxes = mboxes s; messages = length s.messages; texts = length s.texts; rows = a.row_ids; filters = filter_ids a }
+named_by s a = record { mboxes = mboxes s; messages = length s.messages; texts = length s.texts; states = length a.tree; rows = a.row_ids; filters = filter_ids a }
 
 abbrev pub NamesParts : SceneParts → AgentDef → Instr → Type 0
 NamesParts s a i = NamesWithin (named_by s a) i
@@ -79,27 +85,39 @@ pub record IsCoop (s : SceneParts) (c : CoopDef) : Type 0 where
 abbrev pub row_number : ℕ → RowId
 row_number k = record { 0 = k }
 
--- the numbers of n rows, from k on
-abbrev pub numbers_from : ℕ → ℕ → List RowId
-numbers_from k zero = []
-numbers_from k (suc n) = row_number k ∷ numbers_from (suc k) n
+-- a row that runs a handler, for an event of its state or as a dead letter
+abbrev pub has_handler : RowKind → Bool
+has_handler Run = true
+has_handler Dead = true
+has_handler other = false
 
-abbrev pub row_numbers : ℕ → List RowId
-row_numbers n = numbers_from 0 n
+-- the numbers of the rows with a handler, from k on
+abbrev pub handlers_from : ℕ → List Row → List RowId
+handlers_from k [] = []
+handlers_from k (row ∷ rows) = if has_handler row.kind then row_number k ∷ handlers_from (suc k) rows else handlers_from (suc k) rows
 
--- what a row may do: so far it runs its handler, or does so as a dead letter
-abbrev pub IsHandler : RowKind → Type 0
-IsHandler Run = Unit {0}
-IsHandler Dead = Unit {0}
-IsHandler other = ⊥
+abbrev pub handlers : List Row → List RowId
+handlers rows = handlers_from 0 rows
 
--- a row for messages of a type from a mbox of the scene, in the default state
-pub record IsRow (s : SceneParts) (row : Row) : Type 0 where
+-- what a row does names a state of so many declared ones, or none; a dead letter belongs to no state
+abbrev pub IsKind : ℕ → StateId → RowKind → Type 0
+IsKind states s Run = Unit {0}
+IsKind states s (Switch to) = to.0 ≤ states
+IsKind states s (Transfer to) = to.0 ≤ states
+IsKind states s Suppress = Unit {0}
+IsKind states s Dead = s ≡ default_state
+
+-- a row for messages of a type from a mbox of the scene, in a state of so many declared ones
+pub record IsRow (s : SceneParts) (states : ℕ) (row : Row) : Type 0 where
   pub mbox : row.mbox.0 < mboxes s
   pub msg : row.msg.0 < length s.messages
-  pub state : row.state ≡ default_state
-  pub kind : IsHandler row.kind
+  pub state : row.state.0 ≤ states
+  pub kind : IsKind states row.state row.kind
   pub not_safe : row.safe ≡ false
+
+-- no state has a time limit, so far
+abbrev pub HasNoLimit : State → Type 0
+HasNoLimit state = state.limit ≡ None
 
 -- a filter of messages of a type from a mbox of the scene
 pub record IsFilter (s : SceneParts) (f : FilterDef) : Type 0 where
@@ -113,21 +131,25 @@ given [] = []
 given (None ∷ ids) = given ids
 given (Some id ∷ ids) = id ∷ given ids
 
--- an agent of the one cooperation: its rows and filters are for messages of the scene, and no id is given twice; its code
--- is made of its start, its finish and the body of each row, and names what is in the scene
+-- an agent of the one cooperation: its states are a tree; its rows and filters are for messages of the scene, and no id is given
+-- twice; its code is made of its start, its finish, the bodies of each state and of each row with a handler, and names what is there
 pub record IsAgent (s : SceneParts) (a : AgentDef) : Type 0 where
   pub named : length a.name ≤ 32
   pub coop : a.coop.0 ≡ 0
   pub vars : length a.vars.0 ≡ 16
+  pub tree : IsTree a.tree
+  pub no_limits : All HasNoLimit a.tree
+  pub state_names : length a.state_names ≡ length a.tree
+  pub each_state_once : IsDistinct bytes_eq a.state_names
   pub few_rows : length a.rows ≤ 128
-  pub rows : All (IsRow s) a.rows
+  pub rows : All (IsRow s (length a.tree)) a.rows
   pub row_ids : length a.row_ids ≡ length a.rows
   pub each_row_id_once : IsDistinct bytes_eq (given a.row_ids)
   pub few_filters : length a.filters ≤ 32
   pub filters : All (IsFilter s) a.filters
   pub each_filter_id_once : IsDistinct bytes_eq (given (filter_ids a))
   pub code : IsCode a.code
-  pub bodies : bodies_in a.code ≡ agent_bodies 0 (row_numbers (length a.rows))
+  pub bodies : bodies_in a.code ≡ agent_bodies (length a.tree) (handlers a.rows)
   pub parts : All (NamesParts s a) a.code
 
 -- the parts are those of a scene: no name stands twice in its space, and each agent may be registered

@@ -5,8 +5,10 @@ use Rattle.so_scene.specs.declared.place.Field.{Field}
 use Rattle.so_scene.specs.declared.place.Field.TheVariants as field
 use Rattle.so_scene.specs.declared.place.PlaceStep.{PlaceStep}
 use Rattle.so_scene.specs.declared.place.PlaceStep.TheVariants.{Key, At}
+use Rattle.so_state.specs.declared.faults.TreeFault.{TreeFault}
+use Rattle.so_state.specs.declared.faults.TreeFault.TheVariants.{UnknownState, CycleOfParents, TooDeep, NoInitial, TwoInitials}
 use Rattle.so_scene.specs.declared.fault.SceneFault.{SceneFault}
-use Rattle.so_scene.specs.declared.fault.SceneFault.TheVariants.{NotJson, BadVersion, Missing, WrongShape, Twice, UnknownName, OutOfRange, NotBuilt}
+use Rattle.so_scene.specs.declared.fault.SceneFault.TheVariants.{NotJson, BadVersion, Missing, WrongShape, Twice, UnknownName, OutOfRange, Tree, NotBuilt}
 
 -- the key of a field
 abbrev pub spelling : Field → List ℕ
@@ -80,6 +82,13 @@ unfoldable pub place_words : List PlaceStep → List ℕ
 place_words [] = codes "/"
 place_words (s ∷ steps) = flat_map step_words (s ∷ steps)
 
+abbrev pub tree_word : TreeFault → List ℕ
+tree_word (UnknownState s) = codes "unknown_state"
+tree_word (CycleOfParents s) = codes "cycle_of_parents"
+tree_word (TooDeep s) = codes "too_deep"
+tree_word (NoInitial s) = codes "no_initial"
+tree_word (TwoInitials s) = codes "two_initials"
+
 abbrev pub fault_word : SceneFault → List ℕ
 fault_word NotJson = codes "not_json"
 fault_word (BadVersion p) = codes "bad_version"
@@ -88,6 +97,7 @@ fault_word (WrongShape p) = codes "wrong_shape"
 fault_word (Twice p) = codes "twice"
 fault_word (UnknownName p) = codes "unknown_name"
 fault_word (OutOfRange p) = codes "out_of_range"
+fault_word (Tree p fault) = tree_word fault
 fault_word (NotBuilt p) = codes "not_built"
 
 abbrev pub fault_place : SceneFault → Option (List PlaceStep)
@@ -98,6 +108,7 @@ fault_place (WrongShape p) = Some p
 fault_place (Twice p) = Some p
 fault_place (UnknownName p) = Some p
 fault_place (OutOfRange p) = Some p
+fault_place (Tree p fault) = Some p
 fault_place (NotBuilt p) = Some p
 
 abbrev pub at_words : Option (List PlaceStep) → List ℕ

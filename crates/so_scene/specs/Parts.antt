@@ -25,7 +25,7 @@ abbrev pub message_of : SceneParts → MsgId → MessageDef
 message_of s m = slice_index_or s.messages m.0 no_message
 
 abbrev pub no_agent : AgentDef
-no_agent = record { name = []; coop = record { 0 = 0 }; vars = record { 0 = replicate 16 (pos 0) }; rows = []; row_ids = []; filters = []; code = [] }
+no_agent = record { name = []; coop = record { 0 = 0 }; vars = record { 0 = replicate 16 (pos 0) }; state_names = []; tree = []; rows = []; row_ids = []; filters = []; code = [] }
 
 abbrev pub agent_of : SceneParts → AgentId → AgentDef
 agent_of s a = slice_index_or s.agents a.0 no_agent
@@ -48,7 +48,7 @@ agents_of s c = agents_from (coop_of s c).first (coop_of s c).count
 abbrev pub code_of : SceneParts → AgentId → List Instr
 code_of s a = (agent_of s a).code
 
--- the variables with which an agent begins, its subscriptions, its filters and its declared states, of which it has none
+-- the variables with which an agent begins, its subscriptions, its filters and its declared states
 abbrev pub vars_of : SceneParts → AgentId → Vars
 vars_of s a = (agent_of s a).vars
 
@@ -59,7 +59,7 @@ abbrev pub filters_of : SceneParts → AgentId → List FilterDef
 filters_of s a = (agent_of s a).filters
 
 abbrev pub states_of : SceneParts → AgentId → List State
-states_of s a = []
+states_of s a = (agent_of s a).tree
 
 -- the bytes of a text
 abbrev pub text_of : SceneParts → TextId → List ℕ

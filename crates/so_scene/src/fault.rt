@@ -1,11 +1,12 @@
 //! Why bytes give no scene.
 
 ghost use Rattle.std.specs.Prelude.{◌≡◌, option_map};
-ghost use Rattle.so_scene.specs.Faults.{fault_word, fault_place};
+ghost use Rattle.so_scene.specs.Faults.{fault_word, fault_place, tree_word};
 
 use crate::place::ScenePlace;
+use so_state::TreeFault;
 
-/// The first fault of a scene's bytes, with its place. The faults of state trees come with the states.
+/// The first fault of a scene's bytes, with its place.
 #[derive(Debug, Drop)]
 pub enum SceneFault {
     /// The bytes have no JSON reading.
@@ -23,6 +24,8 @@ pub enum SceneFault {
     UnknownName(ScenePlace),
     /// A number, or the length of a list, that isn't in its range.
     OutOfRange(ScenePlace),
+    /// A rule of state trees that an agent's states break, at the state that the fault names.
+    Tree(ScenePlace, TreeFault),
     /// A field, an act or a scene of a kind that this version doesn't play yet.
     NotBuilt(ScenePlace),
 }
@@ -47,6 +50,7 @@ impl SceneFault {
             SceneFault::Twice(_) => "twice",
             SceneFault::UnknownName(_) => "unknown_name",
             SceneFault::OutOfRange(_) => "out_of_range",
+            SceneFault::Tree(_, fault) => tree_word(*fault),
             SceneFault::NotBuilt(_) => "not_built",
         }
     }
@@ -63,7 +67,21 @@ impl SceneFault {
             SceneFault::Twice(place) => Some(place),
             SceneFault::UnknownName(place) => Some(place),
             SceneFault::OutOfRange(place) => Some(place),
+            SceneFault::Tree(place, _) => Some(place),
             SceneFault::NotBuilt(place) => Some(place),
         }
+    }
+}
+
+/// The word of a fault of a state tree.
+fn tree_word(fault: TreeFault) -> &'static str
+    ensures { result.now ≡ tree_word fault }
+{
+    match fault {
+        TreeFault::UnknownState(_) => "unknown_state",
+        TreeFault::CycleOfParents(_) => "cycle_of_parents",
+        TreeFault::TooDeep(_) => "too_deep",
+        TreeFault::NoInitial(_) => "no_initial",
+        TreeFault::TwoInitials(_) => "two_initials",
     }
 }

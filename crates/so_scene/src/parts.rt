@@ -4,7 +4,7 @@ use crate::items::Items;
 use crate::words::{Name, Text};
 use so_code::{Cmp, Code};
 use so_ids::{AgentId, CoopId, MboxId, MsgId, Vars};
-use so_state::Row;
+use so_state::{Row, Tree};
 
 /// A type of messages. A signal carries no values.
 #[derive(Debug, Drop)]
@@ -37,13 +37,16 @@ pub struct FilterDef {
     pub active: bool,
 }
 
-/// An agent: its cooperation, the variables with which it begins, its subscriptions, its filters and the
-/// code of its handlers. Row k runs the body `Row(k)` of the code.
+/// An agent: its cooperation, the variables with which it begins, its states, its subscriptions, its filters
+/// and the code of its handlers. A row with a handler, of number k, runs the body `Row(k)` of the code.
 #[derive(Debug, Drop)]
 pub struct AgentDef {
     pub name: Name,
     pub coop: CoopId,
     pub vars: Vars,
+    /// The names of the declared states, in order.
+    pub state_names: Items<Name>,
+    pub tree: Tree,
     pub rows: Items<Row>,
     /// The names by which acts name the rows, one for each row.
     pub row_ids: Items<Option<Name>>,

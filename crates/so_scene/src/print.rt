@@ -133,9 +133,9 @@ fn put_at(buf: &mut LineBuf, place: Option<&ScenePlace>)
 
 /// Appends a fault, as `wrong_shape at /coops/0`.
 pub fn put_fault(buf: &mut LineBuf, fault: &SceneFault)
-    requires { array_vec_len buf.old + 240 ≤ 512 }
+    requires { array_vec_len buf.old + 244 ≤ 512 }
     ensures items { buf.new.items ≡ buf.old.items ++ fault_words fault.now }
-    ensures len { array_vec_len buf.new ≤ array_vec_len buf.old + 240 }
+    ensures len { array_vec_len buf.new ≤ array_vec_len buf.old + 244 }
 {
     put(buf, fault.word().as_bytes());
     put_at(buf, fault.place());
