@@ -1,5 +1,5 @@
 -- The entries of the picks, and that a run that is not over goes on.
-use Rattle.std.proofs.Common.{◌≡◌, ℕ, ◌<◌, List, [], ◌∷◌, length, Bool, true, false, not, ◌&&◌, ◌||◌, cond, Option, Some, None, refl, sym, ◌∙◌, ap, subst}
+use Rattle.std.proofs.Common.{◌≡◌, ℕ, ◌<◌, List, [], ◌∷◌, length, Bool, true, false, not, ◌&&◌, ◌||◌, cond, Option, Some, None, refl, sym, ◌∙◌, ap, subst, is_some}
 use Rattle.std.specs.List.{find, AllByRecursion}
 use Rattle.std.specs.Option.{option_map, option_and_then}
 use Rattle.std.proofs.lemmas.Bool.{and_parts, false≢true}
@@ -34,9 +34,10 @@ use Rattle.so_history.specs.declared.entry.Demand.{Demand}
 use Rattle.so_history.specs.Demands.{waiting}
 use Rattle.so_history.specs.Turns.{Started, running, running_at, running_on, running_with, lane_number, key_number, move_of}
 use Rattle.so_history.specs.Coops.{the_coop, tried, present, leaving, stopped, stop_asked, aborted, has_reason}
+use Rattle.so_history.specs.declared.entry.EventSource.{EventSource}
 use Rattle.so_history.specs.Units.{fits}
 use Rattle.so_history.specs.Order.{is_free, may_take, pick}
-use Rattle.so_history.specs.Steps.{NamesEffect, may_leave, may_stop, is_idle, finished, is_over, answer_to_send, answer_of, entry_of, Legal}
+use Rattle.so_history.specs.Steps.{choice_for, NamesEffect, may_leave, may_stop, is_idle, finished, is_over, answer_to_send, answer_of, entry_of, Legal}
 use Rattle.so_history.specs.Chain.{by_main, signed, next_of, turn_entry, turn_on, taking_entry, registration, leaving_entry, left_entry, stop_entry, tidying, lane_entry, first, fitting, next_entry, StopsAtLimit}
 use Rattle.so_history.proofs.DemandLaws.{pick-free, waiting_of}
 use Rattle.so_history.proofs.TurnLaws.{turn_of, at_looked_up, running_nowhere, running_at-nil}
@@ -152,26 +153,33 @@ send_answered s h (Mbox mbox) msg payload named = (_, refl)
 send_answered s h (Chain chain) msg payload named = absurd named
 
 -- an effect that names parts of the scene has an answer
-pub answered_named : (s : SceneParts) (h : List Entry) (agent : AgentId) (e : Effect) → NamesEffect s agent e → (a : Answer) × (answer_of s h agent e ≡ Some a)
-answered_named s h agent (effect.Log text payload) named = (_, refl)
-answered_named s h agent (effect.Send target msg payload) named = send_answered s h target msg payload named.0
-answered_named s h agent (effect.Subscribe row) named = (_, refl)
-answered_named s h agent (effect.Unsubscribe row) named = (_, refl)
-answered_named s h agent (effect.SetFilter filter) named = (_, refl)
-answered_named s h agent (effect.DropFilter filter) named = (_, refl)
-answered_named s h agent effect.Stop named = (_, refl)
-answered_named s h agent other named = absurd named
+choice_made : (s : SceneParts) (h : List Entry) (agent : AgentId) (event : Option EventSource) → is_some event ≡ true → (a : Answer) × (option_map (choice_for s h agent) event ≡ Some a)
+choice_made s h agent None e = absurd cc
+choice_made s h agent (Some event) e = (_, refl)
 
-moved_entry : (s : SceneParts) (h : List Entry) (agent : AgentId) (place : ℕ) (m : Move) → ((e : Effect) → m ≡ Do e → NamesEffect s agent e) → (k : EntryKind) × (entry_of s h agent place m ≡ Some k)
-moved_entry s h agent place (Do e) named = let a = answered_named s h agent e (named e refl) in (_, ap (option_map (Act (record { 0 = place }) e)) a.1)
-moved_entry s h agent place Done named = (_, refl)
-moved_entry s h agent place (Fail kind) named = (_, refl)
+pub answered_named : (s : SceneParts) (h : List Entry) (agent : AgentId) (event : Option EventSource) (e : Effect) → NamesEffect s agent event e → (a : Answer) × (answer_of s h agent event e ≡ Some a)
+answered_named s h agent event (effect.Log text payload) named = (_, refl)
+answered_named s h agent event (effect.Send target msg payload) named = send_answered s h target msg payload named.0
+answered_named s h agent event (effect.Switch to) named = (_, refl)
+answered_named s h agent event (effect.SetState leaf) named = (_, refl)
+answered_named s h agent event effect.Choose named = choice_made s h agent event named
+answered_named s h agent event (effect.Subscribe row) named = (_, refl)
+answered_named s h agent event (effect.Unsubscribe row) named = (_, refl)
+answered_named s h agent event (effect.SetFilter filter) named = (_, refl)
+answered_named s h agent event (effect.DropFilter filter) named = (_, refl)
+answered_named s h agent event effect.Stop named = (_, refl)
+answered_named s h agent event other named = absurd named
+
+moved_entry : (s : SceneParts) (h : List Entry) (agent : AgentId) (event : Option EventSource) (place : ℕ) (m : Move) → ((e : Effect) → m ≡ Do e → NamesEffect s agent event e) → (k : EntryKind) × (entry_of s h agent event place m ≡ Some k)
+moved_entry s h agent event place (Do e) named = let a = answered_named s h agent event e (named e refl) in (_, ap (option_map (Act (record { 0 = place }) e)) a.1)
+moved_entry s h agent event place Done named = (_, refl)
+moved_entry s h agent event place (Fail kind) named = (_, refl)
 
 pub has_move : (s : SceneParts) (h : List Entry) (t : Started) → IsScene s → Legal s h → turn_of h t.place ≡ Some t → HasMove s h t
 has_move s h t scene legal at =
     let it = has_course s h t at in
     let sound = course_sound s scene h t.place it.reached legal it.has in
-    let k = moved_entry s h it.reached.agent t.place (move_of s it.reached).0 (names_parts s scene it.reached sound) in
+    let k = moved_entry s h it.reached.agent it.reached.event t.place (move_of s it.reached).0 (names_parts s scene it.reached sound) in
     (_, ap (option_and_then (next_of s h t)) it.has ∙ ap (option_map (signed t.by)) k.1)
 
 -- a lane that has no move has no turn

@@ -15,9 +15,13 @@ use Rattle.so_scene.specs.declared.parts.SceneParts.{SceneParts}
 use Rattle.so_history.specs.declared.entry.Entry.{Entry}
 use Rattle.so_history.specs.declared.entry.EntryKind.{EntryKind}
 use Rattle.so_history.specs.declared.entry.EntryKind.TheVariants.{Register, Begin, Skip, Act, End, Leaving, Left, Stop, Abort}
-use Rattle.so_history.specs.Demands.{message_of}
-use Rattle.so_history.specs.Turns.{Started, Course, started_by, answer_to, advanced, vars, course}
+use Rattle.so_history.specs.Demands.{message_of, event_of}
+use Rattle.so_history.specs.Turns.{Started, Course, Beginnings, started_by, answer_to, advanced, vars, course}
 use Rattle.so_history.proofs.TurnLaws.{turn_of, started_at_entry}
+
+-- what turns begin with after a history
+abbrev pub beginnings : SceneParts → List Entry → Beginnings
+beginnings s h = record { vars = vars s h; event = event_of s h; message = message_of s h }
 
 -- an Act moves the course of its own turn
 pub course-acted : (s : SceneParts) (h : List Entry) (by : PartyId) (t : ℕ) (effect : Effect) (answer : Answer) (c : Course) → course s h t ≡ Some c →
@@ -26,7 +30,7 @@ unfolding course
 course-acted s h by t effect answer c e = rw (eq-eqb t t refl, e) refl
 
 -- a Begin makes a course
-pub course-begun : (s : SceneParts) (h : List Entry) (e : Entry) (c : Course) → ((g : Option Course) → advanced s (vars s h) (message_of s h) (length h) e.kind (length h) g ≡ Some c) → course s (e ∷ h) (length h) ≡ Some c
+pub course-begun : (s : SceneParts) (h : List Entry) (e : Entry) (c : Course) → ((g : Option Course) → advanced s (beginnings s h) (length h) e.kind (length h) g ≡ Some c) → course s (e ∷ h) (length h) ≡ Some c
 unfolding course
 course-begun s h e c begins = begins (course s h (length h))
 
@@ -35,8 +39,8 @@ abbrev pub acts_for : EntryKind → ℕ → Bool
 acts_for (Act turn effect answer) t = turn.0 == t
 acts_for _ t = false
 
-module _ (s : SceneParts) (vs : AgentId → Vars) (ms : Option DemandId → Payload) where
-  advanced_not : (place : ℕ) (kind : EntryKind) (t : ℕ) (c : Option Course) → acts_for kind t ≡ false → t < place → advanced s vs ms place kind t c ≡ c
+module _ (s : SceneParts) (b : Beginnings) where
+  advanced_not : (place : ℕ) (kind : EntryKind) (t : ℕ) (c : Option Course) → acts_for kind t ≡ false → t < place → advanced s b place kind t c ≡ c
   advanced_not place (Begin lane demand opening agent) t c spares early = let other : (place == t) ≡ false = ne_eqb place t (λ same. omega arith) in rw other refl
   advanced_not place (Act turn effect answer) t c spares early = rw spares refl
   advanced_not place (Register coop) t c spares early = refl
@@ -49,7 +53,7 @@ module _ (s : SceneParts) (vs : AgentId → Vars) (ms : Option DemandId → Payl
 
 pub course-spared : (s : SceneParts) (h : List Entry) (e : Entry) (t : ℕ) → acts_for e.kind t ≡ false → t < length h → course s (e ∷ h) t ≡ course s h t
 unfolding course
-course-spared s h e t spares early = advanced_not s (vars s h) (message_of s h) (length h) e.kind t (course s h t) spares early
+course-spared s h e t spares early = advanced_not s (beginnings s h) (length h) e.kind t (course s h t) spares early
 
 -- a turn that began has a course, of its agent
 pub record HasCourse (s : SceneParts) (h : List Entry) (t : Started) : Type 0 where
@@ -62,11 +66,11 @@ record Reaches (c : Option Course) (agent : AgentId) : Type 0 where
   has : c ≡ Some reached
   whose : reached.agent ≡ agent
 
-module _ (s : SceneParts) (vs : AgentId → Vars) (ms : Option DemandId → Payload) where
-  begun_reaches : (place : ℕ) (by : PartyId) (kind : EntryKind) (t : Started) (c : Option Course) → started_at_entry (started_by place by kind) ≡ Some t → Reaches (advanced s vs ms place kind place c) t.agent
+module _ (s : SceneParts) (b : Beginnings) where
+  begun_reaches : (place : ℕ) (by : PartyId) (kind : EntryKind) (t : Started) (c : Option Course) → started_at_entry (started_by place by kind) ≡ Some t → Reaches (advanced s b place kind place c) t.agent
   begun_reaches place by (Begin lane demand opening agent) t c e =
       let same : record { place = place; by = by; lane = lane; agent = agent; opening = opening } ≡ t = same_Some _ t e in
-      record { reached = record { agent = agent; frame = begun opening (vs agent) (ms demand) }; has = rw (eq-eqb place place refl) refl; whose = ap (λ (x : Started). x.agent) same }
+      record { reached = record { agent = agent; event = b.event demand; frame = begun opening (b.vars agent) (b.message demand) }; has = rw (eq-eqb place place refl) refl; whose = ap (λ (x : Started). x.agent) same }
   begun_reaches place by (Act turn effect answer) t c e = absurd cc
   begun_reaches place by (Register coop) t c e = absurd cc
   begun_reaches place by (End turn) t c e = absurd cc
@@ -80,8 +84,8 @@ cond_reaches : (b : Bool) (s : SceneParts) (answer : Answer) (c : Course) → Re
 cond_reaches true s answer c = record { reached = answer_to s answer c; has = refl; whose = refl }
 cond_reaches false s answer c = record { reached = c; has = refl; whose = refl }
 
-module _ (s : SceneParts) (vs : AgentId → Vars) (ms : Option DemandId → Payload) where
-  still_reaches : (place : ℕ) (kind : EntryKind) (p : ℕ) (c : Course) → (place == p) ≡ false → Reaches (advanced s vs ms place kind p (Some c)) c.agent
+module _ (s : SceneParts) (b : Beginnings) where
+  still_reaches : (place : ℕ) (kind : EntryKind) (p : ℕ) (c : Course) → (place == p) ≡ false → Reaches (advanced s b place kind p (Some c)) c.agent
   still_reaches place (Begin lane demand opening agent) p c other = record { reached = c; has = rw other refl; whose = refl }
   still_reaches place (Act turn effect answer) p c other = cond_reaches (turn.0 == p) s answer c
   still_reaches place (Register coop) p c other = record { reached = c; has = refl; whose = refl }
@@ -93,15 +97,15 @@ module _ (s : SceneParts) (vs : AgentId → Vars) (ms : Option DemandId → Payl
   still_reaches place (Abort cause) p c other = record { reached = c; has = refl; whose = refl }
 
 course_case : (s : SceneParts) (h : List Entry) (e : Entry) (p : ℕ) (t : Started) (b : Bool) → (length h == p) ≡ b → cond b (started_at_entry (started_by (length h) e.by e.kind)) (turn_of h p) ≡ Some t →
-    (turn_of h p ≡ Some t → Reaches (course s h p) t.agent) → Reaches (advanced s (vars s h) (message_of s h) (length h) e.kind p (course s h p)) t.agent
+    (turn_of h p ≡ Some t → Reaches (course s h p) t.agent) → Reaches (advanced s (beginnings s h) (length h) e.kind p (course s h p)) t.agent
 course_case s h e p t true here is before =
     let place : length h ≡ p = eqb-true (length h) p here in
-    let it = begun_reaches s (vars s h) (message_of s h) (length h) e.by e.kind t (course s h p) is in
-    record { reached = it.reached; has = ap (λ q. advanced s (vars s h) (message_of s h) (length h) e.kind q (course s h p)) (sym place) ∙ it.has; whose = it.whose }
+    let it = begun_reaches s (beginnings s h) (length h) e.by e.kind t (course s h p) is in
+    record { reached = it.reached; has = ap (λ q. advanced s (beginnings s h) (length h) e.kind q (course s h p)) (sym place) ∙ it.has; whose = it.whose }
 course_case s h e p t false here is before =
     let old = before is in
-    let it = still_reaches s (vars s h) (message_of s h) (length h) e.kind p old.reached here in
-    record { reached = it.reached; has = ap (advanced s (vars s h) (message_of s h) (length h) e.kind p) old.has ∙ it.has; whose = it.whose ∙ old.whose }
+    let it = still_reaches s (beginnings s h) (length h) e.kind p old.reached here in
+    record { reached = it.reached; has = ap (advanced s (beginnings s h) (length h) e.kind p) old.has ∙ it.has; whose = it.whose ∙ old.whose }
 
 reaches : (s : SceneParts) (h : List Entry) (p : ℕ) (t : Started) → turn_of h p ≡ Some t → Reaches (course s h p) t.agent
 unfolding turn_of course

@@ -7,6 +7,7 @@ use Rattle.so_ids.specs.declared.Place.{Place}
 use Rattle.so_ids.specs.declared.AgentId.{AgentId}
 use Rattle.so_ids.specs.declared.MsgId.{MsgId}
 use Rattle.so_ids.specs.declared.Payload.{Payload}
+use Rattle.so_ids.specs.declared.Plan.{Plan}
 use Rattle.so_ids.specs.declared.Target.{Target}
 use Rattle.so_ids.specs.declared.Target.TheVariants.{Mbox, Chain}
 use Rattle.so_code.specs.declared.effect.Answer.{Answer}
@@ -21,7 +22,9 @@ use Rattle.so_history.specs.declared.entry.EntryKind.{EntryKind}
 use Rattle.so_history.specs.declared.entry.EntryKind.TheVariants.{Register, Begin, Skip, Act, End, Leaving, Left, Stop, Abort}
 use Rattle.so_history.specs.Places.{entry_at, before}
 use Rattle.so_history.specs.Turns.{move_of}
-use Rattle.so_history.specs.Steps.{IsRow, Legal, answer_to_send, yes_where, may_subscribe, is_active, answer_of, entry_of}
+use Rattle.so_history.specs.Steps.{IsRow, Legal, answer_to_send, answer_to_switch, choice_for, yes_where, may_subscribe, is_active, answer_of, entry_of}
+use Rattle.so_history.specs.declared.entry.EventSource.{EventSource}
+use Rattle.so_history.specs.Leaves.{switch_of}
 use Rattle.so_history.specs.Delivery.{active_rows, active_filters}
 use Rattle.so_history.specs.Rooms.{effect_room, answer_room, IsShort}
 use Rattle.so_history.proofs.PlaceLaws.{steps_at}
@@ -41,37 +44,48 @@ said_short false = omega arith
 yes_short : (b : Bool) (a : Answer) → Some (yes_where b) ≡ Some a → answer_room a ≤ 109
 yes_short b a e = subst (λ x. answer_room x ≤ 109) (same_Some _ a e) (said_short b)
 
-answer_short : (s : SceneParts) (h : List Entry) (agent : AgentId) (x : Effect) (a : Answer) → answer_of s h agent x ≡ Some a → effect_room x + answer_room a ≤ 470
-answer_short s h agent (effect.Log text payload) a e = omega (arith, okay_short a e)
-answer_short s h agent (effect.Send target msg payload) a e = omega (arith, sent_short s h target msg payload a e)
-answer_short s h agent effect.Stop a e = omega (arith, okay_short a e)
-answer_short s h agent (effect.Delayed target msg payload ms) a e = absurd cc
-answer_short s h agent (effect.Timer slot target msg payload ms period) a e = absurd cc
-answer_short s h agent (effect.Cancel slot) a e = absurd cc
-answer_short s h agent (effect.Switch to) a e = absurd cc
-answer_short s h agent (effect.SetState leaf) a e = absurd cc
-answer_short s h agent effect.Choose a e = absurd cc
-answer_short s h agent (effect.Subscribe row) a e = omega (arith, yes_short (may_subscribe s h agent row) a e)
-answer_short s h agent (effect.Unsubscribe row) a e = omega (arith, yes_short (is_active (active_rows s h agent) row.0) a e)
-answer_short s h agent (effect.SetFilter filter) a e = omega (arith, yes_short (true) a e)
-answer_short s h agent (effect.DropFilter filter) a e = omega (arith, yes_short (is_active (active_filters s h agent) filter.0) a e)
-answer_short s h agent (effect.Register coop) a e = absurd cc
-answer_short s h agent (effect.Deregister coop) a e = absurd cc
-answer_short s h agent (effect.Close chain keep) a e = absurd cc
-answer_short s h agent (effect.Receive place) a e = absurd cc
-answer_short s h agent (effect.Take place) a e = absurd cc
+switch_room : (o : Option Plan) → answer_room (answer_to_switch o) ≤ 380
+switch_room None = omega arith
+switch_room (Some p) = omega arith
 
-answered_short : (s : SceneParts) (h : List Entry) (agent : AgentId) (place : Place) (x : Effect) (a : Option Answer) → answer_of s h agent x ≡ a → (kind : EntryKind) → option_map (Act place x) a ≡ Some kind → IsShort kind
-answered_short s h agent place x None is kind e = absurd cc
-answered_short s h agent place x (Some a) is kind e = subst IsShort (same_Some _ kind e) (omega (arith, answer_short s h agent x a is))
+switch_short : (o : Option Plan) (a : Answer) → Some (answer_to_switch o) ≡ Some a → answer_room a ≤ 380
+switch_short o a e = subst (λ x. answer_room x ≤ 380) (same_Some _ a e) (switch_room o)
 
-move_short : (s : SceneParts) (h : List Entry) (agent : AgentId) (place : ℕ) (m : Move) (kind : EntryKind) → entry_of s h agent place m ≡ Some kind → IsShort kind
-move_short s h agent place (Do x) kind e = answered_short s h agent (record { 0 = place }) x (answer_of s h agent x) refl kind e
-move_short s h agent place Done kind e = subst IsShort (same_Some _ kind e) (omega arith)
-move_short s h agent place (Fail why) kind e = subst IsShort (same_Some _ kind e) (omega arith)
+choice_short : (s : SceneParts) (h : List Entry) (agent : AgentId) (event : Option EventSource) (a : Answer) → option_map (choice_for s h agent) event ≡ Some a → answer_room a ≤ 109
+choice_short s h agent None a e = absurd cc
+choice_short s h agent (Some event) a e = subst (λ x. answer_room x ≤ 109) (same_Some _ a e) (omega arith)
+
+answer_short : (s : SceneParts) (h : List Entry) (agent : AgentId) (event : Option EventSource) (x : Effect) (a : Answer) → answer_of s h agent event x ≡ Some a → effect_room x + answer_room a ≤ 470
+answer_short s h agent event (effect.Log text payload) a e = omega (arith, okay_short a e)
+answer_short s h agent event (effect.Send target msg payload) a e = omega (arith, sent_short s h target msg payload a e)
+answer_short s h agent event effect.Stop a e = omega (arith, okay_short a e)
+answer_short s h agent event (effect.Delayed target msg payload ms) a e = absurd cc
+answer_short s h agent event (effect.Timer slot target msg payload ms period) a e = absurd cc
+answer_short s h agent event (effect.Cancel slot) a e = absurd cc
+answer_short s h agent event (effect.Switch to) a e = omega (arith, switch_short (switch_of s h agent to) a e)
+answer_short s h agent event (effect.SetState leaf) a e = omega (arith, okay_short a e)
+answer_short s h agent event effect.Choose a e = omega (arith, choice_short s h agent event a e)
+answer_short s h agent event (effect.Subscribe row) a e = omega (arith, yes_short (may_subscribe s h agent row) a e)
+answer_short s h agent event (effect.Unsubscribe row) a e = omega (arith, yes_short (is_active (active_rows s h agent) row.0) a e)
+answer_short s h agent event (effect.SetFilter filter) a e = omega (arith, yes_short (true) a e)
+answer_short s h agent event (effect.DropFilter filter) a e = omega (arith, yes_short (is_active (active_filters s h agent) filter.0) a e)
+answer_short s h agent event (effect.Register coop) a e = absurd cc
+answer_short s h agent event (effect.Deregister coop) a e = absurd cc
+answer_short s h agent event (effect.Close chain keep) a e = absurd cc
+answer_short s h agent event (effect.Receive place) a e = absurd cc
+answer_short s h agent event (effect.Take place) a e = absurd cc
+
+answered_short : (s : SceneParts) (h : List Entry) (agent : AgentId) (event : Option EventSource) (place : Place) (x : Effect) (a : Option Answer) → answer_of s h agent event x ≡ a → (kind : EntryKind) → option_map (Act place x) a ≡ Some kind → IsShort kind
+answered_short s h agent event place x None is kind e = absurd cc
+answered_short s h agent event place x (Some a) is kind e = subst IsShort (same_Some _ kind e) (omega (arith, answer_short s h agent event x a is))
+
+move_short : (s : SceneParts) (h : List Entry) (agent : AgentId) (event : Option EventSource) (place : ℕ) (m : Move) (kind : EntryKind) → entry_of s h agent event place m ≡ Some kind → IsShort kind
+move_short s h agent event place (Do x) kind e = answered_short s h agent event (record { 0 = place }) x (answer_of s h agent event x) refl kind e
+move_short s h agent event place Done kind e = subst IsShort (same_Some _ kind e) (omega arith)
+move_short s h agent event place (Fail why) kind e = subst IsShort (same_Some _ kind e) (omega arith)
 
 row_short : (s : SceneParts) (h : List Entry) (by : PartyId) (kind : EntryKind) → IsRow s h by kind → IsShort kind
-row_short s h by (Act turn effect answer) row = move_short s h row.reached.agent turn.0 (move_of s row.reached).0 (Act turn effect answer) row.is
+row_short s h by (Act turn effect answer) row = move_short s h row.reached.agent row.reached.event turn.0 (move_of s row.reached).0 (Act turn effect answer) row.is
 row_short s h by (Register coop) row = omega arith
 row_short s h by (Begin lane demand opening agent) row = omega arith
 row_short s h by (End turn) row = omega arith

@@ -21,7 +21,7 @@ use Rattle.so_history.specs.declared.entry.EntryKind.TheVariants.{Register, Begi
 use Rattle.so_history.specs.declared.entry.Demand.{Demand}
 use Rattle.so_history.specs.declared.entry.SkipWhy.{SkipWhy}
 use Rattle.so_history.specs.Places.{before}
-use Rattle.so_history.specs.Demands.{queued_by, demands, takes, taken, waiting, named, message_of, payload_in, payload_of}
+use Rattle.so_history.specs.Demands.{queued_by, demands, takes, taken, waiting, named, message_of, payload_in, payload_of, event_of, source_in, source_of}
 use Rattle.so_history.specs.Turns.{running_with}
 use Rattle.so_history.specs.Order.{may_take, pick, opening_of, skipped}
 use Rattle.so_history.specs.Steps.{IsTaking, IsRow, IsStep, Legal}
@@ -198,3 +198,9 @@ pub message_picked : (s : SceneParts) (h : List Entry) (lane : LaneId) (d : Dema
 unfolding waiting
 message_picked s h lane d e =
     ap payload_in (found_by_name (λ x. not (taken h x.id) && may_take s h lane x) (demands s h) d (demands_sorted s h) (find_within (may_take s h lane) (λ x. not (taken h x.id)) (demands s h) d (picked s h lane d e).1))
+
+-- and with its event
+pub event_picked : (s : SceneParts) (h : List Entry) (lane : LaneId) (d : Demand) → pick s h lane ≡ Some d → event_of s h (Some d.id) ≡ source_of d.kind
+unfolding waiting
+event_picked s h lane d e =
+    ap source_in (found_by_name (λ x. not (taken h x.id) && may_take s h lane x) (demands s h) d (demands_sorted s h) (find_within (may_take s h lane) (λ x. not (taken h x.id)) (demands s h) d (picked s h lane d e).1))

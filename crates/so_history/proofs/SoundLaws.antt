@@ -1,11 +1,11 @@
 -- What the frame of a turn keeps, and what its effects name.
-use Rattle.std.proofs.Common.{◌≡◌, ℕ, zero, suc, ◌<◌, List, [], ◌∷◌, length, Bool, true, false, cond, arith, Option, Some, None, refl, sym, ap, subst}
-use Rattle.std.specs.Prelude.{◌==◌, slice_get}
+use Rattle.std.proofs.Common.{◌≡◌, ℕ, zero, suc, ◌<◌, ◌≤◌, List, [], ◌∷◌, length, reverse, Bool, true, false, not, cond, arith, Option, Some, None, is_some, refl, sym, ◌∙◌, ap, subst}
+use Rattle.std.specs.Prelude.{◌==◌, slice_get, if◌then◌else◌}
 use Rattle.std.specs.Option.{option_map}
-use Rattle.std.specs.List.{AllByRecursion}
+use Rattle.std.specs.List.{filter, AllByRecursion}
 use Rattle.std.proofs.lemmas.Bool.{eqb-true}
 use Rattle.std.proofs.lemmas.Option.{same_Some}
-use Rattle.std.proofs.lemmas.List.{length-map}
+use Rattle.std.proofs.lemmas.List.{length-map, length-reverse}
 use Rattle.std.proofs.lemmas.List.Elements.{recursion_from_All}
 use Rattle.so_ids.specs.declared.AgentId.{AgentId}
 use Rattle.so_ids.specs.declared.DemandId.{DemandId}
@@ -14,8 +14,13 @@ use Rattle.so_ids.specs.declared.MsgId.{MsgId}
 use Rattle.so_ids.specs.declared.PartyId.{PartyId}
 use Rattle.so_ids.specs.declared.Payload.{Payload}
 use Rattle.so_ids.specs.declared.Place.{Place}
+use Rattle.so_ids.specs.declared.Plan.{Plan}
+use Rattle.so_ids.specs.declared.StateId.{StateId}
 use Rattle.so_ids.specs.declared.Vars.{Vars}
+use Rattle.so_ids.specs.declared.Chosen.{Chosen}
+use Rattle.so_ids.specs.declared.Chosen.TheVariants as chosen
 use Rattle.so_ids.specs.declared.Opening.{Opening}
+use Rattle.so_ids.specs.declared.Opening.TheVariants as opening
 use Rattle.so_ids.specs.declared.Target.{Target}
 use Rattle.so_ids.specs.declared.Target.TheVariants.{Mbox, Chain}
 use Rattle.so_code.specs.declared.effect.Effect.{Effect}
@@ -25,58 +30,46 @@ use Rattle.so_code.specs.declared.effect.Answer.TheVariants as answer
 use Rattle.so_code.specs.declared.effect.Move.{Move}
 use Rattle.so_code.specs.declared.effect.Move.TheVariants.{Do, Done, Fail}
 use Rattle.so_code.specs.declared.frame.Frame.{Frame}
+use Rattle.so_code.specs.declared.frame.Todo.{Todo}
 use Rattle.so_code.specs.declared.frame.Todo.TheVariants as todo
 use Rattle.so_code.specs.declared.instr.Instr.{Instr}
 use Rattle.so_code.specs.declared.instr.Instr.TheVariants as instr
 use Rattle.so_code.specs.Shape.{IsCode}
-use Rattle.so_code.specs.Places.{IsAt}
-use Rattle.so_code.specs.Running.{IsFrame, IsAwake}
-use Rattle.so_code.specs.Answers.{Fits, IsSaid, IsAnswerTo}
-use Rattle.so_code.specs.Openings.{begun}
-use Rattle.so_code.specs.Own.{is_own, effect_of, opens_acts, RunsActs}
-use Rattle.so_code.proofs.Moves.{after_frame, after_waits, after_runs, own_act}
+use Rattle.so_code.specs.Places.{IsAt, IsReceiveAt}
+use Rattle.so_code.specs.Receives.{is_receive}
+use Rattle.so_code.specs.Running.{IsFrame, IsAwake, LeadsTo, IsTransfer}
+use Rattle.so_code.specs.Answers.{FitsPlan, Fits, IsSaid, IsAnswerTo, has_transferred, chose}
+use Rattle.so_code.specs.Openings.{fresh, begun, no_plan}
+use Rattle.so_code.specs.Origins.{Origin}
+use Rattle.so_code.specs.Origins as origin
+use Rattle.so_code.proofs.Moves.{after_frame, after_opening, after_plan, after_waits, comes, OpeningAfter, keeps, chooses, answered_opening, PlanAfter, same, plans, answered_plan}
 use Rattle.so_code.proofs.AnswerLaws.{answered_frame, answered_awake, begun_frame, begun_awake}
-use Rattle.so_code.proofs.OwnLaws.{begun_runs, answered_runs}
+use Rattle.so_lists.proofs.Filters.{filter-short}
+use Rattle.so_state.specs.declared.states.State.{State}
+use Rattle.so_state.specs.Fault.{IsTree}
+use Rattle.so_state.specs.States.{same_state, is_on, path}
+use Rattle.so_state.specs.Plan.{resolve, exits, enters, plan_of, plan_to, plan}
+use Rattle.so_state.proofs.TreeFacts.{path_fits}
+use Rattle.so_state.proofs.Resolved.{resolve-few}
 use Rattle.so_scene.specs.declared.parts.SceneParts.{SceneParts}
-use Rattle.so_scene.specs.Parts.{no_agent, agent_of, code_of, filters_of}
+use Rattle.so_scene.specs.Parts.{no_agent, agent_of, code_of, filters_of, states_of}
 use Rattle.so_scene.specs.Checked.{Named, HasId, NamesWithin, NamesParts, named_by, filter_id, filter_ids, IsAgent, IsScene}
 use Rattle.so_history.specs.declared.entry.Entry.{Entry}
 use Rattle.so_history.specs.declared.entry.EntryKind.{EntryKind}
 use Rattle.so_history.specs.declared.entry.EntryKind.TheVariants.{Register, Begin, Skip, Act, End, Leaving, Left, Stop, Abort}
-use Rattle.so_history.specs.Demands.{message_of}
-use Rattle.so_history.specs.Turns.{Course, move_of, answer_to, advanced, vars, course}
-use Rattle.so_history.specs.Steps.{NamesEffect, answer_of, answer_to_send, yes_where, may_subscribe, is_active, entry_of, IsRow, Legal}
-use Rattle.so_history.specs.Delivery.{active_rows, active_filters}
+use Rattle.so_history.specs.declared.entry.EventSource.{EventSource}
+use Rattle.so_history.specs.declared.entry.Demand.{Demand}
+use Rattle.so_history.specs.Demands.{source_of, event_of}
+use Rattle.so_history.specs.Leaves.{leaves, leaf_of, switch_of}
+use Rattle.so_history.specs.Delivery.{active_rows, active_filters, chosen_for}
 use Rattle.so_history.specs.Order.{opening_of, skipped}
+use Rattle.so_history.specs.Turns.{Course, move_of, answer_to, advanced, vars, course}
+use Rattle.so_history.specs.Steps.{NamesEffect, answer_of, answer_to_send, answer_to_switch, choice_for, yes_where, may_subscribe, is_active, entry_of, IsRow, Legal}
 use Rattle.so_history.proofs.TakingLaws.{begins_as}
-use Rattle.so_history.proofs.OpeningLaws.{opening_acts}
+use Rattle.so_history.proofs.OpeningLaws.{agent_tree, ChoosesWithin, OpensWithin, HasEvent, chosen_within, choice_fits, opening_within, opening_event}
+use Rattle.so_history.proofs.OrderLaws.{event_picked}
+use Rattle.so_history.proofs.CourseLaws.{beginnings}
 use Rattle.so_history.proofs.TurnLaws.{started_of}
-
--- ---- what an effect names
-
--- a part that has an id is there
-has_id : (ids : List (Option (List ℕ))) (k : ℕ) → HasId ids k → k < length ids
-has_id [] k has = absurd cc
-has_id (x ∷ ids) zero has = omega arith
-has_id (x ∷ ids) (suc k) has = omega (arith, has_id ids k has)
-
-effect_names : (s : SceneParts) (a : AgentId) (i : Instr) (f : Frame) (e : Effect) → IsAgent s (agent_of s a) → NamesParts s (agent_of s a) i → effect_of i f ≡ Some e → NamesEffect s a e
-effect_names s a (instr.Log text args) f e is names makes = subst (NamesEffect s a) (same_Some _ e makes) names
-effect_names s a (instr.Send target msg args) f e is names makes = subst (NamesEffect s a) (same_Some _ e makes) names
-effect_names s a (instr.Subscribe row) f e is names makes = subst (NamesEffect s a) (same_Some _ e makes) (omega (arith, has_id (agent_of s a).row_ids row.0 names, is.row_ids))
-effect_names s a (instr.Unsubscribe row) f e is names makes = subst (NamesEffect s a) (same_Some _ e makes) (omega (arith, has_id (agent_of s a).row_ids row.0 names, is.row_ids))
-effect_names s a (instr.SetFilter filter) f e is names makes = subst (NamesEffect s a) (same_Some _ e makes) (omega (arith, has_id (filter_ids (agent_of s a)) filter.0 names, length-map (filters_of s a) filter_id))
-effect_names s a (instr.DropFilter filter) f e is names makes = subst (NamesEffect s a) (same_Some _ e makes) (omega (arith, has_id (filter_ids (agent_of s a)) filter.0 names, length-map (filters_of s a) filter_id))
-effect_names s a instr.Stop f e is names makes = subst (NamesEffect s a) (same_Some _ e makes) tt
-effect_names s a (instr.Set to x) f e is names makes = absurd cc
-effect_names s a (instr.Add to x y) f e is names makes = absurd cc
-effect_names s a (instr.Sub to x y) f e is names makes = absurd cc
-effect_names s a (instr.Mul to x y) f e is names makes = absurd cc
-effect_names s a (instr.If x cmp y count) f e is names makes = absurd cc
-effect_names s a (instr.Skip count) f e is names makes = absurd cc
-effect_names s a (instr.Throw x) f e is names makes = absurd cc
-effect_names s a (instr.End body) f e is names makes = absurd cc
-effect_names s a other f e is names makes = absurd names
 
 -- ---- the code of an agent
 
@@ -91,12 +84,71 @@ each_at P [] k i all here = absurd cc
 each_at P (x ∷ code) zero i all here = subst P (same_Some x i here) all.0
 each_at P (x ∷ code) (suc k) i all here = each_at P code k i all.1 here
 
-named_own : (n : Named) (i : Instr) → NamesWithin n i → is_own i ≡ true
-named_own n (instr.Switch to) names = absurd names
-named_own n (instr.Receive chains cases handle_n extract_n empty_timeout total_time no_wait) names = absurd names
-named_own n (instr.Case case msg) names = absurd names
-named_own n instr.Back names = absurd names
-named_own n other names = refl
+-- ---- what an effect names
+
+-- a part that has an id is there
+has_id : (ids : List (Option (List ℕ))) (k : ℕ) → HasId ids k → k < length ids
+has_id [] k has = absurd cc
+has_id (x ∷ ids) zero has = omega arith
+has_id (x ∷ ids) (suc k) has = omega (arith, has_id ids k has)
+
+-- no receive is built
+no_receive : (n : Named) (i : Instr) → is_receive i ≡ true → NamesWithin n i → ⊥
+no_receive n (instr.Receive chains cases handle_n extract_n empty_timeout total_time no_wait) is names = names
+no_receive n (instr.Set to x) is names = cc
+no_receive n (instr.Add to x y) is names = cc
+no_receive n (instr.Sub to x y) is names = cc
+no_receive n (instr.Mul to x y) is names = cc
+no_receive n (instr.If x cmp y count) is names = cc
+no_receive n (instr.Skip count) is names = cc
+no_receive n (instr.Throw x) is names = cc
+no_receive n (instr.Log text args) is names = cc
+no_receive n (instr.Send target msg args) is names = cc
+no_receive n (instr.Switch to) is names = cc
+no_receive n (instr.Subscribe row) is names = cc
+no_receive n (instr.Unsubscribe row) is names = cc
+no_receive n (instr.SetFilter filter) is names = cc
+no_receive n (instr.DropFilter filter) is names = cc
+no_receive n instr.Stop is names = cc
+no_receive n (instr.End body) is names = cc
+no_receive n other is names = names
+
+-- the state to which an opening leads
+leads_within : (n : ℕ) (o : Opening) (to : StateId) → OpensWithin n o → LeadsTo o to → to.0 ≤ n
+leads_within n (opening.Time s) to within leads = omega (arith, within, ap (λ (x : StateId). x.0) leads)
+leads_within n (opening.Event (chosen.Switch s)) to within leads = omega (arith, within, ap (λ (x : StateId). x.0) leads)
+leads_within n (opening.Event (chosen.Transfer from s)) to within leads = omega (arith, within.1, ap (λ (x : StateId). x.0) leads)
+leads_within n other to within leads = absurd leads
+
+has_event : (o : Opening) (event : Option EventSource) → HasEvent o event → IsTransfer o → is_some event ≡ true
+has_event (opening.Event (chosen.Transfer from to)) event has is = has
+has_event other event has is = absurd is
+
+-- the effect for which a frame waits, by its origin
+module _ (s : SceneParts) (a : AgentId) (event : Option EventSource) (f : Frame) (is : IsAgent s (agent_of s a)) (parts : (place : ℕ) (i : Instr) → IsAt (code_of s a) place i → NamesParts s (agent_of s a) i) (opens : OpensWithin (length (states_of s a)) f.opening) (has : HasEvent f.opening event) (leaf : f.plan.leaf.0 ≤ length (states_of s a)) where
+  from_receive : (place : ℕ) (e : Effect) → IsReceiveAt (code_of s a) place → NamesEffect s a event e
+  from_receive place e here = absurd (no_receive (named_by s (agent_of s a)) here.instr here.receives (parts place here.instr here.here))
+
+  pub origin_names : (e : Effect) → Origin (code_of s a) e f → NamesEffect s a event e
+  origin_names e (origin.log text args here makes) = rw makes (parts f.place (instr.Log text args) here)
+  origin_names e (origin.send target msg args here makes) = rw makes (parts f.place (instr.Send target msg args) here)
+  origin_names e (origin.switch to here makes) = rw makes (parts f.place (instr.Switch to) here)
+  origin_names e (origin.subscribe row here makes) = rw makes (omega (arith, has_id (agent_of s a).row_ids row.0 (parts f.place (instr.Subscribe row) here), is.row_ids))
+  origin_names e (origin.unsubscribe row here makes) = rw makes (omega (arith, has_id (agent_of s a).row_ids row.0 (parts f.place (instr.Unsubscribe row) here), is.row_ids))
+  origin_names e (origin.set_filter filter here makes) = rw makes (omega (arith, has_id (filter_ids (agent_of s a)) filter.0 (parts f.place (instr.SetFilter filter) here), length-map (filters_of s a) filter_id))
+  origin_names e (origin.drop_filter filter here makes) = rw makes (omega (arith, has_id (filter_ids (agent_of s a)) filter.0 (parts f.place (instr.DropFilter filter) here), length-map (filters_of s a) filter_id))
+  origin_names e (origin.stop here makes) = rw makes tt
+  origin_names e (origin.of_opening to leads makes) = rw makes (leads_within (length (states_of s a)) f.opening to opens leads)
+  origin_names e (origin.of_plan left makes) = rw makes leaf
+  origin_names e (origin.of_transfer transfers makes) = rw makes (has_event f.opening event has transfers)
+  origin_names e (origin.delayed target msg ms args here makes) = absurd (parts f.place (instr.Delayed target msg ms args) here)
+  origin_names e (origin.timer slot target msg ms period args here makes) = absurd (parts f.place (instr.Timer slot target msg ms period args) here)
+  origin_names e (origin.cancel slot here makes) = absurd (parts f.place (instr.Cancel slot) here)
+  origin_names e (origin.register coop here makes) = absurd (parts f.place (instr.Register coop) here)
+  origin_names e (origin.deregister coop here makes) = absurd (parts f.place (instr.Deregister coop) here)
+  origin_names e (origin.close chain keep here makes) = absurd (parts f.place (instr.Close chain keep) here)
+  origin_names e (origin.receive here makes) = from_receive f.place e here
+  origin_names e (origin.of_receive here makes) = from_receive f.receive e here
 
 -- ---- what the frame of a turn keeps between its moves
 
@@ -104,7 +156,10 @@ pub record IsSound (s : SceneParts) (c : Course) : Type 0 where
   pub known : c.agent.0 < length s.agents
   pub frame : IsFrame (code_of s c.agent) c.frame
   pub awake : IsAwake c.frame.todo
-  pub runs : RunsActs c.frame
+  -- the states that its opening and its plan name are those of its agent, and where it may choose, there is an event
+  pub opens : OpensWithin (length (states_of s c.agent)) c.frame.opening
+  pub event : HasEvent c.frame.opening c.event
+  pub leaf : c.frame.plan.leaf.0 ≤ length (states_of s c.agent)
 
 -- ---- a move and its answer
 
@@ -117,25 +172,48 @@ answer_in (Act turn effect answer) = answer
 answer_in other = answer.Okay
 
 -- an act's entry is that of its move, with the answer to its effect
-pub record ActsSo (s : SceneParts) (h : List Entry) (agent : AgentId) (m : Move) (e : Effect) (a : Answer) : Type 0 where
+pub record ActsSo (s : SceneParts) (h : List Entry) (agent : AgentId) (event : Option EventSource) (m : Move) (e : Effect) (a : Answer) : Type 0 where
   pub does : m ≡ Do e
-  pub answers : answer_of s h agent e ≡ Some a
+  pub answers : answer_of s h agent event e ≡ Some a
 
-act_parts : (s : SceneParts) (h : List Entry) (agent : AgentId) (place : ℕ) (x : Effect) (turn : Place) (e : Effect) (a : Answer) (o : Option Answer) → answer_of s h agent x ≡ o →
-    option_map (Act (record { 0 = place }) x) o ≡ Some (Act turn e a) → ActsSo s h agent (Do x) e a
-act_parts s h agent place x turn e a None q is = absurd cc
-act_parts s h agent place x turn e a (Some b) q is =
+act_parts : (s : SceneParts) (h : List Entry) (agent : AgentId) (event : Option EventSource) (place : ℕ) (x : Effect) (turn : Place) (e : Effect) (a : Answer) (o : Option Answer) → answer_of s h agent event x ≡ o →
+    option_map (Act (record { 0 = place }) x) o ≡ Some (Act turn e a) → ActsSo s h agent event (Do x) e a
+act_parts s h agent event place x turn e a None q is = absurd cc
+act_parts s h agent event place x turn e a (Some b) q is =
     let same : Act (record { 0 = place }) x b ≡ Act turn e a = same_Some _ _ is in
     let one : x ≡ e = ap effect_in same in
     let two : b ≡ a = ap answer_in same in
     record { does = ap Do one; answers = rw (← one, ← two) q }
 
-pub acts_so : (s : SceneParts) (h : List Entry) (agent : AgentId) (place : ℕ) (m : Move) (turn : Place) (e : Effect) (a : Answer) → entry_of s h agent place m ≡ Some (Act turn e a) → ActsSo s h agent m e a
-acts_so s h agent place (Do x) turn e a is = act_parts s h agent place x turn e a (answer_of s h agent x) refl is
-acts_so s h agent place Done turn e a is = let same : End (record { 0 = place }) ≡ Act turn e a = same_Some _ _ is in absurd cc
-acts_so s h agent place (Fail kind) turn e a is = let same : Abort _ ≡ Act turn e a = same_Some _ _ is in absurd cc
+pub acts_so : (s : SceneParts) (h : List Entry) (agent : AgentId) (event : Option EventSource) (place : ℕ) (m : Move) (turn : Place) (e : Effect) (a : Answer) → entry_of s h agent event place m ≡ Some (Act turn e a) → ActsSo s h agent event m e a
+acts_so s h agent event place (Do x) turn e a is = act_parts s h agent event place x turn e a (answer_of s h agent event x) refl is
+acts_so s h agent event place Done turn e a is = let same : End (record { 0 = place }) ≡ Act turn e a = same_Some _ _ is in absurd cc
+acts_so s h agent event place (Fail kind) turn e a is = let same : Abort _ ≡ Act turn e a = same_Some _ _ is in absurd cc
 
--- an answer fits its effect
+-- ---- a switch
+
+plan_fits : (states : List State) (from leaf : StateId) → IsTree states → FitsPlan (plan_of leaf (exits states from leaf) (enters states from leaf))
+plan_fits states from leaf tree = record {
+  exits = omega (arith, filter-short (λ s. not (is_on (path states leaf) s)) (path states from), path_fits states from tree);
+  enters = omega (arith, length-reverse (filter (λ s. not (is_on (path states from) s)) (path states leaf)), filter-short (λ s. not (is_on (path states from) s)) (path states leaf), path_fits states leaf tree);
+}
+
+-- what a plan is: none, or one to the leaf
+plan_case : (states : List State) (from leaf : StateId) (b : Bool) (p : Plan) → cond b None (Some (plan_of leaf (exits states from leaf) (enters states from leaf))) ≡ Some p → p ≡ plan_of leaf (exits states from leaf) (enters states from leaf)
+plan_case states from leaf true p e = absurd cc
+plan_case states from leaf false p e = sym (same_Some _ p e)
+
+switches : (s : SceneParts) (h : List Entry) (a : AgentId) (to : StateId) (p : Plan) → switch_of s h a to ≡ Some p →
+    p ≡ plan_of (resolve (states_of s a) (leaves s h a) to) (exits (states_of s a) (leaf_of s h a) (resolve (states_of s a) (leaves s h a) to)) (enters (states_of s a) (leaf_of s h a) (resolve (states_of s a) (leaves s h a) to))
+switches s h a to p e =
+    plan_case (states_of s a) (leaf_of s h a) (resolve (states_of s a) (leaves s h a) to) (same_state (resolve (states_of s a) (leaves s h a) to) (leaf_of s h a)) p e
+
+switch_fits : (s : SceneParts) (h : List Entry) (a : AgentId) (to : StateId) (o : Option Plan) → IsTree (states_of s a) → switch_of s h a to ≡ o → Fits (effect.Switch to) (answer_to_switch o)
+switch_fits s h a to None tree e = tt
+switch_fits s h a to (Some p) tree e = subst FitsPlan (sym (switches s h a to p e)) (plan_fits (states_of s a) (leaf_of s h a) (resolve (states_of s a) (leaves s h a) to) tree)
+
+-- ---- an answer fits its effect
+
 send_fits : (s : SceneParts) (h : List Entry) (target : Target) (msg : MsgId) (payload : Payload) (a : Answer) → answer_to_send s h target msg payload ≡ Some a → Fits (effect.Send target msg payload) a
 send_fits s h (Mbox mbox) msg payload a is = subst (Fits (effect.Send (Mbox mbox) msg payload)) (same_Some _ a is) tt
 send_fits s h (Chain chain) msg payload a is = absurd cc
@@ -144,25 +222,101 @@ yes_said : (b : Bool) → IsSaid (yes_where b)
 yes_said true = tt
 yes_said false = tt
 
-pub answer_fits : (s : SceneParts) (h : List Entry) (agent : AgentId) (e : Effect) (a : Answer) → answer_of s h agent e ≡ Some a → Fits e a
-answer_fits s h agent (effect.Log text payload) a is = subst (Fits (effect.Log text payload)) (same_Some _ a is) tt
-answer_fits s h agent (effect.Send target msg payload) a is = send_fits s h target msg payload a is
-answer_fits s h agent (effect.Subscribe row) a is = subst (Fits (effect.Subscribe row)) (same_Some _ a is) (yes_said (may_subscribe s h agent row))
-answer_fits s h agent (effect.Unsubscribe row) a is = subst (Fits (effect.Unsubscribe row)) (same_Some _ a is) (yes_said (is_active (active_rows s h agent) row.0))
-answer_fits s h agent (effect.SetFilter filter) a is = subst (Fits (effect.SetFilter filter)) (same_Some _ a is) tt
-answer_fits s h agent (effect.DropFilter filter) a is = subst (Fits (effect.DropFilter filter)) (same_Some _ a is) (yes_said (is_active (active_filters s h agent) filter.0))
-answer_fits s h agent effect.Stop a is = subst (Fits effect.Stop) (same_Some _ a is) tt
-answer_fits s h agent (effect.Delayed target msg payload ms) a is = absurd cc
-answer_fits s h agent (effect.Timer slot target msg payload ms period) a is = absurd cc
-answer_fits s h agent (effect.Cancel slot) a is = absurd cc
-answer_fits s h agent (effect.Switch to) a is = absurd cc
-answer_fits s h agent (effect.SetState leaf) a is = absurd cc
-answer_fits s h agent effect.Choose a is = absurd cc
-answer_fits s h agent (effect.Register coop) a is = absurd cc
-answer_fits s h agent (effect.Deregister coop) a is = absurd cc
-answer_fits s h agent (effect.Close chain keep) a is = absurd cc
-answer_fits s h agent (effect.Receive place) a is = absurd cc
-answer_fits s h agent (effect.Take place) a is = absurd cc
+choose_fits : (s : SceneParts) (h : List Entry) (agent : AgentId) (event : Option EventSource) (a : Answer) → IsScene s → agent.0 < length s.agents → option_map (choice_for s h agent) event ≡ Some a → Fits effect.Choose a
+choose_fits s h agent None a scene known is = absurd cc
+choose_fits s h agent (Some event) a scene known is = subst (Fits effect.Choose) (same_Some _ a is) (choice_fits s h agent event.mbox event.msg scene known)
+
+pub answer_fits : (s : SceneParts) (h : List Entry) (agent : AgentId) (event : Option EventSource) (e : Effect) (a : Answer) → IsScene s → agent.0 < length s.agents → answer_of s h agent event e ≡ Some a → Fits e a
+answer_fits s h agent event (effect.Log text payload) a scene known is = subst (Fits (effect.Log text payload)) (same_Some _ a is) tt
+answer_fits s h agent event (effect.Send target msg payload) a scene known is = send_fits s h target msg payload a is
+answer_fits s h agent event (effect.Switch to) a scene known is = subst (Fits (effect.Switch to)) (same_Some _ a is) (switch_fits s h agent to (switch_of s h agent to) (agent_tree s agent scene known) refl)
+answer_fits s h agent event (effect.SetState leaf) a scene known is = subst (Fits (effect.SetState leaf)) (same_Some _ a is) tt
+answer_fits s h agent event effect.Choose a scene known is = choose_fits s h agent event a scene known is
+answer_fits s h agent event (effect.Subscribe row) a scene known is = subst (Fits (effect.Subscribe row)) (same_Some _ a is) (yes_said (may_subscribe s h agent row))
+answer_fits s h agent event (effect.Unsubscribe row) a scene known is = subst (Fits (effect.Unsubscribe row)) (same_Some _ a is) (yes_said (is_active (active_rows s h agent) row.0))
+answer_fits s h agent event (effect.SetFilter filter) a scene known is = subst (Fits (effect.SetFilter filter)) (same_Some _ a is) tt
+answer_fits s h agent event (effect.DropFilter filter) a scene known is = subst (Fits (effect.DropFilter filter)) (same_Some _ a is) (yes_said (is_active (active_filters s h agent) filter.0))
+answer_fits s h agent event effect.Stop a scene known is = subst (Fits effect.Stop) (same_Some _ a is) tt
+answer_fits s h agent event (effect.Delayed target msg payload ms) a scene known is = absurd cc
+answer_fits s h agent event (effect.Timer slot target msg payload ms period) a scene known is = absurd cc
+answer_fits s h agent event (effect.Cancel slot) a scene known is = absurd cc
+answer_fits s h agent event (effect.Register coop) a scene known is = absurd cc
+answer_fits s h agent event (effect.Deregister coop) a scene known is = absurd cc
+answer_fits s h agent event (effect.Close chain keep) a scene known is = absurd cc
+answer_fits s h agent event (effect.Receive place) a scene known is = absurd cc
+answer_fits s h agent event (effect.Take place) a scene known is = absurd cc
+
+-- ---- what an answer names
+
+-- the leaf of a plan is a state of the agent
+planned_case : (s : SceneParts) (h : List Entry) (a : AgentId) (to : StateId) (o : Option Plan) (p : Plan) → IsTree (states_of s a) → to.0 ≤ length (states_of s a) → switch_of s h a to ≡ o → answer_to_switch o ≡ answer.Planned p → p.leaf.0 ≤ length (states_of s a)
+planned_case s h a to None p tree few e is = absurd cc
+planned_case s h a to (Some q) p tree few e is =
+    let one : q ≡ p = cc in
+    let leaf : p.leaf ≡ resolve (states_of s a) (leaves s h a) to = ap (λ (x : Plan). x.leaf) (sym one ∙ switches s h a to q e) in
+    omega (arith, ap (λ (x : StateId). x.0) leaf, resolve-few (states_of s a) (leaves s h a) to tree few)
+
+not_planned : (b : Bool) (p : Plan) → Some (yes_where b) ≡ Some (answer.Planned p) → ⊥
+not_planned true p e = cc
+not_planned false p e = cc
+
+sends_no_plan : (s : SceneParts) (h : List Entry) (target : Target) (msg : MsgId) (payload : Payload) (p : Plan) → answer_to_send s h target msg payload ≡ Some (answer.Planned p) → ⊥
+sends_no_plan s h (Mbox mbox) msg payload p e = cc
+sends_no_plan s h (Chain chain) msg payload p e = cc
+
+choice_no_plan : (s : SceneParts) (h : List Entry) (a : AgentId) (event : Option EventSource) (p : Plan) → option_map (choice_for s h a) event ≡ Some (answer.Planned p) → ⊥
+choice_no_plan s h a None p e = cc
+choice_no_plan s h a (Some event) p e = cc
+
+planned_within : (s : SceneParts) (h : List Entry) (agent : AgentId) (event : Option EventSource) (e : Effect) (p : Plan) → IsTree (states_of s agent) → NamesEffect s agent event e → answer_of s h agent event e ≡ Some (answer.Planned p) → p.leaf.0 ≤ length (states_of s agent)
+planned_within s h agent event (effect.Switch to) p tree names is = planned_case s h agent to (switch_of s h agent to) p tree names refl (same_Some _ _ is)
+planned_within s h agent event (effect.Log text payload) p tree names is = absurd cc
+planned_within s h agent event (effect.Send target msg payload) p tree names is = absurd (sends_no_plan s h target msg payload p is)
+planned_within s h agent event (effect.SetState leaf) p tree names is = absurd cc
+planned_within s h agent event effect.Choose p tree names is = absurd (choice_no_plan s h agent event p is)
+planned_within s h agent event (effect.Subscribe row) p tree names is = absurd (not_planned (may_subscribe s h agent row) p is)
+planned_within s h agent event (effect.Unsubscribe row) p tree names is = absurd (not_planned (is_active (active_rows s h agent) row.0) p is)
+planned_within s h agent event (effect.SetFilter filter) p tree names is = absurd cc
+planned_within s h agent event (effect.DropFilter filter) p tree names is = absurd (not_planned (is_active (active_filters s h agent) filter.0) p is)
+planned_within s h agent event effect.Stop p tree names is = absurd cc
+planned_within s h agent event other p tree names is = absurd names
+
+-- and so are the states that a choice names
+chose_case : (s : SceneParts) (h : List Entry) (agent : AgentId) (event : Option EventSource) (c : Chosen) → IsScene s → option_map (choice_for s h agent) event ≡ Some (answer.Chose c) → ChoosesWithin (length (states_of s agent)) c
+chose_case s h agent None c scene is = absurd cc
+chose_case s h agent (Some event) c scene is =
+    let same : answer.Chose (chosen_for s h agent event.mbox event.msg) ≡ answer.Chose c = same_Some _ _ is in
+    let one : chosen_for s h agent event.mbox event.msg ≡ c = cc in
+    subst (ChoosesWithin (length (states_of s agent))) one (chosen_within s h agent event.mbox event.msg scene)
+
+-- ---- a frame that begins has the opening that it is given, and no plan
+
+either_opens : (b : Bool) (x y : Frame) (o : Opening) → x.opening ≡ o → y.opening ≡ o → (if b then x else y).opening ≡ o
+either_opens true x y o p q = p
+either_opens false x y o p q = q
+
+either_plan : (b : Bool) (x y : Frame) (l : Plan) → x.plan ≡ l → y.plan ≡ l → (if b then x else y).plan ≡ l
+either_plan true x y l p q = p
+either_plan false x y l p q = q
+
+chose_opens : (c : Chosen) (f : Frame) → (chose c f).opening ≡ f.opening
+chose_opens (chosen.Transfer from to) f = either_opens (has_transferred f from) _ _ f.opening refl refl
+chose_opens other f = refl
+
+chose_plan : (c : Chosen) (f : Frame) → (chose c f).plan ≡ f.plan
+chose_plan (chosen.Transfer from to) f = either_plan (has_transferred f from) _ _ f.plan refl refl
+chose_plan other f = refl
+
+begun_has_opening : (o : Opening) (vs : Vars) (ms : Payload) → (begun o vs ms).opening ≡ o
+begun_has_opening (opening.Event c) vs ms = chose_opens c (fresh (opening.Event c) vs ms)
+begun_has_opening other vs ms = refl
+
+begun_has_plan : (o : Opening) (vs : Vars) (ms : Payload) → (begun o vs ms).plan ≡ no_plan
+begun_has_plan (opening.Event c) vs ms = chose_plan c (fresh (opening.Event c) vs ms)
+begun_has_plan other vs ms = refl
+
+begun_has_leaf : (o : Opening) (vs : Vars) (ms : Payload) → (begun o vs ms).plan.leaf.0 ≡ 0
+begun_has_leaf o vs ms = ap (λ (p : Plan). p.leaf.0) (begun_has_plan o vs ms)
 
 -- ---- along a history
 
@@ -175,47 +329,74 @@ module _ (s : SceneParts) (scene : IsScene s) where
     abbrev its_code : IsCode (code_of s c.agent)
     its_code = agent_code s c.agent scene sound.known
 
-    own_at : (place : ℕ) (i : Instr) → IsAt (code_of s c.agent) place i → is_own i ≡ true
-    own_at place i here = named_own (named_by s (agent_of s c.agent)) i (each_at (NamesParts s (agent_of s c.agent)) (code_of s c.agent) place i (agent_parts s c.agent scene sound.known) here.here)
+    its_parts : (place : ℕ) (i : Instr) → IsAt (code_of s c.agent) place i → NamesParts s (agent_of s c.agent) i
+    its_parts place i here = each_at (NamesParts s (agent_of s c.agent)) (code_of s c.agent) place i (agent_parts s c.agent scene sound.known) here.here
 
     -- what a move keeps
     pub moved_frame : IsFrame (code_of s c.agent) (move_of s c).1
     moved_frame = after_frame (code_of s c.agent) its_code c.frame sound.frame
 
-    pub moved_runs : RunsActs (move_of s c).1
-    moved_runs = after_runs (code_of s c.agent) its_code is_own own_at (λ i own. own) c.frame sound.frame sound.runs
+    moved_opens : OpensWithin (length (states_of s c.agent)) (move_of s c).1.opening
+    moved_opens = subst (OpensWithin (length (states_of s c.agent))) (sym (after_opening (code_of s c.agent) its_code c.frame sound.frame)) sound.opens
+
+    moved_event : HasEvent (move_of s c).1.opening c.event
+    moved_event = subst (λ o. HasEvent o c.event) (sym (after_opening (code_of s c.agent) its_code c.frame sound.frame)) sound.event
+
+    moved_leaf : (move_of s c).1.plan.leaf.0 ≤ length (states_of s c.agent)
+    moved_leaf = subst (λ (p : Plan). p.leaf.0 ≤ length (states_of s c.agent)) (sym (after_plan (code_of s c.agent) its_code c.frame sound.frame)) sound.leaf
 
     pub moved_waits : (e : Effect) → (move_of s c).0 ≡ Do e → (move_of s c).1.todo ≡ todo.Wait e
     moved_waits e does = after_waits (code_of s c.agent) its_code c.frame (move_of s c).1 e sound.frame (ap (λ m. (m, (move_of s c).1)) does)
 
     -- its effect names parts of the scene
-    pub names_parts : (e : Effect) → (move_of s c).0 ≡ Do e → NamesEffect s c.agent e
+    pub names_parts : (e : Effect) → (move_of s c).0 ≡ Do e → NamesEffect s c.agent c.event e
     names_parts e does =
-        let act = own_act (code_of s c.agent) its_code is_own own_at (λ i own. own) c.frame (move_of s c).1 e sound.frame sound.runs (ap (λ m. (m, (move_of s c).1)) does) in
-        effect_names s c.agent act.instr (move_of s c).1 e (scene.agents c.agent.0 no_agent sound.known) (each_at (NamesParts s (agent_of s c.agent)) (code_of s c.agent) (move_of s c).1.place act.instr (agent_parts s c.agent scene sound.known) act.here.here) act.makes
+        origin_names s c.agent c.event (move_of s c).1 (scene.agents c.agent.0 no_agent sound.known) its_parts moved_opens moved_event moved_leaf e
+        (comes (code_of s c.agent) its_code c.frame (move_of s c).1 e sound.frame (ap (λ m. (m, (move_of s c).1)) does))
+
+    opening_case : (h : List Entry) (e : Effect) (a : Answer) (g : Frame) → (move_of s c).0 ≡ Do e → answer_of s h c.agent c.event e ≡ Some a → OpeningAfter a (move_of s c).1 g → OpensWithin (length (states_of s c.agent)) g.opening × HasEvent g.opening c.event
+    opening_case h e a g does answers (keeps stays) = (subst (OpensWithin (length (states_of s c.agent))) (sym stays) moved_opens, subst (λ o. HasEvent o c.event) (sym stays) moved_event)
+    opening_case h e a g does answers (chooses x waits is opens) =
+        let chosen_now : todo.Wait e ≡ todo.Wait effect.Choose = sym (moved_waits e does) ∙ waits in
+        let one : e ≡ effect.Choose = cc in
+        let told : option_map (choice_for s h c.agent) c.event ≡ Some (answer.Chose x) = rw (← is) (rw one at answers) in
+        let names : is_some c.event ≡ true = rw one at (names_parts e does) in
+        (rw opens (chose_case s h c.agent c.event x scene told), rw opens names)
+
+    plan_after_case : (h : List Entry) (e : Effect) (a : Answer) (g : Frame) → (move_of s c).0 ≡ Do e → answer_of s h c.agent c.event e ≡ Some a → PlanAfter a (move_of s c).1 g → g.plan.leaf.0 ≤ length (states_of s c.agent)
+    plan_after_case h e a g does answers (same stays) = subst (λ (p : Plan). p.leaf.0 ≤ length (states_of s c.agent)) (sym stays) moved_leaf
+    plan_after_case h e a g does answers (plans p is set) =
+        rw set (planned_within s h c.agent c.event e p (agent_tree s c.agent scene sound.known) (names_parts e does) (rw (← is) answers))
 
     -- the answer to its effect leaves it sound
-    pub answered_sound : (h : List Entry) (e : Effect) (a : Answer) → (move_of s c).0 ≡ Do e → answer_of s h c.agent e ≡ Some a → IsSound s (answer_to s a c)
+    pub answered_sound : (h : List Entry) (e : Effect) (a : Answer) → (move_of s c).0 ≡ Do e → answer_of s h c.agent c.event e ≡ Some a → IsSound s (answer_to s a c)
     answered_sound h e a does answers =
         let waits = moved_waits e does in
-        let fits : IsAnswerTo (move_of s c).1.todo a = subst (λ t. IsAnswerTo t a) (sym waits) (answer_fits s h c.agent e a answers) in
+        let fits : IsAnswerTo (move_of s c).1.todo a = subst (λ t. IsAnswerTo t a) (sym waits) (answer_fits s h c.agent c.event e a scene sound.known answers) in
+        let opens = opening_case h e a _ does answers (answered_opening a (move_of s c).1) in
         record {
           known = sound.known;
           frame = answered_frame (code_of s c.agent) a (move_of s c).1 moved_frame fits;
           awake = answered_awake a (move_of s c).1 fits;
-          runs = answered_runs a (move_of s c).1 moved_runs;
+          opens = opens.0;
+          event = opens.1;
+          leaf = plan_after_case h e a _ does answers (answered_plan a (move_of s c).1);
         }
 
   begun_sound : (h : List Entry) (by : PartyId) (lane : LaneId) (demand : Option DemandId) (opening : Opening) (agent : AgentId) (vs : Vars) (ms : Payload) →
-      IsRow s h by (Begin lane demand opening agent) → IsSound s (record { agent = agent; frame = begun opening vs ms })
+      IsRow s h by (Begin lane demand opening agent) → IsSound s (record { agent = agent; event = event_of s h demand; frame = begun opening vs ms })
   begun_sound h by lane demand opening agent vs ms row =
-      let says = (begins_as lane lane row.demand (opening_of s h row.demand) (skipped (opening_of s h row.demand)) demand opening agent row.is).opening_is in
-      let opens : opens_acts opening ≡ true = rw says (opening_acts s h row.demand scene) in
+      let it = begins_as lane lane row.demand (opening_of s h row.demand) (skipped (opening_of s h row.demand)) demand opening agent row.is in
+      let within : OpensWithin (length (states_of s agent)) opening = rw (it.opening_is, it.agent_is) (opening_within s h row.demand scene) in
+      let event : event_of s h demand ≡ source_of row.demand.kind = ap (event_of s h) it.demand_is ∙ event_picked s h lane row.demand row.picked in
+      let has : HasEvent opening (event_of s h demand) = rw (it.opening_is, event) (opening_event s h row.demand) in
       record {
         known = (started_of s h 0 by (Begin lane demand opening agent) scene row).0;
         frame = begun_frame (code_of s agent) opening vs ms;
         awake = begun_awake opening vs ms;
-        runs = begun_runs opening vs ms opens;
+        opens = rw (begun_has_opening opening vs ms) within;
+        event = rw (begun_has_opening opening vs ms) has;
+        leaf = rw (begun_has_leaf opening vs ms) (omega arith);
       }
 
   cond_sound : (b : Bool) (x y : Option Course) → AreSound s x → AreSound s y → AreSound s (cond b x y)
@@ -228,12 +409,12 @@ module _ (s : SceneParts) (scene : IsScene s) where
   acted_sound h by turn e a t true here row old =
       let place : turn.0 ≡ t = eqb-true turn.0 t here in
       let has : course s h t ≡ Some row.reached = rw (← place) row.has in
-      let acts = acts_so s h row.reached.agent turn.0 (move_of s row.reached).0 turn e a row.is in
+      let acts = acts_so s h row.reached.agent row.reached.event turn.0 (move_of s row.reached).0 turn e a row.is in
       let sound : IsSound s row.reached = subst (AreSound s) has old in
       subst (λ c. AreSound s (option_map (answer_to s a) c)) (sym has) (answered_sound row.reached sound h e a acts.does acts.answers)
 
-  advanced_sound : (h : List Entry) (by : PartyId) (kind : EntryKind) (t : ℕ) → IsRow s h by kind → AreSound s (course s h t) → AreSound s (advanced s (vars s h) (message_of s h) (length h) kind t (course s h t))
-  advanced_sound h by (Begin lane demand opening agent) t row old = cond_sound (length h == t) _ (course s h t) (begun_sound h by lane demand opening agent (vars s h agent) (message_of s h demand) row) old
+  advanced_sound : (h : List Entry) (by : PartyId) (kind : EntryKind) (t : ℕ) → IsRow s h by kind → AreSound s (course s h t) → AreSound s (advanced s (beginnings s h) (length h) kind t (course s h t))
+  advanced_sound h by (Begin lane demand opening agent) t row old = cond_sound (length h == t) _ (course s h t) (begun_sound h by lane demand opening agent _ _ row) old
   advanced_sound h by (Act turn e a) t row old = acted_sound h by turn e a t (turn.0 == t) refl row old
   advanced_sound h by (Register coop) t row old = old
   advanced_sound h by (End turn) t row old = old

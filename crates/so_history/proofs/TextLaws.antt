@@ -1,5 +1,5 @@
 -- What the lines of a legal history name is there.
-use Rattle.std.proofs.Common.{◌≡◌, ℕ, ◌<◌, List, [], ◌∷◌, length, Bool, true, false, cond, Some, arith, refl, sym, ◌∙◌, ap, subst}
+use Rattle.std.proofs.Common.{◌≡◌, ℕ, ◌<◌, List, [], ◌∷◌, length, Bool, true, false, cond, Option, Some, arith, refl, sym, ◌∙◌, ap, subst}
 use Rattle.std.specs.Prelude.{◌==◌}
 use Rattle.std.proofs.lemmas.Option.{same_Some}
 use Rattle.so_ids.specs.declared.AgentId.{AgentId}
@@ -15,6 +15,7 @@ use Rattle.so_history.specs.declared.entry.Entry.{Entry}
 use Rattle.so_history.specs.declared.entry.EntryKind.{EntryKind}
 use Rattle.so_history.specs.declared.entry.EntryKind.TheVariants.{Register, Begin, Skip, Act, End, Leaving, Left, Stop, Abort}
 use Rattle.so_history.specs.declared.entry.AbortCause.TheVariants.{Exception}
+use Rattle.so_history.specs.declared.entry.EventSource.{EventSource}
 use Rattle.so_history.specs.Places.{entry_at, before, beginner, beginner_at}
 use Rattle.so_history.specs.Turns.{Started, started_by, move_of}
 use Rattle.so_history.specs.Steps.{NamesEffect, IsMove, IsRow, Legal}
@@ -66,18 +67,18 @@ owned s h place e by turn kind scene legal here row =
     let whose : beginner_at (entry_at h turn) ≡ row.turn.agent = ap beginner_at (sym (before-entry h place turn early (inside h place e here))) ∙ beginner_of (before h place) turn row.turn looked in
     record { early = early; agent = rw whose agent }
 
-text_named : (s : SceneParts) (a : AgentId) (e : Effect) → NamesEffect s a e → HasText s e
-text_named s a (Log text payload) named = named
-text_named s a other named = tt
+text_named : (s : SceneParts) (a : AgentId) (event : Option EventSource) (e : Effect) → NamesEffect s a event e → HasText s e
+text_named s a event (Log text payload) named = named
+text_named s a event other named = tt
 
 pub act_named : (s : SceneParts) (h : List Entry) (place : ℕ) (e : Entry) (turn : Place) (effect : Effect) (answer : Answer) → IsScene s → Legal s h → entry_at h place ≡ Some e → e.kind ≡ Act turn effect answer → IsActed s h place turn.0 effect
 act_named s h place e turn effect answer scene legal here is =
     let at = steps_at s h place e legal here in
     let row : IsRow s (before h place) e.by (Act turn effect answer) = subst (IsRow s (before h place) e.by) is at.step.row in
     let its = owned s h place e e.by turn.0 (Act turn effect answer) scene legal here row in
-    let acts = acts_so s (before h place) row.reached.agent turn.0 (move_of s row.reached).0 turn effect answer row.is in
+    let acts = acts_so s (before h place) row.reached.agent row.reached.event turn.0 (move_of s row.reached).0 turn effect answer row.is in
     let sound = course_sound s scene (before h place) turn.0 row.reached at.legal row.has in
-    record { early = its.early; agent = its.agent; text = text_named s row.reached.agent effect (names_parts s scene row.reached sound effect acts.does) }
+    record { early = its.early; agent = its.agent; text = text_named s row.reached.agent row.reached.event effect (names_parts s scene row.reached sound effect acts.does) }
 
 pub abort_named : (s : SceneParts) (h : List Entry) (place : ℕ) (e : Entry) (turn : Place) (kind : FailKind) → IsScene s → Legal s h → entry_at h place ≡ Some e → e.kind ≡ Abort (Exception turn kind) → IsOwned s h place turn.0
 abort_named s h place e turn kind scene legal here is =

@@ -29,7 +29,7 @@ signed by kind = record { by = by; kind = kind }
 
 -- the entry of a turn's next move, where it has one
 abbrev pub next_of : SceneParts → List Entry → Started → Course → Option Entry
-next_of s h t c = option_map (signed t.by) (entry_of s h c.agent t.place (move_of s c).0)
+next_of s h t c = option_map (signed t.by) (entry_of s h c.agent c.event t.place (move_of s c).0)
 
 abbrev pub turn_entry : SceneParts → List Entry → Option Started → Option Entry
 turn_entry s h None = None

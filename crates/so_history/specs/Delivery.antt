@@ -1,44 +1,33 @@
 -- Who is subscribed to what, and what becomes of a message that is sent through a mbox.
-use Rattle.std.specs.Prelude.{List, [], ◌∷◌, length, replicate, Bool, false, ◌==◌, if◌then◌else◌}
+use Rattle.std.specs.Prelude.{List, [], ◌∷◌, length, replicate, Bool, false, if◌then◌else◌}
 use Rattle.so_ids.specs.declared.AgentId.{AgentId}
-use Rattle.so_ids.specs.declared.CoopId.{CoopId}
 use Rattle.so_ids.specs.declared.MboxId.{MboxId}
 use Rattle.so_ids.specs.declared.MsgId.{MsgId}
 use Rattle.so_ids.specs.declared.Payload.{Payload}
-use Rattle.so_ids.specs.declared.Place.{Place}
-use Rattle.so_ids.specs.declared.StateId.{StateId}
 use Rattle.so_ids.specs.declared.Sent.{Sent}
 use Rattle.so_ids.specs.declared.Chosen.{Chosen}
 use Rattle.so_code.specs.declared.effect.Effect.{Effect}
 use Rattle.so_code.specs.declared.effect.Effect.TheVariants.{Subscribe, Unsubscribe, SetFilter, DropFilter}
 use Rattle.so_code.specs.declared.effect.Answer.{Answer}
 use Rattle.so_code.specs.declared.effect.Answer.TheVariants.{Yes}
-use Rattle.so_state.specs.States.{default_state}
 use Rattle.so_state.specs.Choice.{chosen}
 use Rattle.so_scene.specs.declared.parts.SceneParts.{SceneParts}
-use Rattle.so_scene.specs.Parts.{agent_of, agents_of, rows_of, filters_of, states_of}
+use Rattle.so_scene.specs.Parts.{agents_of, rows_of, filters_of, states_of}
 use Rattle.so_scene.specs.Delivery.{Outcome, receivers_among, passes_with, outcomes, sent_of}
 use Rattle.so_scene.specs.Subscriptions.{rows_first, row_set, row_dropped, filters_first, filter_set, filter_dropped}
 use Rattle.so_history.specs.declared.entry.Entry.{Entry}
 use Rattle.so_history.specs.declared.entry.EntryKind.{EntryKind}
 use Rattle.so_history.specs.declared.entry.EntryKind.TheVariants.{Register, Act, Left}
-use Rattle.so_history.specs.Places.{entry_at, beginner_at}
+use Rattle.so_history.specs.Leaves.{is_of, is_turn_of, leaf_of}
 use Rattle.so_history.specs.Coops.{the_coop, present, leaving}
 
 -- ---- which agents are registered
-
-abbrev pub is_of : SceneParts → CoopId → AgentId → Bool
-is_of s coop a = (agent_of s a).coop.0 == coop.0
 
 -- the agents that are registered, in order of registration
 abbrev pub registered : SceneParts → List Entry → List AgentId
 registered s h = if present h then agents_of s the_coop else []
 
 -- ---- which of an agent's rows and filters are active: its registration sets them anew, its own acts change them
-
--- the turn at a place is the agent's
-abbrev pub is_turn_of : List Entry → Place → AgentId → Bool
-is_turn_of h turn a = (beginner_at (entry_at h turn.0)).0 == a.0
 
 -- no row of the agent is active
 abbrev pub no_rows : SceneParts → AgentId → List Bool
@@ -97,10 +86,6 @@ abbrev pub sent : SceneParts → List Entry → MboxId → MsgId → Payload →
 sent s h mbox msg payload = sent_of (delivered s h mbox msg payload)
 
 -- ---- what an event is answered by
-
--- the state of an agent: the default one, since none switches so far
-abbrev pub leaf_of : SceneParts → List Entry → AgentId → StateId
-leaf_of s h a = default_state
 
 -- what the agent's rows choose for an event
 abbrev pub chosen_for : SceneParts → List Entry → AgentId → MboxId → MsgId → Chosen

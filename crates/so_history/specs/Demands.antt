@@ -18,6 +18,7 @@ use Rattle.so_history.specs.declared.entry.Entry.{Entry}
 use Rattle.so_history.specs.declared.entry.EntryKind.{EntryKind}
 use Rattle.so_history.specs.declared.entry.EntryKind.TheVariants.{Register, Begin, Skip, Act, Leaving}
 use Rattle.so_history.specs.declared.entry.Demand.{Demand}
+use Rattle.so_history.specs.declared.entry.EventSource.{EventSource}
 use Rattle.so_history.specs.Delivery.{delivered}
 use Rattle.so_history.specs.declared.entry.DemandKind.{DemandKind}
 use Rattle.so_history.specs.declared.entry.DemandKind.TheVariants.{Start, Finish, Event}
@@ -113,3 +114,17 @@ payload_in (Some d) = payload_of d.kind
 abbrev pub message_of : SceneParts → List Entry → Option DemandId → Payload
 message_of s h None = no_payload
 message_of s h (Some id) = payload_in (named id (demands s h))
+
+-- ---- what an event is looked up by; a demand that is no event has none
+
+abbrev pub source_of : DemandKind → Option EventSource
+source_of (Event mbox msg payload) = Some (record { mbox = mbox; msg = msg })
+source_of other = None
+
+abbrev pub source_in : Option Demand → Option EventSource
+source_in None = None
+source_in (Some d) = source_of d.kind
+
+abbrev pub event_of : SceneParts → List Entry → Option DemandId → Option EventSource
+event_of s h None = None
+event_of s h (Some id) = source_in (named id (demands s h))

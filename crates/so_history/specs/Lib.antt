@@ -1,6 +1,7 @@
 pub mod Kept
 pub mod Places
 pub mod Coops
+pub mod Leaves
 pub mod Delivery
 pub mod Demands
 pub mod Turns

@@ -1,5 +1,5 @@
 -- Which entry may follow a history, and which histories are legal.
-use Rattle.std.specs.Prelude.{◌≡◌, ℕ, ◌<◌, List, [], ◌∷◌, length, Bool, true, false, not, ◌&&◌, ◌||◌, ◌⊎◌, Option, Some, None, if◌then◌else◌, slice_index_or}
+use Rattle.std.specs.Prelude.{◌≡◌, ℕ, ◌<◌, ◌≤◌, List, [], ◌∷◌, length, Bool, true, false, not, ◌&&◌, ◌||◌, ◌⊎◌, Option, Some, None, if◌then◌else◌, slice_index_or, is_some}
 use Rattle.std.specs.Option.{option_map}
 use Rattle.so_ids.specs.declared.PartyId.{PartyId}
 use Rattle.so_ids.specs.declared.LaneId.{LaneId}
@@ -8,6 +8,7 @@ use Rattle.so_ids.specs.declared.AgentId.{AgentId}
 use Rattle.so_ids.specs.declared.MsgId.{MsgId}
 use Rattle.so_ids.specs.declared.Payload.{Payload}
 use Rattle.so_ids.specs.declared.RowId.{RowId}
+use Rattle.so_ids.specs.declared.Plan.{Plan}
 use Rattle.so_ids.specs.declared.Target.{Target}
 use Rattle.so_ids.specs.declared.Target.TheVariants.{Mbox, Chain}
 use Rattle.so_ids.specs.declared.Reason.TheVariants.{Shutdown}
@@ -20,7 +21,7 @@ use Rattle.so_code.specs.declared.effect.Move.{Move}
 use Rattle.so_code.specs.declared.effect.Move.TheVariants.{Do, Done, Fail}
 use Rattle.so_lists.specs.Lists.{is_empty}
 use Rattle.so_scene.specs.declared.parts.SceneParts.{SceneParts}
-use Rattle.so_scene.specs.Parts.{mboxes, rows_of, filters_of}
+use Rattle.so_scene.specs.Parts.{mboxes, rows_of, filters_of, states_of}
 use Rattle.so_scene.specs.Subscriptions.{row_of}
 use Rattle.so_scene.specs.Definition.{is_twice}
 use Rattle.so_scene.specs.Checked.{IsTarget}
@@ -33,7 +34,9 @@ use Rattle.so_history.specs.declared.entry.StopCause.{StopCause}
 use Rattle.so_history.specs.declared.entry.StopCause.TheVariants.{Asked, Idle}
 use Rattle.so_history.specs.declared.entry.AbortCause.{AbortCause}
 use Rattle.so_history.specs.declared.entry.AbortCause.TheVariants.{Exception}
-use Rattle.so_history.specs.Delivery.{active_rows, active_filters, sent}
+use Rattle.so_history.specs.declared.entry.EventSource.{EventSource}
+use Rattle.so_history.specs.Leaves.{switch_of}
+use Rattle.so_history.specs.Delivery.{active_rows, active_filters, sent, chosen_for}
 use Rattle.so_history.specs.Demands.{waiting}
 use Rattle.so_history.specs.Turns.{Started, Course, running, turn_at, course, move_of}
 use Rattle.so_history.specs.Coops.{the_coop, tried, present, leaving, stopped, stop_asked, aborted, has_reason}
@@ -56,16 +59,19 @@ finished s h = stopped h && (not (present h) && is_empty (waiting s h))
 abbrev pub is_over : SceneParts → List Entry → Bool
 is_over s h = finished s h || aborted h
 
--- what an effect of an agent names is there, and its act is built
-abbrev pub NamesEffect : SceneParts → AgentId → Effect → Type 0
-NamesEffect s a (effect.Log text payload) = text.0 < length s.texts
-NamesEffect s a (effect.Send target msg payload) = IsTarget (mboxes s) target × (msg.0 < length s.messages)
-NamesEffect s a (effect.Subscribe row) = row.0 < length (rows_of s a)
-NamesEffect s a (effect.Unsubscribe row) = row.0 < length (rows_of s a)
-NamesEffect s a (effect.SetFilter filter) = filter.0 < length (filters_of s a)
-NamesEffect s a (effect.DropFilter filter) = filter.0 < length (filters_of s a)
-NamesEffect s a effect.Stop = Unit {0}
-NamesEffect s a other = ⊥
+-- what an effect of an agent's turn names is there, and its act is built. A choice is made for the event of the turn
+abbrev pub NamesEffect : SceneParts → AgentId → Option EventSource → Effect → Type 0
+NamesEffect s a event (effect.Log text payload) = text.0 < length s.texts
+NamesEffect s a event (effect.Send target msg payload) = IsTarget (mboxes s) target × (msg.0 < length s.messages)
+NamesEffect s a event (effect.Subscribe row) = row.0 < length (rows_of s a)
+NamesEffect s a event (effect.Unsubscribe row) = row.0 < length (rows_of s a)
+NamesEffect s a event (effect.SetFilter filter) = filter.0 < length (filters_of s a)
+NamesEffect s a event (effect.DropFilter filter) = filter.0 < length (filters_of s a)
+NamesEffect s a event (effect.Switch to) = to.0 ≤ length (states_of s a)
+NamesEffect s a event (effect.SetState leaf) = leaf.0 ≤ length (states_of s a)
+NamesEffect s a event effect.Choose = is_some event ≡ true
+NamesEffect s a event effect.Stop = Unit {0}
+NamesEffect s a event other = ⊥
 
 -- the answer to a send
 abbrev pub answer_to_send : SceneParts → List Entry → Target → MsgId → Payload → Option Answer
@@ -83,22 +89,34 @@ may_subscribe s h a row = not (is_twice (rows_of s a) (active_rows s h a) (row_o
 abbrev pub is_active : List Bool → ℕ → Bool
 is_active active k = slice_index_or active k false
 
+-- a switch is answered by its plan
+abbrev pub answer_to_switch : Option Plan → Answer
+answer_to_switch None = answer.Same
+answer_to_switch (Some plan) = answer.Planned plan
+
+-- what is chosen now for the event of a turn
+abbrev pub choice_for : SceneParts → List Entry → AgentId → EventSource → Answer
+choice_for s h a event = answer.Chose (chosen_for s h a event.mbox event.msg)
+
 -- the answer to an effect of an agent's turn, where it has one
-abbrev pub answer_of : SceneParts → List Entry → AgentId → Effect → Option Answer
-answer_of s h a (effect.Log text payload) = Some answer.Okay
-answer_of s h a (effect.Send target msg payload) = answer_to_send s h target msg payload
-answer_of s h a (effect.Subscribe row) = Some (yes_where (may_subscribe s h a row))
-answer_of s h a (effect.Unsubscribe row) = Some (yes_where (is_active (active_rows s h a) row.0))
-answer_of s h a (effect.SetFilter filter) = Some answer.Yes
-answer_of s h a (effect.DropFilter filter) = Some (yes_where (is_active (active_filters s h a) filter.0))
-answer_of s h a effect.Stop = Some answer.Okay
-answer_of s h a other = None
+abbrev pub answer_of : SceneParts → List Entry → AgentId → Option EventSource → Effect → Option Answer
+answer_of s h a event (effect.Log text payload) = Some answer.Okay
+answer_of s h a event (effect.Send target msg payload) = answer_to_send s h target msg payload
+answer_of s h a event (effect.Subscribe row) = Some (yes_where (may_subscribe s h a row))
+answer_of s h a event (effect.Unsubscribe row) = Some (yes_where (is_active (active_rows s h a) row.0))
+answer_of s h a event (effect.SetFilter filter) = Some answer.Yes
+answer_of s h a event (effect.DropFilter filter) = Some (yes_where (is_active (active_filters s h a) filter.0))
+answer_of s h a event (effect.Switch to) = Some (answer_to_switch (switch_of s h a to))
+answer_of s h a event (effect.SetState leaf) = Some answer.Okay
+answer_of s h a event effect.Choose = option_map (choice_for s h a) event
+answer_of s h a event effect.Stop = Some answer.Okay
+answer_of s h a event other = None
 
 -- the entry of the move of an agent's turn, where it has one. An exception aborts the run
-abbrev pub entry_of : SceneParts → List Entry → AgentId → ℕ → Move → Option EntryKind
-entry_of s h a place (Do effect) = option_map (Act (record { 0 = place }) effect) (answer_of s h a effect)
-entry_of s h a place Done = Some (End (record { 0 = place }))
-entry_of s h a place (Fail kind) = Some (Abort (Exception (record { 0 = place }) kind))
+abbrev pub entry_of : SceneParts → List Entry → AgentId → Option EventSource → ℕ → Move → Option EntryKind
+entry_of s h a event place (Do effect) = option_map (Act (record { 0 = place }) effect) (answer_of s h a event effect)
+entry_of s h a event place Done = Some (End (record { 0 = place }))
+entry_of s h a event place (Fail kind) = Some (Abort (Exception (record { 0 = place }) kind))
 
 -- what a lane takes is signed by main or by the lane's party
 abbrev pub IsSigner : PartyId → LaneId → Type 0
@@ -119,7 +137,7 @@ pub record IsMove (s : SceneParts) (h : List Entry) (by : PartyId) (place : ℕ)
   pub signed : by ≡ turn.by
   pub reached : Course
   pub has : course s h place ≡ Some reached
-  pub is : entry_of s h reached.agent place (move_of s reached).0 ≡ Some kind
+  pub is : entry_of s h reached.agent reached.event place (move_of s reached).0 ≡ Some kind
 
 pub record IsRegister (h : List Entry) (by : PartyId) (coop : CoopId) : Type 0 where
   pub signed : by ≡ main_party

@@ -22,7 +22,8 @@ use Rattle.so_scene.specs.Lanes.{key_of}
 use Rattle.so_history.specs.declared.entry.Entry.{Entry}
 use Rattle.so_history.specs.declared.entry.EntryKind.{EntryKind}
 use Rattle.so_history.specs.declared.entry.EntryKind.TheVariants.{Register, Begin, Act, End}
-use Rattle.so_history.specs.Demands.{message_of}
+use Rattle.so_history.specs.declared.entry.EventSource.{EventSource}
+use Rattle.so_history.specs.Demands.{message_of, event_of}
 
 -- a turn: the place of its Begin, and what stands there
 pub record Started : Type 0 where
@@ -77,9 +78,10 @@ running_with s h key = running_at (key_number s) h key.0
 abbrev pub turn_at : List Entry → ℕ → Option Started
 turn_at h place = find (λ t. t.place == place) (running h)
 
--- how far a turn has come: whose it is, and its frame
+-- how far a turn has come: whose it is, by what its event is looked up, and its frame
 pub record Course : Type 0 where
   pub agent : AgentId
+  pub event : Option EventSource
   pub frame : Frame
 
 -- its next move, with the frame after it
@@ -101,13 +103,19 @@ vars_after s courses (Register coop) a v = if (agent_of s a).coop.0 == coop.0 th
 vars_after s courses (End turn) a v = ended_vars s a (courses turn.0) v
 vars_after s courses other a v = v
 
--- the course of the turn at place t after one more entry, at a place. A turn begins with its agent's variables and its demand's message
-abbrev pub advanced : SceneParts → (AgentId → Vars) → (Option DemandId → Payload) → ℕ → EntryKind → ℕ → Option Course → Option Course
-advanced s vars message place (Begin lane demand opening agent) t c =
-    if place == t then Some (record { agent = agent; frame = begun opening (vars agent) (message demand) }) else c
-advanced s vars message place (Act turn effect answer) t c =
+-- what a turn begins with: its agent's variables, and its demand's event and message
+pub record Beginnings : Type 0 where
+  pub vars : AgentId → Vars
+  pub event : Option DemandId → Option EventSource
+  pub message : Option DemandId → Payload
+
+-- the course of the turn at place t after one more entry, at a place
+abbrev pub advanced : SceneParts → Beginnings → ℕ → EntryKind → ℕ → Option Course → Option Course
+advanced s b place (Begin lane demand opening agent) t c =
+    if place == t then Some (record { agent = agent; event = b.event demand; frame = begun opening (b.vars agent) (b.message demand) }) else c
+advanced s b place (Act turn effect answer) t c =
     if turn.0 == t then option_map (answer_to s answer) c else c
-advanced s vars message place other t c = c
+advanced s b place other t c = c
 
 unfoldable mutual
   -- the variables of an agent: those of its last turn that ended since its registration
@@ -118,4 +126,4 @@ unfoldable mutual
   -- the course of the turn that began at a place: its frame is moved by the turn's own acts
   pub course : SceneParts → List Entry → ℕ → Option Course
   course s [] t = None
-  course s (e ∷ h) t = advanced s (vars s h) (message_of s h) (length h) e.kind t (course s h t)
+  course s (e ∷ h) t = advanced s (record { vars = vars s h; event = event_of s h; message = message_of s h }) (length h) e.kind t (course s h t)

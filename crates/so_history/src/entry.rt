@@ -103,6 +103,13 @@ pub enum DemandKind {
     },
 }
 
+/// What an event is looked up by: the mbox that its message was sent through, and its type.
+#[derive(Clone, Copy, Debug, PartialEq, Eq)]
+pub struct EventSource {
+    pub mbox: MboxId,
+    pub msg: MsgId,
+}
+
 /// A demand: it waits in the queue of its agent's events until a turn takes it.
 #[derive(Clone, Copy, Debug, PartialEq, Eq)]
 pub struct Demand {

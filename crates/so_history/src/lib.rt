@@ -10,6 +10,6 @@ mod tests;
 mod trace;
 mod words;
 
-pub use entry::{AbortCause, Demand, DemandKind, Entry, EntryKind, Pick, SkipWhy, StopCause};
+pub use entry::{AbortCause, Demand, DemandKind, Entry, EntryKind, EventSource, Pick, SkipWhy, StopCause};
 pub use history::History;
 pub use lines::Mode;
