@@ -8,12 +8,6 @@ use Rattle.so_code.specs.declared.frame.Frame.{Frame}
 use Rattle.so_code.specs.declared.frame.Todo.TheVariants as todo
 use Rattle.so_code.specs.Running.{IsFrame, IsRunning}
 use Rattle.so_code.specs.Answers.{IsAnswerTo}
-use Rattle.so_code.specs.Openings.{FitsOpening}
-use Rattle.so_code.specs.Own.{opens_acts}
-use Rattle.so_ids.specs.declared.Chosen.{Chosen}
-use Rattle.so_ids.specs.declared.Chosen.TheVariants as chosen
-use Rattle.so_ids.specs.declared.Opening.{Opening}
-use Rattle.so_ids.specs.declared.Opening.TheVariants as opening
 use Rattle.so_code.proofs.Moves.{is_running}
 use Rattle.so_scene.specs.Parts.{code_of}
 use Rattle.so_scene.specs.Checked.{IsScene}
@@ -32,68 +26,53 @@ use Rattle.so_kernel.specs.Gates.{HasMoved, IsActOf, act_entry, answer_for}
 use Rattle.so_kernel.proofs.HeldLaws.{held_whose}
 
 module _ (k : Core) (t : Turn) (m : Move) (scene : IsScene k.scene) (legal : Legal k.scene k.history) (moved : HasMoved k.scene k.history t m) where
-  pub sound_before : IsSound k.scene (record { agent = t.agent; frame = moved.before })
+  pub sound_before : IsSound k.scene (record { agent = t.agent; event = t.event; frame = moved.before })
   sound_before = course_sound k.scene scene k.history t.begun.0 _ legal moved.held.course
 
-  pub does : (move_of k.scene (record { agent = t.agent; frame = moved.before })).0 ≡ m
+  pub does : (move_of k.scene (record { agent = t.agent; event = t.event; frame = moved.before })).0 ≡ m
   does = ap (λ (p : Move × Frame). p.0) moved.moves
 
-  pub frame_is : (move_of k.scene (record { agent = t.agent; frame = moved.before })).1 ≡ t.frame
+  pub frame_is : (move_of k.scene (record { agent = t.agent; event = t.event; frame = moved.before })).1 ≡ t.frame
   frame_is = ap (λ (p : Move × Frame). p.1) moved.moves
 
   pub moved_is_frame : IsFrame (code_of k.scene t.agent) t.frame
   moved_is_frame = subst (IsFrame (code_of k.scene t.agent)) frame_is (moved_frame k.scene scene _ sound_before)
 
 module _ (k : Core) (t : Turn) (e : Effect) where
-  pub moved_named : IsScene k.scene → Legal k.scene k.history → HasMoved k.scene k.history t (Do e) → NamesEffect k.scene t.agent e
+  pub moved_named : IsScene k.scene → Legal k.scene k.history → HasMoved k.scene k.history t (Do e) → NamesEffect k.scene t.agent t.event e
   moved_named scene legal moved = names_parts k.scene scene _ (sound_before k t (Do e) scene legal moved) e (does k t (Do e) scene legal moved)
 
   pub moved_running : IsScene k.scene → Legal k.scene k.history → HasMoved k.scene k.history t (Do e) → IsRunning t.frame
   moved_running scene legal moved =
       is_running (code_of k.scene t.agent) (agent_code k.scene t.agent scene (sound_before k t (Do e) scene legal moved).known) t.frame (moved_is_frame k t (Do e) scene legal moved)
 
-pub moved_fits : (k : Core) (t : Turn) (e : Effect) (a : Answer) → IsScene k.scene → Legal k.scene k.history → HasMoved k.scene k.history t (Do e) → answer_of k.scene k.history t.agent e ≡ Some a → IsAnswerTo t.frame.todo a
+pub moved_fits : (k : Core) (t : Turn) (e : Effect) (a : Answer) → IsScene k.scene → Legal k.scene k.history → HasMoved k.scene k.history t (Do e) → answer_of k.scene k.history t.agent t.event e ≡ Some a → IsAnswerTo t.frame.todo a
 moved_fits k t e a scene legal moved answers =
     let waits = moved_waits k.scene scene _ (sound_before k t (Do e) scene legal moved) e (does k t (Do e) scene legal moved) in
     let todo_is : t.frame.todo ≡ todo.Wait e = ap (λ (f : Frame). f.todo) (sym (frame_is k t (Do e) scene legal moved)) ∙ waits in
-    subst (λ x. IsAnswerTo x a) (sym todo_is) (answer_fits k.scene k.history t.agent e a answers)
+    subst (λ x. IsAnswerTo x a) (sym todo_is) (answer_fits k.scene k.history t.agent t.event e a scene (sound_before k t (Do e) scene legal moved).known answers)
 
-pub answer_is : (k : Core) (agent : AgentId) (e : Effect) (a : Answer) → answer_of k.scene k.history agent e ≡ Some a → answer_for k agent e ≡ a
-answer_is k agent e a answers = rw answers refl
+pub answer_is : (k : Core) (t : Turn) (e : Effect) (a : Answer) → answer_of k.scene k.history t.agent t.event e ≡ Some a → answer_for k t e ≡ a
+answer_is k t e a answers = rw answers refl
 
 -- the entry of an act is one of its turn's agent
-pub acts_for_agent : (k : Core) (t : Turn) (e : Effect) (a : Answer) → HasMoved k.scene k.history t (Do e) → answer_of k.scene k.history t.agent e ≡ Some a → IsActOf k.scene k.history (act_entry k t e) t.agent e
+pub acts_for_agent : (k : Core) (t : Turn) (e : Effect) (a : Answer) → HasMoved k.scene k.history t (Do e) → answer_of k.scene k.history t.agent t.event e ≡ Some a → IsActOf k.scene k.history (act_entry k t e) t.agent e
 acts_for_agent k t e a moved answers = record {
   turn = t.begun;
+  event = t.event;
   answer = a;
-  is = ap (Act t.begun e) (answer_is k t.agent e a answers);
+  is = ap (Act t.begun e) (answer_is k t e a answers);
   whose = beginner_of k.history t.begun.0 moved.held.turn (turn_looked_up k.history t.begun.0 moved.held.turn moved.held.runs) ∙ held_whose k.scene k.history _ moved.held;
   answers = answers;
 }
 
--- an opening that begins with acts
-fits_event : (c : Chosen) → opens_acts (opening.Event c) ≡ true → FitsOpening (opening.Event c)
-fits_event (chosen.Transfer from to) h = absurd cc
-fits_event (chosen.Switch to) h = tt
-fits_event (chosen.Run row) h = tt
-fits_event (chosen.Dead row) h = tt
-fits_event chosen.Suppressed h = tt
-fits_event chosen.Nothing h = tt
-
-pub fits_acts : (o : Opening) → opens_acts o ≡ true → FitsOpening o
-fits_acts (opening.Event c) h = fits_event c h
-fits_acts opening.Start h = tt
-fits_acts opening.Finish h = tt
-fits_acts opening.Thread h = tt
-fits_acts (opening.Time to) h = tt
-
 -- and a legal step
-pub moves_act : (s : SceneParts) (h : List Entry) (t : Turn) (e : Effect) (a : Answer) → HasMoved s h t (Do e) → answer_of s h t.agent e ≡ Some a → IsMove s h t.by t.begun.0 (Act t.begun e a)
+pub moves_act : (s : SceneParts) (h : List Entry) (t : Turn) (e : Effect) (a : Answer) → HasMoved s h t (Do e) → answer_of s h t.agent t.event e ≡ Some a → IsMove s h t.by t.begun.0 (Act t.begun e a)
 moves_act s h t e a moved answers = record {
   turn = moved.held.turn;
   runs = moved.held.runs;
   signed = sym moved.held.by;
-  reached = record { agent = t.agent; frame = moved.before };
+  reached = record { agent = t.agent; event = t.event; frame = moved.before };
   has = moved.held.course;
   is = rw (moved.moves, answers) refl;
 }

@@ -33,7 +33,11 @@ use Rattle.so_scene.specs.Lanes.{lanes}
 use Rattle.so_history.specs.Delivery.{registered, active_rows, active_filters, passes, is_leaving, receivers, delivered, sent}
 use Rattle.so_history.specs.Demands.{ask, asked_by_effect, demands_from, queued_by}
 use Rattle.so_history.specs.Order.{pick, opening_of, skipped, taking_as, taking}
-use Rattle.so_history.specs.Steps.{IsSigner, IsTaking, IsRow, answer_of, yes_where, may_subscribe, is_active}
+use Rattle.so_history.specs.Steps.{IsSigner, IsTaking, IsRow, answer_of, answer_to_switch, choice_for, yes_where, may_subscribe, is_active}
+use Rattle.so_history.specs.Leaves.{switch_of}
+use Rattle.so_history.specs.declared.entry.EventSource.{EventSource}
+use Rattle.so_ids.specs.declared.Plan.{Plan}
+use Rattle.std.specs.Option.{option_map}
 use Rattle.so_history.specs.Turns.{move_of}
 use Rattle.so_history.specs.Units.{cost}
 use Rattle.so_history.proofs.NameLaws.{length-demands_from}
@@ -89,42 +93,50 @@ pub record IsDelivery (s : SceneParts) (h : List Entry) (x : Effect) (n : ℕ) :
   pub count : length (asked_by_effect s h x) ≡ n
   pub few : n ≤ 4096
 
-delivery_of : (s : SceneParts) (h : List Entry) (target : Target) (msg : MsgId) (payload : Payload) (a : AgentId) (said : Sent) → IsScene s → answer_of s h a (effect.Send target msg payload) ≡ Some (answer.Sent said) → IsDelivery s h (effect.Send target msg payload) said.queued
+delivery_of : (s : SceneParts) (h : List Entry) (target : Target) (msg : MsgId) (payload : Payload) (a : AgentId) (event : Option EventSource) (said : Sent) → IsScene s → answer_of s h a event (effect.Send target msg payload) ≡ Some (answer.Sent said) → IsDelivery s h (effect.Send target msg payload) said.queued
 unfolding sent_in
-delivery_of s h (Mbox mbox) msg payload a said scene e =
+delivery_of s h (Mbox mbox) msg payload a event said scene e =
     let same : sent s h mbox msg payload ≡ said = ap (λ x. sent_in x said) (same_Some _ _ e) in
     let queued : length (events (delivered s h mbox msg payload)) ≡ said.queued = ap (λ (x : Sent). x.queued) same in
     record { count = length-map (events (delivered s h mbox msg payload)) ask ∙ queued; few = omega (arith, queued, delivered_few s h mbox msg payload scene) }
-delivery_of s h (Chain chain) msg payload a said scene e = absurd cc
+delivery_of s h (Chain chain) msg payload a event said scene e = absurd cc
 
 not_sent : (b : Bool) (said : Sent) → Some (yes_where b) ≡ Some (answer.Sent said) → ⊥
 not_sent true said e = cc
 not_sent false said e = cc
 
-is_delivery : (s : SceneParts) (h : List Entry) (a : AgentId) (x : Effect) (said : Sent) → IsScene s → answer_of s h a x ≡ Some (answer.Sent said) → IsDelivery s h x said.queued
-is_delivery s h a (effect.Send target msg payload) said scene e = delivery_of s h target msg payload a said scene e
-is_delivery s h a (effect.Log text payload) said scene e = absurd cc
-is_delivery s h a (effect.Subscribe row) said scene e = absurd (not_sent (may_subscribe s h a row) said e)
-is_delivery s h a (effect.Unsubscribe row) said scene e = absurd (not_sent (is_active (active_rows s h a) row.0) said e)
-is_delivery s h a (effect.SetFilter filter) said scene e = absurd cc
-is_delivery s h a (effect.DropFilter filter) said scene e = absurd (not_sent (is_active (active_filters s h a) filter.0) said e)
-is_delivery s h a effect.Stop said scene e = absurd cc
-is_delivery s h a (effect.Delayed target msg payload ms) said scene e = absurd cc
-is_delivery s h a (effect.Timer slot target msg payload ms period) said scene e = absurd cc
-is_delivery s h a (effect.Cancel slot) said scene e = absurd cc
-is_delivery s h a (effect.Switch to) said scene e = absurd cc
-is_delivery s h a (effect.SetState leaf) said scene e = absurd cc
-is_delivery s h a effect.Choose said scene e = absurd cc
-is_delivery s h a (effect.Register coop) said scene e = absurd cc
-is_delivery s h a (effect.Deregister coop) said scene e = absurd cc
-is_delivery s h a (effect.Close chain keep) said scene e = absurd cc
-is_delivery s h a (effect.Receive place) said scene e = absurd cc
-is_delivery s h a (effect.Take place) said scene e = absurd cc
+switch_not_sent : (o : Option Plan) (said : Sent) → Some (answer_to_switch o) ≡ Some (answer.Sent said) → ⊥
+switch_not_sent None said e = cc
+switch_not_sent (Some plan) said e = cc
+
+choice_not_sent : (s : SceneParts) (h : List Entry) (a : AgentId) (event : Option EventSource) (said : Sent) → option_map (choice_for s h a) event ≡ Some (answer.Sent said) → ⊥
+choice_not_sent s h a None said e = cc
+choice_not_sent s h a (Some event) said e = cc
+
+is_delivery : (s : SceneParts) (h : List Entry) (a : AgentId) (event : Option EventSource) (x : Effect) (said : Sent) → IsScene s → answer_of s h a event x ≡ Some (answer.Sent said) → IsDelivery s h x said.queued
+is_delivery s h a event (effect.Send target msg payload) said scene e = delivery_of s h target msg payload a event said scene e
+is_delivery s h a event (effect.Log text payload) said scene e = absurd cc
+is_delivery s h a event (effect.Subscribe row) said scene e = absurd (not_sent (may_subscribe s h a row) said e)
+is_delivery s h a event (effect.Unsubscribe row) said scene e = absurd (not_sent (is_active (active_rows s h a) row.0) said e)
+is_delivery s h a event (effect.SetFilter filter) said scene e = absurd cc
+is_delivery s h a event (effect.DropFilter filter) said scene e = absurd (not_sent (is_active (active_filters s h a) filter.0) said e)
+is_delivery s h a event effect.Stop said scene e = absurd cc
+is_delivery s h a event (effect.Delayed target msg payload ms) said scene e = absurd cc
+is_delivery s h a event (effect.Timer slot target msg payload ms period) said scene e = absurd cc
+is_delivery s h a event (effect.Cancel slot) said scene e = absurd cc
+is_delivery s h a event (effect.Switch to) said scene e = absurd (switch_not_sent (switch_of s h a to) said e)
+is_delivery s h a event (effect.SetState leaf) said scene e = absurd cc
+is_delivery s h a event effect.Choose said scene e = absurd (choice_not_sent s h a event said e)
+is_delivery s h a event (effect.Register coop) said scene e = absurd cc
+is_delivery s h a event (effect.Deregister coop) said scene e = absurd cc
+is_delivery s h a event (effect.Close chain keep) said scene e = absurd cc
+is_delivery s h a event (effect.Receive place) said scene e = absurd cc
+is_delivery s h a event (effect.Take place) said scene e = absurd cc
 
 pub act_delivers : (s : SceneParts) (h : List Entry) (by : PartyId) (turn : Place) (x : Effect) (said : Sent) → IsScene s → IsRow s h by (Act turn x (answer.Sent said)) → IsDelivery s h x said.queued
 act_delivers s h by turn x said scene row =
-    let so = acts_so s h row.reached.agent turn.0 (move_of s row.reached).0 turn x (answer.Sent said) row.is in
-    is_delivery s h row.reached.agent x said scene so.answers
+    let so = acts_so s h row.reached.agent row.reached.event turn.0 (move_of s row.reached).0 turn x (answer.Sent said) row.is in
+    is_delivery s h row.reached.agent row.reached.event x said scene so.answers
 
 pub cost-delivered : (s : SceneParts) (h : List Entry) (e : Entry) (turn : Place) (x : Effect) (said : Sent) → IsScene s → IsRow s h e.by e.kind → e.kind ≡ Act turn x (answer.Sent said) → cost s h e ≡ 1 + said.queued
 cost-delivered s h e turn x said scene row is =
@@ -135,32 +147,32 @@ pub few-delivered : (s : SceneParts) (h : List Entry) (e : Entry) (turn : Place)
 few-delivered s h e turn x said scene row is = (act_delivers s h e.by turn x said scene (subst (IsRow s h e.by) is row)).few
 
 -- and one with another answer
-asks_none : (s : SceneParts) (h : List Entry) (a : AgentId) (x : Effect) (said : Answer) → answer_of s h a x ≡ Some said → ((n : Sent) → said ≡ answer.Sent n → ⊥) → asked_by_effect s h x ≡ []
-asks_none s h a (effect.Send (Mbox mbox) msg payload) said e other = absurd (other (sent s h mbox msg payload) (sym (same_Some _ said e)))
-asks_none s h a (effect.Send (Chain chain) msg payload) said e other = refl
-asks_none s h a (effect.Log text payload) said e other = refl
-asks_none s h a (effect.Subscribe row) said e other = refl
-asks_none s h a (effect.Unsubscribe row) said e other = refl
-asks_none s h a (effect.SetFilter filter) said e other = refl
-asks_none s h a (effect.DropFilter filter) said e other = refl
-asks_none s h a effect.Stop said e other = refl
-asks_none s h a (effect.Delayed target msg payload ms) said e other = refl
-asks_none s h a (effect.Timer slot target msg payload ms period) said e other = refl
-asks_none s h a (effect.Cancel slot) said e other = refl
-asks_none s h a (effect.Switch to) said e other = refl
-asks_none s h a (effect.SetState leaf) said e other = refl
-asks_none s h a effect.Choose said e other = refl
-asks_none s h a (effect.Register coop) said e other = refl
-asks_none s h a (effect.Deregister coop) said e other = refl
-asks_none s h a (effect.Close chain keep) said e other = refl
-asks_none s h a (effect.Receive place) said e other = refl
-asks_none s h a (effect.Take place) said e other = refl
+asks_none : (s : SceneParts) (h : List Entry) (a : AgentId) (event : Option EventSource) (x : Effect) (said : Answer) → answer_of s h a event x ≡ Some said → ((n : Sent) → said ≡ answer.Sent n → ⊥) → asked_by_effect s h x ≡ []
+asks_none s h a event (effect.Send (Mbox mbox) msg payload) said e other = absurd (other (sent s h mbox msg payload) (sym (same_Some _ said e)))
+asks_none s h a event (effect.Send (Chain chain) msg payload) said e other = refl
+asks_none s h a event (effect.Log text payload) said e other = refl
+asks_none s h a event (effect.Subscribe row) said e other = refl
+asks_none s h a event (effect.Unsubscribe row) said e other = refl
+asks_none s h a event (effect.SetFilter filter) said e other = refl
+asks_none s h a event (effect.DropFilter filter) said e other = refl
+asks_none s h a event effect.Stop said e other = refl
+asks_none s h a event (effect.Delayed target msg payload ms) said e other = refl
+asks_none s h a event (effect.Timer slot target msg payload ms period) said e other = refl
+asks_none s h a event (effect.Cancel slot) said e other = refl
+asks_none s h a event (effect.Switch to) said e other = refl
+asks_none s h a event (effect.SetState leaf) said e other = refl
+asks_none s h a event effect.Choose said e other = refl
+asks_none s h a event (effect.Register coop) said e other = refl
+asks_none s h a event (effect.Deregister coop) said e other = refl
+asks_none s h a event (effect.Close chain keep) said e other = refl
+asks_none s h a event (effect.Receive place) said e other = refl
+asks_none s h a event (effect.Take place) said e other = refl
 
 pub cost-other : (s : SceneParts) (h : List Entry) (e : Entry) (turn : Place) (x : Effect) (said : Answer) → IsRow s h e.by e.kind → e.kind ≡ Act turn x said → ((n : Sent) → said ≡ answer.Sent n → ⊥) → cost s h e ≡ 1
 cost-other s h e turn x said row is other =
     let move : IsRow s h e.by (Act turn x said) = subst (IsRow s h e.by) is row in
-    let so = acts_so s h move.reached.agent turn.0 (move_of s move.reached).0 turn x said move.is in
-    rw (is, asks_none s h move.reached.agent x said so.answers other) refl
+    let so = acts_so s h move.reached.agent move.reached.event turn.0 (move_of s move.reached).0 turn x said move.is in
+    rw (is, asks_none s h move.reached.agent move.reached.event x said so.answers other) refl
 
 -- an act costs what its answer tells
 pub cost_told : (s : SceneParts) (h : List Entry) (e : Entry) (turn : Place) (x : Effect) (said : Answer) → IsScene s → IsRow s h e.by e.kind → e.kind ≡ Act turn x said → (cost s h e ≡ 1 + queued_by_answer said) × (queued_by_answer said ≤ 4096)

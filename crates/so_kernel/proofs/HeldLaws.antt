@@ -30,7 +30,7 @@ use Rattle.so_history.specs.declared.entry.SkipWhy.{SkipWhy}
 use Rattle.so_ids.specs.declared.Opening.{Opening}
 use Rattle.so_history.specs.Turns.{Started, Course, vars, ends, running_at, running_on, lane_number, turn_at, move_of, answer_to, course}
 use Rattle.so_history.specs.Coops.{aborted}
-use Rattle.so_history.specs.Demands.{message_of}
+use Rattle.so_history.specs.Demands.{message_of, event_of}
 use Rattle.so_history.specs.Order.{pick, opening_of, skipped, taking_as, taking}
 use Rattle.so_history.specs.Steps.{finished, answer_of, Legal}
 use Rattle.so_history.specs.Chain.{registration, tidying, turn_on, turn_entry, lane_entry, first}
@@ -52,7 +52,7 @@ use Rattle.so_kernel.proofs.TableLaws.{begins_turn}
 
 -- the turn that a Begin hands out is held
 pub held_begun : (s : SceneParts) (h : List Entry) (e : Entry) (lane : LaneId) (d : Demand) → Legal s h → e.kind ≡ Begin lane (Some d.id) (opening_of s h d) d.agent →
-    IsHeld s (e ∷ h) (record { begun = record { 0 = length h }; by = e.by; lane = lane; agent = d.agent; frame = begun (opening_of s h d) (vars s h d.agent) (message_of s h (Some d.id)) })
+    IsHeld s (e ∷ h) (record { begun = record { 0 = length h }; by = e.by; lane = lane; agent = d.agent; event = event_of s h (Some d.id); frame = begun (opening_of s h d) (vars s h d.agent) (message_of s h (Some d.id)) })
 held_begun s h e lane d legal is =
     record {
       turn = record { place = length h; by = e.by; lane = lane; agent = d.agent; opening = opening_of s h d };
@@ -64,18 +64,18 @@ held_begun s h e lane d legal is =
 
 -- and so is the turn after its act
 pub held_acted : (k : Core) (t : Turn) (effect : Effect) → Legal k.scene k.history → HasMoved k.scene k.history t (Do effect) →
-    IsHeld k.scene (act_entry k t effect ∷ k.history) (record t { frame = answered (answer_for k t.agent effect) t.frame })
+    IsHeld k.scene (act_entry k t effect ∷ k.history) (record t { frame = answered (answer_for k t effect) t.frame })
 held_acted k t effect legal moved =
-    let c : Course = record { agent = t.agent; frame = moved.before } in
+    let c : Course = record { agent = t.agent; event = t.event; frame = moved.before } in
     let frame : (move_of k.scene c).1 ≡ t.frame = ap (λ (p : Move × Frame). p.1) moved.moves in
-    let after_it : answer_to k.scene (answer_for k t.agent effect) c ≡ record { agent = t.agent; frame = answered (answer_for k t.agent effect) t.frame } =
-    ap (λ (f : Frame). record { agent = t.agent; frame = answered (answer_for k t.agent effect) f }) frame in
+    let after_it : answer_to k.scene (answer_for k t effect) c ≡ record { agent = t.agent; event = t.event; frame = answered (answer_for k t effect) t.frame } =
+    ap (λ (f : Frame). record { agent = t.agent; event = t.event; frame = answered (answer_for k t effect) f }) frame in
     record {
       turn = moved.held.turn;
       runs = turn-spared k.scene k.history (act_entry k t effect) t.begun.0 moved.held.turn legal refl moved.held.runs;
       by = moved.held.by;
       lane = moved.held.lane;
-      course = course-acted k.scene k.history t.by t.begun.0 effect (answer_for k t.agent effect) c moved.held.course ∙ ap Some after_it;
+      course = course-acted k.scene k.history t.by t.begun.0 effect (answer_for k t effect) c moved.held.course ∙ ap Some after_it;
     }
 
 -- an entry has nothing to do with a lane's turn
@@ -322,7 +322,7 @@ pub fail_added : (k : Core) (t : Turn) (kind : FailKind) → failed (gated k (So
 fail_added k t kind h = sym (ap stepped (failed_ok k t kind (sym h)))
 
 -- the entry of a turn's move
-pub move_is_act : (k : Core) (t : Turn) (before : Frame) (effect : Effect) (a : Answer) → Moves k t before (Do effect) → answer_of k.scene k.history t.agent effect ≡ Some a →
+pub move_is_act : (k : Core) (t : Turn) (before : Frame) (effect : Effect) (a : Answer) → Moves k t before (Do effect) → answer_of k.scene k.history t.agent t.event effect ≡ Some a →
     turn_move k.scene k.history (record t { frame = before }) ≡ Some (act_entry k t effect)
 move_is_act k t before effect a moves answers = rw (moves, answers) refl
 
@@ -523,7 +523,7 @@ pub held_whose : (s : SceneParts) (h : List Entry) (t : Turn) (held : IsHeld s h
 held_whose s h t held =
     let it = has_course s h held.turn (looked_up h t.begun.0 held.turn held.runs) in
     let place : held.turn.place ≡ t.begun.0 = (turn_found h t.begun.0 held.turn held.runs).0 in
-    let same : Some it.reached ≡ Some (record { agent = t.agent; frame = t.frame }) = sym it.has ∙ (ap (course s h) place ∙ held.course) in
+    let same : Some it.reached ≡ Some (record { agent = t.agent; event = t.event; frame = t.frame }) = sym it.has ∙ (ap (course s h) place ∙ held.course) in
     let its : it.reached.agent ≡ t.agent = ap (λ (c : Course). c.agent) (same_Some it.reached _ same) in
     sym it.whose ∙ its
 

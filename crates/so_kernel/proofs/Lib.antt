@@ -2,6 +2,7 @@ pub mod KeptLaws
 pub mod Asking
 pub mod MboxLaws
 pub mod TableLaws
+pub mod StateLaws
 pub mod CostLaws
 pub mod GateLaws
 pub mod HeldLaws

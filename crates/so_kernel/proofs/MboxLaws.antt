@@ -32,7 +32,8 @@ use Rattle.so_history.specs.declared.entry.EntryKind.{EntryKind}
 use Rattle.so_history.specs.declared.entry.EntryKind.TheVariants.{Register, Act, Left}
 use Rattle.so_history.specs.Places.{entry_at, beginner_at}
 use Rattle.so_history.specs.Coops.{the_coop, present, leaving}
-use Rattle.so_history.specs.Delivery.{registered, is_of, is_turn_of, no_rows, rows_by, rows_by_effect, active_rows, filters_by, filters_by_effect, active_filters, receivers, delivered}
+use Rattle.so_history.specs.Leaves.{is_of, is_turn_of}
+use Rattle.so_history.specs.Delivery.{registered, no_rows, rows_by, rows_by_effect, active_rows, filters_by, filters_by_effect, active_filters, receivers, delivered}
 use Rattle.so_history.specs.Steps.{yes_where, may_subscribe, is_active}
 use Rattle.so_mbox.specs.Table.{active_rows as table_rows, active_filters as table_filters, receivers as table_receivers, passes as table_passes, Subscriptions, nobody, none_active, all_none, all_filters_first, is_other, same_agent, is_entered, after_enter, after_leave, after_subscribe, after_unsubscribe, after_set_filter, after_drop_filter}
 use Rattle.so_mbox.specs.Answers.{subscribe_answer}

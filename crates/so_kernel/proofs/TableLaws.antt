@@ -17,7 +17,7 @@ use Rattle.so_ids.specs.declared.FilterId.{FilterId}
 use Rattle.so_ids.specs.declared.Opening.{Opening}
 use Rattle.so_ids.specs.declared.Target.TheVariants.{Mbox}
 use Rattle.so_ids.specs.declared.Payload.{Payload}
-use Rattle.so_ids.specs.declared.TextId.{TextId}
+use Rattle.so_ids.specs.declared.StateId.{StateId}
 use Rattle.so_ids.specs.declared.Vars.{Vars}
 use Rattle.so_ids.specs.declared.Reason.{Reason}
 use Rattle.so_code.specs.declared.effect.Effect.{Effect}
@@ -43,7 +43,7 @@ use Rattle.so_history.specs.declared.entry.SkipWhy.{SkipWhy}
 use Rattle.so_history.specs.declared.entry.DemandKind.TheVariants.{Start, Finish}
 use Rattle.so_history.specs.declared.entry.StopCause.{StopCause}
 use Rattle.so_history.specs.Places.{entry_at, beginner_at}
-use Rattle.so_history.specs.Delivery.{active_rows, active_filters, delivered}
+use Rattle.so_history.specs.Delivery.{rows_by_effect, active_rows, filters_by_effect, active_filters, delivered}
 use Rattle.so_history.specs.Demands.{ask, ask_each, asked_by_effect, queued_by, demands, taken, waiting}
 use Rattle.so_history.specs.Units.{cost, units}
 use Rattle.so_history.specs.Turns.{Started, Course, move_of, vars_after, vars, course, started_by, ends, turns, running, running_at, running_on, running_with, lane_number, key_number, turn_at}
@@ -54,7 +54,7 @@ use Rattle.so_history.proofs.DemandLaws.{waiting-queued, waiting-same, waiting-t
 use Rattle.so_history.proofs.NameLaws.{length-demands_from}
 use Rattle.so_history.proofs.TurnLaws.{Frees, running_at-begun, running_at-same, running_at-ended, running_at-other, alone, turn_found, running_nowhere, running_at-nil, lanes_free, keys_free, may_be_taken}
 use Rattle.so_mbox.specs.Table.{Subscriptions, after_unsubscribe, after_set_filter, after_drop_filter}
-use Rattle.so_kernel.specs.Gates.{is_skip, IsActOf}
+use Rattle.so_kernel.specs.Gates.{is_skip, is_quiet, IsActOf, IsQuietActOf}
 use Rattle.so_kernel.specs.Tables.{tables_of, variables_of, subscriptions_of, initial, places, first_place, fresh, queued, with_mboxes, subscribed, after_asking, after_abort, may_take_by, after_register, after_begin, after_skip, after_act, after_end, after_leaving, after_left, after_stop}
 use Rattle.so_kernel.proofs.MboxLaws.{mboxes-fresh, mboxes-same, mboxes-registered, mboxes-left, mboxes-quiet, mboxes-rows, mboxes-filters, rows_here, filters_here, set-down, its_owner}
 
@@ -110,15 +110,49 @@ module _ (s : SceneParts) (room : ℕ) (h : List Entry) (e : Entry) (a : AgentId
       let none : queued_by s h e.kind ≡ [] = rw (acts.is, nothing) refl in
       rw (vars-same s h e (λ c b v. rw acts.is refl), going, waiting-same s h e legal none (λ d. rw acts.is refl), places-same lane_number s h e (lanes s) legal (rw acts.is refl) (λ t. rw acts.is refl), places-same (key_number s) s h e (keys s) legal (rw acts.is refl) (λ t. rw acts.is refl), acts.is, nothing, quiet) refl
 
-pub tables-log : (s : SceneParts) (room : ℕ) (h : List Entry) (e : Entry) (a : AgentId) → (text : TextId) × (payload : Payload) × IsActOf s h e a (effect.Log text payload) → a.0 < length s.agents → Legal s h → aborted h ≡ false →
+asks_nothing : (s : SceneParts) (h : List Entry) (x : Effect) → is_quiet x ≡ true → asked_by_effect s h x ≡ []
+asks_nothing s h (effect.Log text payload) q = refl
+asks_nothing s h (effect.Switch to) q = refl
+asks_nothing s h effect.Choose q = refl
+asks_nothing s h other q = absurd cc
+
+asks_no_stop : (x : Effect) → is_quiet x ≡ true → is_stop x ≡ false
+asks_no_stop (effect.Log text payload) q = refl
+asks_no_stop (effect.Switch to) q = refl
+asks_no_stop effect.Choose q = refl
+asks_no_stop other q = absurd cc
+
+quiet_rows : (x : Effect) (answer : Answer) (r : List Bool) → is_quiet x ≡ true → rows_by_effect x answer r ≡ r
+quiet_rows (effect.Log text payload) answer r q = refl
+quiet_rows (effect.Switch to) answer r q = refl
+quiet_rows effect.Choose answer r q = refl
+quiet_rows other answer r q = absurd cc
+
+quiet_filters : (s : SceneParts) (b : AgentId) (x : Effect) (answer : Answer) (f : List Bool) → is_quiet x ≡ true → filters_by_effect s b x answer f ≡ f
+quiet_filters s b (effect.Log text payload) answer f q = refl
+quiet_filters s b (effect.Switch to) answer f q = refl
+quiet_filters s b effect.Choose answer f q = refl
+quiet_filters s b other answer f q = absurd cc
+
+pub tables-quiet : (s : SceneParts) (room : ℕ) (h : List Entry) (e : Entry) (a : AgentId) → IsQuietActOf s h e a → a.0 < length s.agents → Legal s h → aborted h ≡ false →
     tables_of s room (e ∷ h) ≡ after_act (tables_of s room h)
-tables-log s room h e a is known legal going =
-    acted s room h e a (effect.Log is.0 is.1) is.2 legal going refl refl
-    ∙ ap (λ m. with_mboxes m (tables_of s room h)) (mboxes-quiet s h e is.2.turn (effect.Log is.0 is.1) is.2.answer a is.2.is is.2.whose known (λ r. refl) (λ b f. refl))
+tables-quiet s room h e a q known legal going =
+    acted s room h e a q.effect q.act legal going (asks_nothing s h q.effect q.quiet) (asks_no_stop q.effect q.quiet)
+    ∙ ap (λ m. with_mboxes m (tables_of s room h)) (mboxes-quiet s h e q.act.turn q.effect q.act.answer a q.act.is q.act.whose known (λ r. quiet_rows q.effect q.act.answer r q.quiet) (λ b f. quiet_filters s b q.effect q.act.answer f q.quiet))
+
+-- and an agent's entering of a leaf, which changes its state alone
+pub tables-entered : (s : SceneParts) (room : ℕ) (h : List Entry) (e : Entry) (a : AgentId) (leaf : StateId) → IsActOf s h e a (effect.SetState leaf) → a.0 < length s.agents → Legal s h → aborted h ≡ false →
+    tables_of s room (e ∷ h) ≡ after_act (tables_of s room h)
+tables-entered s room h e a leaf acts known legal going =
+    acted s room h e a (effect.SetState leaf) acts legal going refl refl
+    ∙ ap (λ m. with_mboxes m (tables_of s room h)) (mboxes-quiet s h e acts.turn (effect.SetState leaf) acts.answer a acts.is acts.whose known (λ r. refl) (λ b f. refl))
 
 -- what an act costs
 pub cost-acted : (s : SceneParts) (h : List Entry) (e : Entry) (a : AgentId) (x : Effect) → IsActOf s h e a x → asked_by_effect s h x ≡ [] → cost s h e ≡ 1
 cost-acted s h e a x acts nothing = rw (acts.is, nothing) refl
+
+pub cost-quiet : (s : SceneParts) (h : List Entry) (e : Entry) (a : AgentId) → IsQuietActOf s h e a → cost s h e ≡ 1
+cost-quiet s h e a q = cost-acted s h e a q.effect q.act (asks_nothing s h q.effect q.quiet)
 
 -- what a send costs
 pub cost-sent : (s : SceneParts) (h : List Entry) (turn : Place) (mbox : MboxId) (msg : MsgId) (payload : Payload) (answer : Answer) →

@@ -6,6 +6,7 @@ use Rattle.so_ids.specs.declared.AgentId.{AgentId}
 use Rattle.so_ids.specs.declared.LaneId.{LaneId}
 use Rattle.so_ids.specs.declared.Place.{Place}
 use Rattle.so_code.specs.declared.effect.Effect.{Effect}
+use Rattle.so_code.specs.declared.effect.Effect.TheVariants.{Log, Switch, Choose}
 use Rattle.so_code.specs.declared.effect.Move.{Move}
 use Rattle.so_code.specs.declared.frame.Frame.{Frame}
 use Rattle.so_code.specs.Machine.{after}
@@ -18,6 +19,7 @@ use Rattle.so_scene.specs.declared.parts.SceneParts.{SceneParts}
 use Rattle.so_scene.specs.Parts.{code_of}
 use Rattle.so_history.specs.declared.entry.Entry.{Entry}
 use Rattle.so_history.specs.declared.entry.EntryKind.{EntryKind}
+use Rattle.so_history.specs.declared.entry.EventSource.{EventSource}
 use Rattle.so_history.specs.declared.entry.EntryKind.TheVariants.{Skip, Act, End, Abort}
 use Rattle.so_history.specs.declared.entry.AbortCause.TheVariants.{Exception}
 use Rattle.so_history.specs.Places.{entry_at, beginner_at}
@@ -81,7 +83,7 @@ pub record IsHeld (s : SceneParts) (h : List Entry) (t : Turn) : Type 0 where
   pub runs : turn_at h t.begun.0 ≡ Some turn
   pub by : turn.by ≡ t.by
   pub lane : turn.lane ≡ t.lane
-  pub course : course s h t.begun.0 ≡ Some (record { agent = t.agent; frame = t.frame })
+  pub course : course s h t.begun.0 ≡ Some (record { agent = t.agent; event = t.event; frame = t.frame })
 
 -- a turn that has made this move: its frame is the one after the move
 pub record HasMoved (s : SceneParts) (h : List Entry) (t : Turn) (move : Move) : Type 0 where
@@ -108,11 +110,11 @@ IsBegun k by lane (Ok e) _ = ⊥
 IsBegun k by lane (Err why) r = r ≡ begun (Err why)
 
 -- the answer to an effect, which has one where its turn moved
-abbrev pub answer_for : Core → AgentId → Effect → Answer
-answer_for k a effect = unwrap_or (answer_of k.scene k.history a effect) Okay
+abbrev pub answer_for : Core → Turn → Effect → Answer
+answer_for k t effect = unwrap_or (answer_of k.scene k.history t.agent t.event effect) Okay
 
 abbrev pub act_entry : Core → Turn → Effect → Entry
-act_entry k t effect = record { by = t.by; kind = Act t.begun effect (answer_for k t.agent effect) }
+act_entry k t effect = record { by = t.by; kind = Act t.begun effect (answer_for k t effect) }
 
 -- how many demands an act with this answer queues
 abbrev pub queued_by_answer : Answer → ℕ
@@ -122,10 +124,23 @@ queued_by_answer other = 0
 -- an entry is an act of an agent's turn, with the answer to its effect
 pub record IsActOf (s : SceneParts) (h : List Entry) (e : Entry) (a : AgentId) (effect : Effect) : Type 0 where
   pub turn : Place
+  pub event : Option EventSource
   pub answer : Answer
   pub is : e.kind ≡ Act turn effect answer
   pub whose : beginner_at (entry_at h turn.0) ≡ a
-  pub answers : answer_of s h a effect ≡ Some answer
+  pub answers : answer_of s h a event effect ≡ Some answer
+
+-- an act that changes nothing but the units: what it prints, plans or chooses stands in its entry alone
+abbrev pub is_quiet : Effect → Bool
+is_quiet (Log text payload) = true
+is_quiet (Switch to) = true
+is_quiet Choose = true
+is_quiet other = false
+
+pub record IsQuietActOf (s : SceneParts) (h : List Entry) (e : Entry) (a : AgentId) : Type 0 where
+  pub effect : Effect
+  pub quiet : is_quiet effect ≡ true
+  pub act : IsActOf s h e a effect
 
 -- what an act answers
 abbrev pub acted : Result Entry Refused → Acted
@@ -136,7 +151,7 @@ acted (Err Over) = acted_answer.Over
 
 -- an act that went gives the frame its answer
 abbrev pub turn_after : Core → Result Entry Refused → Turn → Effect → Turn
-turn_after k (Ok e) t effect = record t { frame = answered (answer_for k t.agent effect) t.frame }
+turn_after k (Ok e) t effect = record t { frame = answered (answer_for k t effect) t.frame }
 turn_after k (Err why) t effect = t
 
 abbrev pub end_entry : Turn → Entry

@@ -30,7 +30,7 @@ pub record AreHeld (k : Core) (ts : List (Option Turn)) : Type 0 where
 
 -- the entry of a turn's next move
 abbrev pub turn_move : SceneParts → List Entry → Turn → Option Entry
-turn_move s h t = option_map (signed t.by) (entry_of s h t.agent t.begun.0 (after (code_of s t.agent) t.frame).0)
+turn_move s h t = option_map (signed t.by) (entry_of s h t.agent t.event t.begun.0 (after (code_of s t.agent) t.frame).0)
 
 -- a lane that is picked is one of the scene's
 abbrev pub IsPickInRange : SceneParts → Pick → Type 0

@@ -1,4 +1,5 @@
 pub mod Shapes
+pub mod States
 pub mod Tables
 pub mod Kept
 pub mod Gates

@@ -3,6 +3,7 @@
 ghost use Rattle.std.specs.Prelude.{◌≡◌, ◌≤◌, Err};
 
 use so_code::Frame;
+use so_history::EventSource;
 use so_ids::{AgentId, LaneId, PartyId, Place};
 
 /// Why no entry was added.
@@ -72,6 +73,8 @@ pub struct Turn {
     pub by: PartyId,
     pub lane: LaneId,
     pub agent: AgentId,
+    /// By what its event is looked up, `None` where it began with none.
+    pub event: Option<EventSource>,
     pub frame: Frame,
 }
 

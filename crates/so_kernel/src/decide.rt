@@ -4,7 +4,7 @@ ghost use Rattle.std.specs.Prelude.{◌≡◌, ◌<◌, ◌≤◌, ◌&&◌, IfS
 ghost use Rattle.so_lists.specs.Lists.{is_empty};
 ghost use Rattle.so_scene.specs.Lanes.{lanes};
 ghost use Rattle.so_history.specs.Delivery.{chosen_for};
-ghost use Rattle.so_history.specs.Demands.{waiting, payload_of};
+ghost use Rattle.so_history.specs.Demands.{waiting, payload_of, source_of};
 ghost use Rattle.so_history.specs.Turns.{running};
 ghost use Rattle.so_history.specs.Units.{cost};
 ghost use Rattle.so_history.specs.Order.{pick, opening_of, skipped, taking};
@@ -14,11 +14,11 @@ ghost use Rattle.so_kernel.specs.Gates.{begin_by, queued_by_answer};
 
 use crate::kernel::Kernel;
 use so_code::Answer;
-use so_history::{Demand, DemandKind, Entry, EntryKind, SkipWhy, StopCause};
+use so_history::{Demand, DemandKind, Entry, EntryKind, EventSource, SkipWhy, StopCause};
 use so_ids::{
-    AgentId, Chosen, CoopId, LaneId, MboxId, MsgId, Opening, PartyId, Payload, Reason, StateId,
+    AgentId, Chosen, CoopId, LaneId, MboxId, MsgId, Opening, PartyId, Payload, Reason,
 };
-use so_state::{Tree, choose};
+use so_state::choose;
 
 impl<'a> Kernel<'a> {
     /// The registration that main has not tried yet.
@@ -174,14 +174,14 @@ impl<'a> Kernel<'a> {
     }
 
     /// What an agent's subscriptions choose for an event.
-    fn chosen_for(&self, agent: AgentId, mbox: MboxId, msg: MsgId) -> Chosen
+    pub(crate) fn chosen_for(&self, agent: AgentId, mbox: MboxId, msg: MsgId) -> Chosen
         requires { agent.0 < length self.now.scene.agents }
         ensures { result ≡ chosen_for self.now.scene self.now.history agent mbox msg }
     {
-        let no_states = Tree::flat(self.alloc);
-        let rows = self.scene.agent(agent).rows.as_slice();
+        let def = self.scene.agent(agent);
         let active = self.tables.mboxes.active(agent);
-        choose(&no_states, rows, active, StateId(0), mbox, msg)
+        let leaf = self.states.leaf(agent);
+        choose(&def.tree, def.rows.as_slice(), active, leaf, mbox, msg)
     }
 }
 
@@ -220,6 +220,20 @@ pub(crate) fn payload_of(kind: DemandKind) -> Payload
             msg: _,
             payload,
         } => payload,
+    }
+}
+
+/// By what the event of a demand is looked up.
+pub(crate) fn source_of(kind: DemandKind) -> Option<EventSource>
+    ensures { result ≡ source_of kind }
+{
+    match kind {
+        DemandKind::Start | DemandKind::Finish => None,
+        DemandKind::Event {
+            mbox,
+            msg,
+            payload: _,
+        } => Some(EventSource { mbox, msg }),
     }
 }
 

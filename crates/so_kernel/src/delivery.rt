@@ -3,24 +3,31 @@
 ghost use Rattle.std.specs.Prelude.{◌≡◌, ◌<◌, length, Some};
 ghost use Rattle.so_scene.specs.Parts.{rows_of, filters_of, mboxes};
 ghost use Rattle.so_history.specs.Delivery.{active_rows, active_filters, sent};
-ghost use Rattle.so_history.specs.Steps.{NamesEffect, answer_of, yes_where, may_subscribe, is_active};
+ghost use Rattle.so_history.specs.Leaves.{switch_of};
+ghost use Rattle.so_history.specs.Steps.{NamesEffect, answer_of, answer_to_switch, yes_where, may_subscribe, is_active};
 
 use crate::kernel::Kernel;
 use so_code::{Answer, Effect};
 use so_deliver::plan_delivery;
-use so_ids::{AgentId, FilterId, MboxId, MsgId, Payload, RowId, Sent, Target};
+use so_history::EventSource;
+use so_ids::{AgentId, FilterId, MboxId, MsgId, Payload, RowId, Sent, StateId, Target};
 use so_scene::is_twice;
 
 impl<'a> Kernel<'a> {
     /// The answer to an effect of an agent's turn.
-    pub(crate) fn answer_to(&mut self, agent: AgentId, effect: Effect) -> Answer
+    pub(crate) fn answer_to(
+        &mut self,
+        agent: AgentId,
+        event: Option<EventSource>,
+        effect: Effect,
+    ) -> Answer
         requires agent { agent.0 < length self.old.scene.agents }
-        requires named { NamesEffect self.old.scene agent effect }
-        ensures value { answer_of self.old.scene self.old.history agent effect ≡ Some result }
+        requires named { NamesEffect self.old.scene agent event effect }
+        ensures value { answer_of self.old.scene self.old.history agent event effect ≡ Some result }
         ensures same { self.new ≡ self.old }
     {
         match effect {
-            Effect::Log { .. } | Effect::Stop => Answer::Okay,
+            Effect::Log { .. } | Effect::SetState { .. } | Effect::Stop => Answer::Okay,
             Effect::SetFilter { .. } => Answer::Yes,
             Effect::Subscribe { row } => yes_where(self.may_subscribe(agent, row)),
             Effect::Unsubscribe { row } => yes_where(self.is_row_active(agent, row)),
@@ -30,7 +37,23 @@ impl<'a> Kernel<'a> {
                 msg,
                 payload,
             } => Answer::Sent(self.sent(mbox, msg, payload)),
+            Effect::Switch { to } => self.switched(agent, to),
+            Effect::Choose => match event {
+                Some(event) => Answer::Chose(self.chosen_for(agent, event.mbox, event.msg)),
+                None => unreachable!(),
+            },
             _ => unreachable!(),
+        }
+    }
+
+    /// The answer to a switch of the agent.
+    fn switched(&self, agent: AgentId, to: StateId) -> Answer
+        requires { agent.0 < length self.now.scene.agents }
+        ensures { result ≡ answer_to_switch (switch_of self.now.scene self.now.history agent to) }
+    {
+        match self.states.plan(self.scene, agent, to) {
+            Some(plan) => Answer::Planned(plan),
+            None => Answer::Same,
         }
     }
 

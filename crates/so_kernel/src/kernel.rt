@@ -13,6 +13,7 @@ ghost use Rattle.so_history.specs.Chain.{registration, tidying};
 ghost use Rattle.so_kernel.specs.Gates.{is_skip};
 
 use crate::answers::{Acted, Begun, Ended, Refused, RunState, Stepped, Turn};
+use crate::states::States;
 use crate::tables::Tables;
 use so_code::{Effect, FailKind};
 use so_deliver::Outcomes;
@@ -29,6 +30,7 @@ pub struct Kernel<'a> {
     pub(crate) scene: &'a Scene,
     pub(crate) history: History,
     pub(crate) tables: Tables<'a>,
+    pub(crate) states: States,
     /// Where a delivery is planned.
     pub(crate) outcomes: Outcomes,
     pub(crate) full: bool,
@@ -37,13 +39,15 @@ pub struct Kernel<'a> {
 impl<'a> Model for Kernel<'a> {
     ghost use Rattle.std.specs.Prelude.{◌≤◌, length};
     ghost use Rattle.so_kernel.specs.Shapes.{Core};
+    ghost use Rattle.so_history.specs.Leaves.{leaves};
     ghost use Rattle.so_kernel.specs.Kept.{IsKept};
+    ghost use Rattle.so_kernel.specs.States.{AllStand};
 
     ghost Value = { Core };
 
     ghost view = { λ k. record { scene = k.scene.now; limit = k.history.limit; history = k.history.entries; full = k.full } };
 
-    ghost invariant = { λ k. IsKept k.scene.now k.history.limit k.history.entries k.tables k.full × (length k.scene.now.agents ≤ k.outcomes.room) };
+    ghost invariant = { λ k. IsKept k.scene.now k.history.limit k.history.entries k.tables k.full × (length k.scene.now.agents ≤ k.outcomes.room) × AllStand k.scene.now (leaves k.scene.now k.history.entries) k.states };
 }
 
 impl<'a> Kernel<'a> {
@@ -61,6 +65,7 @@ impl<'a> Kernel<'a> {
             scene,
             history: History::with_units(alloc, units)?,
             tables: Tables::with(alloc, scene, units)?,
+            states: States::with(alloc, scene)?,
             outcomes: Outcomes::with(alloc, scene.agents())?,
             full: false,
         })
@@ -96,6 +101,7 @@ impl<'a> Kernel<'a> {
             scene: _,
             history,
             tables: _,
+            states: _,
             outcomes: _,
             full: _,
         } = self;
@@ -192,7 +198,7 @@ impl<'a> Kernel<'a> {
         ensures held { result ≡ Acted.Went → IsHeld self.new.scene self.new.history turn.new }
     {
         let _scene = self.scene();
-        let answer = self.answer_to(turn.agent, effect);
+        let answer = self.answer_to(turn.agent, turn.event, effect);
         let entry = Entry {
             by: turn.by,
             kind: EntryKind::Act {

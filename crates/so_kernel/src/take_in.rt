@@ -1,10 +1,9 @@
 //! What an entry makes of the tables: one function for each kind, one call on the tables, one push.
 
-ghost use Rattle.std.specs.Prelude.{◌≡◌, ◌<◌, length, Some, Ok, true, false};
-ghost use Rattle.so_ids.specs.declared.TextId.{TextId as AnyText};
-ghost use Rattle.so_ids.specs.declared.Payload.{Payload as AnyPayload};
+ghost use Rattle.std.specs.Prelude.{◌≡◌, ◌<◌, length, Option, Some, Ok, true, false};
+ghost use Rattle.so_history.specs.declared.entry.EventSource.{EventSource as AnySource};
 ghost use Rattle.so_ids.specs.declared.Target.TheVariants.{Mbox};
-ghost use Rattle.so_code.specs.declared.effect.Effect.TheVariants.{Log, Send, Subscribe, Unsubscribe, SetFilter, DropFilter};
+ghost use Rattle.so_code.specs.declared.effect.Effect.TheVariants.{Send, SetState, Subscribe, Unsubscribe, SetFilter, DropFilter};
 ghost use Rattle.so_code.specs.declared.effect.Move.TheVariants.{Do, Done};
 ghost use Rattle.so_code.specs.Openings.{begun};
 ghost use Rattle.so_scene.specs.Parts.{rows_of, filters_of, mboxes};
@@ -16,15 +15,18 @@ ghost use Rattle.so_history.specs.Order.{pick, opening_of, taking};
 ghost use Rattle.so_history.specs.Steps.{NamesEffect, answer_of};
 ghost use Rattle.so_history.specs.Chain.{tidying};
 ghost use Rattle.so_kernel.specs.Kept.{IsReady};
-ghost use Rattle.so_kernel.specs.Gates.{core_after, is_skip, IsHeld, HasMoved, IsActOf, act_entry, turn_after};
+ghost use Rattle.so_kernel.specs.Gates.{core_after, is_skip, IsHeld, HasMoved, IsActOf, IsQuietActOf, act_entry, turn_after};
 
 use crate::answers::Turn;
-use crate::decide::payload_of;
+use crate::decide::{payload_of, source_of};
 use crate::kernel::Kernel;
 use so_code::{Answer, Effect, Frame};
 use so_deliver::plan_delivery;
 use so_history::{Demand, Entry, EntryKind};
-use so_ids::{AgentId, CoopId, FilterId, LaneId, MboxId, MsgId, Payload, Place, Reason, RowId, Target};
+use so_ids::{
+    AgentId, CoopId, FilterId, LaneId, MboxId, MsgId, Payload, Place, Reason, RowId, StateId,
+    Target,
+};
 
 impl<'a> Kernel<'a> {
     /// Takes in a registration.
@@ -37,6 +39,7 @@ impl<'a> Kernel<'a> {
         let coop = self.scene.coop(coop);
         self.tables
             .registered(self.scene, place, coop.first, coop.count);
+        self.states.reset(self.scene);
         self.history.push(entry);
     }
 
@@ -61,6 +64,7 @@ impl<'a> Kernel<'a> {
             by: entry.by,
             lane,
             agent: demand.agent,
+            event: source_of(demand.kind),
             frame,
         }
     }
@@ -90,7 +94,7 @@ impl<'a> Kernel<'a> {
     /// Takes in an act, and gives the turn its answer.
     pub(crate) fn add_act(&mut self, entry: Entry, turn: &mut Turn, effect: Effect, answer: Answer)
         requires moved { HasMoved self.old.scene self.old.history turn.old (Do effect) }
-        requires answer { answer_of self.old.scene self.old.history turn.old.agent effect ≡ Some answer }
+        requires answer { answer_of self.old.scene self.old.history turn.old.agent turn.old.event effect ≡ Some answer }
         requires is { entry ≡ act_entry self.old turn.old effect }
         requires ready { IsReady self.old entry }
         ensures turn { turn.new ≡ turn_after self.old (Ok entry) turn.old effect }
@@ -105,13 +109,14 @@ impl<'a> Kernel<'a> {
     /// Takes in an act by its effect.
     fn add_effect(&mut self, entry: Entry, agent: AgentId, effect: Effect)
         requires agent { agent.0 < length self.old.scene.agents }
-        requires named { NamesEffect self.old.scene agent effect }
+        requires named { (event : Option AnySource) × NamesEffect self.old.scene agent event effect }
         requires acts { IsActOf self.old.scene self.old.history entry agent effect }
         requires ready { IsReady self.old entry }
         ensures { self.new ≡ core_after self.old (Ok entry) }
     {
         match effect {
-            Effect::Log { .. } => self.add_log(entry, agent),
+            Effect::Log { .. } | Effect::Switch { .. } | Effect::Choose => self.add_quiet(entry, agent),
+            Effect::SetState { leaf } => self.add_set_state(entry, agent, leaf),
             Effect::Send {
                 target: Target::Mbox(mbox),
                 msg,
@@ -126,14 +131,26 @@ impl<'a> Kernel<'a> {
         }
     }
 
-    /// Takes in a line of the log, which changes nothing but the units.
-    fn add_log(&mut self, entry: Entry, agent: AgentId)
+    /// Takes in an act that changes nothing but the units: a line of the log, the plan of a switch, a choice.
+    fn add_quiet(&mut self, entry: Entry, agent: AgentId)
         requires agent { agent.0 < length self.old.scene.agents }
-        requires acts { (text : AnyText) × (payload : AnyPayload) × IsActOf self.old.scene self.old.history entry agent (Log text payload) }
+        requires acts { IsQuietActOf self.old.scene self.old.history entry agent }
         requires ready { IsReady self.old entry }
         ensures { self.new ≡ core_after self.old (Ok entry) }
     {
         self.tables.acted();
+        self.history.push(entry);
+    }
+
+    /// Takes in that an agent entered a leaf.
+    fn add_set_state(&mut self, entry: Entry, agent: AgentId, leaf: StateId)
+        requires agent { agent.0 < length self.old.scene.agents }
+        requires acts { IsActOf self.old.scene self.old.history entry agent (SetState leaf) }
+        requires ready { IsReady self.old entry }
+        ensures { self.new ≡ core_after self.old (Ok entry) }
+    {
+        self.tables.acted();
+        self.states.enter(self.scene, agent, leaf);
         self.history.push(entry);
     }
 

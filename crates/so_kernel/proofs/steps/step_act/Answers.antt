@@ -20,28 +20,28 @@ returns-in-Went-clause-held c =
 pub returns-in-Went-clause-answer : goal.returns-in-Went-clause-answer
 returns-in-Went-clause-answer c =
     let moved = lane_moved c.args.kernel.now c.args.turns.now c.args.lane.0 c.args.turn c.args.before (Do c.args.effect) c.requires.lane c.requires.held c.requires.moves in
-    let answers = answered_named c.args.kernel.now.scene c.args.kernel.now.history c.args.turn.agent c.args.effect (moved_named c.args.kernel.now c.args.turn c.args.effect c.scene-scene.ensures.scene c.scene-scene.ensures.legal moved) in
+    let answers = answered_named c.args.kernel.now.scene c.args.kernel.now.history c.args.turn.agent c.args.turn.event c.args.effect (moved_named c.args.kernel.now c.args.turn c.args.effect c.scene-scene.ensures.scene c.scene-scene.ensures.legal moved) in
     act_added c.args.kernel.now c.args.turn c.args.effect (sym c.act.ensures.answer ∙ c.in-Went.is)
     ∙ ap (λ x. stepped (gated c.args.kernel.now x)) (sym (move_is_act c.args.kernel.now c.args.turn c.args.before c.args.effect answers.0 c.requires.moves answers.1))
 
 pub returns-in-Went-clause-after : goal.returns-in-Went-clause-after
 returns-in-Went-clause-after c =
     let moved = lane_moved c.args.kernel.now c.args.turns.now c.args.lane.0 c.args.turn c.args.before (Do c.args.effect) c.requires.lane c.requires.held c.requires.moves in
-    let answers = answered_named c.args.kernel.now.scene c.args.kernel.now.history c.args.turn.agent c.args.effect (moved_named c.args.kernel.now c.args.turn c.args.effect c.scene-scene.ensures.scene c.scene-scene.ensures.legal moved) in
+    let answers = answered_named c.args.kernel.now.scene c.args.kernel.now.history c.args.turn.agent c.args.turn.event c.args.effect (moved_named c.args.kernel.now c.args.turn c.args.effect c.scene-scene.ensures.scene c.scene-scene.ensures.legal moved) in
     c.act.ensures.after
     ∙ ap (λ x. core_after c.args.kernel.now (gated c.args.kernel.now x)) (sym (move_is_act c.args.kernel.now c.args.turn c.args.before c.args.effect answers.0 c.requires.moves answers.1))
 
 pub returns-in-Full-clause-answer : goal.returns-in-Full-clause-answer
 returns-in-Full-clause-answer c =
     let moved = lane_moved c.args.kernel.now c.args.turns.now c.args.lane.0 c.args.turn c.args.before (Do c.args.effect) c.requires.lane c.requires.held c.requires.moves in
-    let answers = answered_named c.args.kernel.now.scene c.args.kernel.now.history c.args.turn.agent c.args.effect (moved_named c.args.kernel.now c.args.turn c.args.effect c.scene-scene.ensures.scene c.scene-scene.ensures.legal moved) in
+    let answers = answered_named c.args.kernel.now.scene c.args.kernel.now.history c.args.turn.agent c.args.turn.event c.args.effect (moved_named c.args.kernel.now c.args.turn c.args.effect c.scene-scene.ensures.scene c.scene-scene.ensures.legal moved) in
     act_full c.args.kernel.now (act_entry c.args.kernel.now c.args.turn c.args.effect) (sym c.act.ensures.answer ∙ c.in-Full.is)
     ∙ ap (λ x. stepped (gated c.args.kernel.now x)) (sym (move_is_act c.args.kernel.now c.args.turn c.args.before c.args.effect answers.0 c.requires.moves answers.1))
 
 pub returns-in-Full-clause-after : goal.returns-in-Full-clause-after
 returns-in-Full-clause-after c =
     let moved = lane_moved c.args.kernel.now c.args.turns.now c.args.lane.0 c.args.turn c.args.before (Do c.args.effect) c.requires.lane c.requires.held c.requires.moves in
-    let answers = answered_named c.args.kernel.now.scene c.args.kernel.now.history c.args.turn.agent c.args.effect (moved_named c.args.kernel.now c.args.turn c.args.effect c.scene-scene.ensures.scene c.scene-scene.ensures.legal moved) in
+    let answers = answered_named c.args.kernel.now.scene c.args.kernel.now.history c.args.turn.agent c.args.turn.event c.args.effect (moved_named c.args.kernel.now c.args.turn c.args.effect c.scene-scene.ensures.scene c.scene-scene.ensures.legal moved) in
     c.act.ensures.after
     ∙ ap (λ x. core_after c.args.kernel.now (gated c.args.kernel.now x)) (sym (move_is_act c.args.kernel.now c.args.turn c.args.before c.args.effect answers.0 c.requires.moves answers.1))
 
@@ -56,14 +56,14 @@ returns-in-Full-clause-held c =
 pub returns-in-Over-clause-answer : goal.returns-in-Over-clause-answer
 returns-in-Over-clause-answer c =
     let moved = lane_moved c.args.kernel.now c.args.turns.now c.args.lane.0 c.args.turn c.args.before (Do c.args.effect) c.requires.lane c.requires.held c.requires.moves in
-    let answers = answered_named c.args.kernel.now.scene c.args.kernel.now.history c.args.turn.agent c.args.effect (moved_named c.args.kernel.now c.args.turn c.args.effect c.scene-scene.ensures.scene c.scene-scene.ensures.legal moved) in
+    let answers = answered_named c.args.kernel.now.scene c.args.kernel.now.history c.args.turn.agent c.args.turn.event c.args.effect (moved_named c.args.kernel.now c.args.turn c.args.effect c.scene-scene.ensures.scene c.scene-scene.ensures.legal moved) in
     act_over c.args.kernel.now (act_entry c.args.kernel.now c.args.turn c.args.effect) (sym c.act.ensures.answer ∙ c.in-Over.is)
     ∙ ap (λ x. stepped (gated c.args.kernel.now x)) (sym (move_is_act c.args.kernel.now c.args.turn c.args.before c.args.effect answers.0 c.requires.moves answers.1))
 
 pub returns-in-Over-clause-after : goal.returns-in-Over-clause-after
 returns-in-Over-clause-after c =
     let moved = lane_moved c.args.kernel.now c.args.turns.now c.args.lane.0 c.args.turn c.args.before (Do c.args.effect) c.requires.lane c.requires.held c.requires.moves in
-    let answers = answered_named c.args.kernel.now.scene c.args.kernel.now.history c.args.turn.agent c.args.effect (moved_named c.args.kernel.now c.args.turn c.args.effect c.scene-scene.ensures.scene c.scene-scene.ensures.legal moved) in
+    let answers = answered_named c.args.kernel.now.scene c.args.kernel.now.history c.args.turn.agent c.args.turn.event c.args.effect (moved_named c.args.kernel.now c.args.turn c.args.effect c.scene-scene.ensures.scene c.scene-scene.ensures.legal moved) in
     c.act.ensures.after
     ∙ ap (λ x. core_after c.args.kernel.now (gated c.args.kernel.now x)) (sym (move_is_act c.args.kernel.now c.args.turn c.args.before c.args.effect answers.0 c.requires.moves answers.1))
 

@@ -37,3 +37,9 @@ returns-in-Over-clause-held c =
     let same : c.in-Over.turn ≡ c.args.turn = back_over g c.args.turn c.in-Over.turn is in
     let other : ended_answer.Done ≡ ended g c.args.turn → ⊥ = λ d. let clash : ended_answer.Done ≡ ended_answer.Over c.in-Over.turn = d ∙ is in cc in
     rw (c.put-in-Over.ensures, same) (core_same c.args.kernel.now c.end.new.self g _ (not_done g c.args.turn other) c.end.ensures.after c.requires.held)
+
+pub returns-in-Full-clause-after : goal.returns-in-Full-clause-after
+returns-in-Full-clause-after c = c.end.ensures.after ∙ rw c.requires.moves refl
+
+pub returns-in-Over-clause-after : goal.returns-in-Over-clause-after
+returns-in-Over-clause-after c = c.end.ensures.after ∙ rw c.requires.moves refl

@@ -1,6 +1,7 @@
 use Rattle.std.proofs.Common.{refl, sym, ◌∙◌}
 use Rattle.so_kernel.proofs.KeptLaws.{kept_after, has_room, has_place}
 use Rattle.so_kernel.proofs.TableLaws.{tables-abort}
+use Rattle.so_kernel.proofs.StateLaws.{stands_same}
 use Rattle.so_kernel.proofs.kernel.Kernel.add_abort.Goals as goal
 
 pub aborted-requires : goal.aborted-requires
@@ -13,4 +14,4 @@ pub invariant_of-self : goal.invariant_of-self
 invariant_of-self c =
     let kept = kept_after c.args.entry c.aborted.new.self c.self.invariant.0 (rw c.self.view_is c.requires.ready)
     (c.aborted.ensures ∙ rw c.self.invariant.0.tables (sym (tables-abort c.self.inside.scene.now c.self.inside.history.limit c.self.inside.history.entries c.args.entry c.requires.is c.self.invariant.0.legal))) in
-    rw (c.push.ensures.entries, c.push.ensures.limit) (kept, c.self.invariant.1)
+    rw (c.push.ensures.entries, c.push.ensures.limit) (kept, c.self.invariant.1, stands_same c.self.inside.scene.now c.self.inside.history.entries c.args.entry c.self.inside.states (λ a l. rw c.requires.is.1 refl) c.self.invariant.2)

@@ -4,6 +4,7 @@ use Rattle.so_kernel.specs.Shapes.{Core}
 use Rattle.so_kernel.specs.Gates.{IsActOf}
 use Rattle.so_kernel.proofs.KeptLaws.{kept_after, has_room, has_place, going}
 use Rattle.so_kernel.proofs.TableLaws.{tables-asking, cost-acted}
+use Rattle.so_kernel.proofs.StateLaws.{stands_acted}
 use Rattle.so_kernel.proofs.kernel.Kernel.add_asking.Goals as goal
 
 pub asked_to_stop-requires : goal.asked_to_stop-requires
@@ -23,4 +24,4 @@ invariant_of-self c =
     let known = subst K (sym c.self.view_is) c.requires.agent in
     let kept = kept_after c.args.entry c.asked_to_stop.new.self c.self.invariant.0 (rw c.self.view_is c.requires.ready)
     (c.asked_to_stop.ensures ∙ rw c.self.invariant.0.tables (sym (tables-asking c.self.inside.scene.now c.self.inside.history.limit c.self.inside.history.entries c.args.entry c.args.agent acts known c.self.invariant.0.legal (going c.args.entry c.self.invariant.0 (rw c.self.view_is c.requires.ready))))) in
-    rw (c.push.ensures.entries, c.push.ensures.limit) (kept, c.self.invariant.1)
+    rw (c.push.ensures.entries, c.push.ensures.limit) (kept, c.self.invariant.1, stands_acted c.self.inside.scene.now c.self.inside.history.entries c.args.entry c.args.agent effect.Stop c.self.inside.states acts (λ l. refl) c.self.invariant.2)

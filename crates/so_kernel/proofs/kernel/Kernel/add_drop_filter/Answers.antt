@@ -5,6 +5,7 @@ use Rattle.so_kernel.specs.Shapes.{Core}
 use Rattle.so_kernel.specs.Gates.{IsActOf}
 use Rattle.so_kernel.proofs.KeptLaws.{kept_after, has_room, has_place, going}
 use Rattle.so_kernel.proofs.TableLaws.{tables-drop_filter, cost-acted}
+use Rattle.so_kernel.proofs.StateLaws.{stands_acted}
 use Rattle.so_kernel.proofs.kernel.Kernel.add_drop_filter.Goals as goal
 
 pub filter_dropped-requires-clause-room : goal.filter_dropped-requires-clause-room
@@ -36,4 +37,4 @@ invariant_of-self c =
     let known = subst K (sym c.self.view_is) c.requires.agent in
     let kept = kept_after c.args.entry c.filter_dropped.new.self c.self.invariant.0 (rw c.self.view_is c.requires.ready)
     (c.filter_dropped.ensures ∙ rw c.self.invariant.0.tables (sym (tables-drop_filter c.self.inside.scene.now c.self.inside.history.limit c.self.inside.history.entries c.args.entry c.args.agent c.args.filter acts known c.self.invariant.0.legal (going c.args.entry c.self.invariant.0 (rw c.self.view_is c.requires.ready))))) in
-    rw (c.push.ensures.entries, c.push.ensures.limit) (kept, c.self.invariant.1)
+    rw (c.push.ensures.entries, c.push.ensures.limit) (kept, c.self.invariant.1, stands_acted c.self.inside.scene.now c.self.inside.history.entries c.args.entry c.args.agent (effect.DropFilter c.args.filter) c.self.inside.states acts (λ l. refl) c.self.invariant.2)

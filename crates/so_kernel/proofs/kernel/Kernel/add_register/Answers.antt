@@ -5,6 +5,7 @@ use Rattle.so_lists.proofs.EachBelow.{length-each_below}
 use Rattle.so_kernel.specs.declared.tables.Tables.{Tables}
 use Rattle.so_kernel.proofs.KeptLaws.{kept_after, has_room, has_place, registered_coop, going, registered_one, absent_before}
 use Rattle.so_kernel.proofs.TableLaws.{tables-register}
+use Rattle.so_kernel.proofs.StateLaws.{stands_registered}
 use Rattle.so_kernel.proofs.kernel.Kernel.add_register.Goals as goal
 
 pub coop-coop-requires : goal.coop-coop-requires
@@ -26,7 +27,7 @@ pub invariant_of-self : goal.invariant_of-self
 invariant_of-self c =
     let kept = kept_after c.args.entry c.registered.new.self c.self.invariant.0 (rw c.self.view_is c.requires.ready)
     (c.registered.ensures ∙ rw (c.len.ensures.value, c.coop-coop.ensures.value, c.self.invariant.0.tables) (sym (tables-register c.self.inside.scene.now c.self.inside.history.limit c.self.inside.history.entries c.args.entry c.args.coop c.requires.is c.self.invariant.0.legal c.self.invariant.0.scene (registered_one c.args.entry c.args.coop c.self.invariant.0 (rw c.self.view_is c.requires.ready) c.requires.is) (absent_before c.args.entry c.args.coop c.self.invariant.0 (rw c.self.view_is c.requires.ready) c.requires.is) (going c.args.entry c.self.invariant.0 (rw c.self.view_is c.requires.ready))))) in
-    rw (c.push.ensures.entries, c.push.ensures.limit) (kept, c.self.invariant.1)
+    rw (c.push.ensures.entries, c.push.ensures.limit) (kept, c.self.invariant.1, stands_registered c.self.inside.scene.now c.self.inside.history.entries c.args.entry c.args.coop c.reset.new.self c.self.invariant.0.scene c.requires.is (registered_one c.args.entry c.args.coop c.self.invariant.0 (rw c.self.view_is c.requires.ready) c.requires.is) c.reset.ensures)
 
 pub registered-requires-clause-variables : goal.registered-requires-clause-variables
 registered-requires-clause-variables c = ap (λ (t : Tables). length t.variables) c.self.invariant.0.tables ∙ length-each_below _ _

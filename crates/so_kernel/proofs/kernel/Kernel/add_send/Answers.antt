@@ -13,6 +13,7 @@ use Rattle.so_kernel.specs.Tables.{queued}
 use Rattle.so_kernel.proofs.KeptLaws.{kept_after, has_room, has_place, going}
 use Rattle.so_kernel.proofs.MboxLaws.{same_delivery}
 use Rattle.so_kernel.proofs.TableLaws.{tables-send, cost-sent}
+use Rattle.so_kernel.proofs.StateLaws.{stands_acted}
 use Rattle.so_kernel.proofs.kernel.Kernel.add_send.Goals as goal
 
 pub delivered-requires : goal.delivered-requires
@@ -39,4 +40,4 @@ invariant_of-self c =
     let kept = kept_after c.args.entry c.delivered.new.self c.self.invariant.0 (rw c.self.view_is c.requires.ready)
     (c.delivered.ensures ∙ rw (c.len.ensures.value, planned, c.self.invariant.0.tables)
     (sym (tables-send c.self.inside.scene.now c.self.inside.history.limit c.self.inside.history.entries c.args.entry c.args.agent c.args.mbox c.args.msg c.args.payload acts known c.self.invariant.0.legal (going c.args.entry c.self.invariant.0 (rw c.self.view_is c.requires.ready))))) in
-    rw (c.push.ensures.entries, c.push.ensures.limit, room) (kept, c.self.invariant.1)
+    rw (c.push.ensures.entries, c.push.ensures.limit, room) (kept, c.self.invariant.1, stands_acted c.self.inside.scene.now c.self.inside.history.entries c.args.entry c.args.agent (effect.Send (Mbox c.args.mbox) c.args.msg c.args.payload) c.self.inside.states acts (λ l. refl) c.self.invariant.2)

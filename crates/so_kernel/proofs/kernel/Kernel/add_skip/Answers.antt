@@ -4,6 +4,7 @@ use Rattle.so_kernel.specs.Shapes.{Core}
 use Rattle.so_kernel.specs.Gates.{is_skip}
 use Rattle.so_kernel.proofs.KeptLaws.{kept_after, has_room, has_place, going}
 use Rattle.so_kernel.proofs.TableLaws.{tables-skip, skips_turn}
+use Rattle.so_kernel.proofs.StateLaws.{stands_same}
 use Rattle.so_kernel.proofs.kernel.Kernel.add_skip.Goals as goal
 
 pub skipped-requires : goal.skipped-requires
@@ -23,4 +24,4 @@ invariant_of-self c =
     let skips = skips_turn c.self.inside.scene.now c.self.inside.history.entries c.args.lane c.args.demand (sym (ap is_skip is) ∙ c.requires.skips) in
     let kept = kept_after c.args.entry c.skipped.new.self c.self.invariant.0 (rw c.self.view_is c.requires.ready)
     (c.skipped.ensures ∙ rw c.self.invariant.0.tables (sym (tables-skip c.self.inside.scene.now c.self.inside.history.limit c.self.inside.history.entries c.args.entry c.args.lane c.args.demand skips.0 (is ∙ skips.1) c.self.invariant.0.legal (going c.args.entry c.self.invariant.0 (rw c.self.view_is c.requires.ready))))) in
-    rw (c.push.ensures.entries, c.push.ensures.limit) (kept, c.self.invariant.1)
+    rw (c.push.ensures.entries, c.push.ensures.limit) (kept, c.self.invariant.1, stands_same c.self.inside.scene.now c.self.inside.history.entries c.args.entry c.self.inside.states (λ a l. rw (is ∙ skips.1) refl) c.self.invariant.2)

@@ -5,6 +5,7 @@ use Rattle.so_kernel.specs.Shapes.{Core}
 use Rattle.so_kernel.specs.Gates.{IsActOf}
 use Rattle.so_kernel.proofs.KeptLaws.{kept_after, has_room, has_place, going}
 use Rattle.so_kernel.proofs.TableLaws.{tables-subscribe, cost-acted}
+use Rattle.so_kernel.proofs.StateLaws.{stands_acted}
 use Rattle.so_kernel.proofs.kernel.Kernel.add_subscribe.Goals as goal
 
 pub subscribed-requires-clause-room : goal.subscribed-requires-clause-room
@@ -38,4 +39,4 @@ invariant_of-self c =
     let within = subst W (sym c.self.view_is) c.requires.row in
     let kept = kept_after c.args.entry c.subscribed.new.self c.self.invariant.0 (rw c.self.view_is c.requires.ready)
     (c.subscribed.ensures ∙ rw c.self.invariant.0.tables (sym (tables-subscribe c.self.inside.scene.now c.self.inside.history.limit c.self.inside.history.entries c.args.entry c.args.agent c.args.row acts c.self.invariant.0.scene known within c.self.invariant.0.legal (going c.args.entry c.self.invariant.0 (rw c.self.view_is c.requires.ready))))) in
-    rw (c.push.ensures.entries, c.push.ensures.limit) (kept, c.self.invariant.1)
+    rw (c.push.ensures.entries, c.push.ensures.limit) (kept, c.self.invariant.1, stands_acted c.self.inside.scene.now c.self.inside.history.entries c.args.entry c.args.agent (effect.Subscribe c.args.row) c.self.inside.states acts (λ l. refl) c.self.invariant.2)

@@ -5,6 +5,7 @@ use Rattle.so_kernel.specs.Shapes.{Core}
 use Rattle.so_kernel.specs.Gates.{IsActOf}
 use Rattle.so_kernel.proofs.KeptLaws.{kept_after, has_room, has_place, going}
 use Rattle.so_kernel.proofs.TableLaws.{tables-unsubscribe, cost-acted}
+use Rattle.so_kernel.proofs.StateLaws.{stands_acted}
 use Rattle.so_kernel.proofs.kernel.Kernel.add_unsubscribe.Goals as goal
 
 pub unsubscribed-requires-clause-room : goal.unsubscribed-requires-clause-room
@@ -36,4 +37,4 @@ invariant_of-self c =
     let known = subst K (sym c.self.view_is) c.requires.agent in
     let kept = kept_after c.args.entry c.unsubscribed.new.self c.self.invariant.0 (rw c.self.view_is c.requires.ready)
     (c.unsubscribed.ensures ∙ rw c.self.invariant.0.tables (sym (tables-unsubscribe c.self.inside.scene.now c.self.inside.history.limit c.self.inside.history.entries c.args.entry c.args.agent c.args.row acts known c.self.invariant.0.legal (going c.args.entry c.self.invariant.0 (rw c.self.view_is c.requires.ready))))) in
-    rw (c.push.ensures.entries, c.push.ensures.limit) (kept, c.self.invariant.1)
+    rw (c.push.ensures.entries, c.push.ensures.limit) (kept, c.self.invariant.1, stands_acted c.self.inside.scene.now c.self.inside.history.entries c.args.entry c.args.agent (effect.Unsubscribe c.args.row) c.self.inside.states acts (λ l. refl) c.self.invariant.2)

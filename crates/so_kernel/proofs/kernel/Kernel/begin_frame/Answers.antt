@@ -1,9 +1,8 @@
 use Rattle.std.proofs.Common.{◌≡◌, ◌<◌, length, refl, sym, ◌∙◌, subst}
 use Rattle.so_lists.proofs.EachBelow.{length-each_below, get_or-each_below}
 use Rattle.so_history.specs.Turns.{vars}
-use Rattle.so_history.proofs.OpeningLaws.{opening_acts}
+use Rattle.so_history.proofs.OpeningLaws.{opening_fits}
 use Rattle.so_kernel.specs.Shapes.{Core}
-use Rattle.so_kernel.proofs.ActLaws.{fits_acts}
 use Rattle.so_kernel.proofs.kernel.Kernel.begin_frame.Goals as goal
 
 pub of-vars-requires : goal.of-vars-requires
@@ -12,7 +11,7 @@ of-vars-requires c =
     rw (c.self.invariant.0.tables, length-each_below) (subst P (sym c.self.view_is) c.requires)
 
 pub begin-requires : goal.begin-requires
-begin-requires c = rw c.opening_of.ensures (fits_acts _ (opening_acts c.args.self.now.scene c.args.self.now.history c.args.demand c.scene-scene.ensures.scene))
+begin-requires c = rw c.opening_of.ensures (opening_fits c.args.self.now.scene c.args.self.now.history c.args.demand c.scene-scene.ensures.scene c.requires)
 
 pub returns : goal.returns
 returns c =
