@@ -12,16 +12,21 @@ use std::alloc::{AllocError, Global};
 
 /// The mboxes that have a name.
 pub(crate) const BOARD: u32 = 3;
+
 pub(crate) const SIDE: u32 = 4;
 
 /// The messages, of which the second is a signal.
 pub(crate) const NUM: u32 = 0;
+
 pub(crate) const SIGNAL: u32 = 1;
+
 pub(crate) const OTHER: u32 = 2;
 
 /// The agents.
 pub(crate) const R: u32 = 0;
+
 pub(crate) const Q: u32 = 1;
+
 pub(crate) const D: u32 = 2;
 
 fn name(text: &str) -> Name
@@ -42,8 +47,12 @@ fn idle_code(alloc: Global) -> Result<Code, AllocError>
         [
             Instr::End { body: Body::Start },
             Instr::End { body: Body::Finish },
-            Instr::End { body: Body::Row(RowId(0)) },
-            Instr::End { body: Body::Row(RowId(1)) },
+            Instr::End {
+                body: Body::Row(RowId(0)),
+            },
+            Instr::End {
+                body: Body::Row(RowId(1)),
+            },
         ],
     )?;
     Ok(Code::new(instrs))
@@ -113,20 +122,38 @@ fn agents(alloc: Global) -> Result<Items<AgentDef>, AllocError>
     let r = agent(
         alloc,
         "r",
-        [row(BOARD, NUM, RowKind::Run, true), row(BOARD, NUM, RowKind::Run, false)],
-        [field_test(BOARD, NUM, Cmp::Ge, 0, true), field_test(BOARD, NUM, Cmp::Lt, 10, false)],
+        [
+            row(BOARD, NUM, RowKind::Run, true),
+            row(BOARD, NUM, RowKind::Run, false),
+        ],
+        [
+            field_test(BOARD, NUM, Cmp::Ge, 0, true),
+            field_test(BOARD, NUM, Cmp::Lt, 10, false),
+        ],
     )?;
     let q = agent(
         alloc,
         "q",
-        [row(BOARD, NUM, RowKind::Run, true), row(BOARD, OTHER, RowKind::Dead, true)],
-        [field_test(BOARD, NUM, Cmp::Ge, 100, true), field_test(BOARD, NUM, Cmp::Ge, 5, true)],
+        [
+            row(BOARD, NUM, RowKind::Run, true),
+            row(BOARD, OTHER, RowKind::Dead, true),
+        ],
+        [
+            field_test(BOARD, NUM, Cmp::Ge, 100, true),
+            field_test(BOARD, NUM, Cmp::Ge, 5, true),
+        ],
     )?;
     let d = agent(
         alloc,
         "d",
-        [row(BOARD, NUM, RowKind::Dead, true), row(BOARD, NUM, RowKind::Run, false)],
-        [field_test(BOARD, OTHER, Cmp::Eq, 1, true), field_test(SIDE, NUM, Cmp::Eq, 1, true)],
+        [
+            row(BOARD, NUM, RowKind::Dead, true),
+            row(BOARD, NUM, RowKind::Run, false),
+        ],
+        [
+            field_test(BOARD, OTHER, Cmp::Eq, 1, true),
+            field_test(SIDE, NUM, Cmp::Eq, 1, true),
+        ],
     )?;
     Ok(Items::from_vec(Vec::from_array(alloc, [r, q, d])?))
 }
@@ -141,17 +168,23 @@ fn the_coop() -> CoopDef
     }
 }
 
+fn parts(alloc: Global) -> Result<SceneParts, AllocError>
+    ensures { IfOk result (λ parts. parts ≡ board) }
+{
+    let messages = [message("n", false), message("g", true), message("o", false)];
+    Ok(SceneParts {
+        messages: Items::from_vec(Vec::from_array(alloc, messages)?),
+        mboxes: Items::from_vec(Vec::from_array(alloc, [name("b"), name("s")])?),
+        coops: Items::from_vec(Vec::from_array(alloc, [the_coop()])?),
+        agents: agents(alloc)?,
+        texts: Items::from_vec(Vec::new(alloc)),
+    })
+}
+
 /// The scene.
 pub(crate) fn board(alloc: Global) -> Result<Scene, AllocError>
     ensures { IfOk result (λ scene. scene ≡ board) }
 {
-    let messages = [message("n", false), message("g", true), message("o", false)];
-    let agents = agents(alloc)?;
-    Ok(Scene::new(SceneParts {
-        messages: Items::from_vec(Vec::from_array(alloc, messages)?),
-        mboxes: Items::from_vec(Vec::from_array(alloc, [name("b"), name("s")])?),
-        coops: Items::from_vec(Vec::from_array(alloc, [the_coop()])?),
-        agents,
-        texts: Items::from_vec(Vec::new(alloc)),
-    }))
+    let parts = parts(alloc)?;
+    Ok(Scene::new(parts))
 }

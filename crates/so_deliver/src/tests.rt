@@ -1,8 +1,7 @@
 //! Deliveries on the mbox `b`, by the rules.
 
-ghost use Rattle.std.specs.Prelude.{◌≡◌, ◌<◌, ◌≤◌, ◌×◌, length, true};
+ghost use Rattle.std.specs.Prelude.{◌≡◌, ◌<◌, length, true};
 ghost use Rattle.so_scene.specs.Parts.{rows_of, filters_of};
-ghost use Rattle.so_mbox.specs.Table.{IsAgentOf};
 
 use crate::example::{BOARD, D, NUM, OTHER, Q, R, SIDE, SIGNAL, board};
 use crate::{Outcomes, Planned, plan_delivery};
@@ -128,7 +127,7 @@ fn holds(alloc: Global, table: &Table, case: Case) -> Result<bool, NoMemory> {
         payload(case.field),
         &mut outcomes,
     );
-    Ok(is_told(sent, case) && are_queued(&outcomes, case))
+    Ok(is_told(sent, case) && are_queued(&outcomes, sent, case))
 }
 
 fn is_told(sent: Sent, case: Case) -> bool {
@@ -138,19 +137,24 @@ fn is_told(sent: Sent, case: Case) -> bool {
         && sent.first.is_none()
 }
 
-fn are_queued(outcomes: &Outcomes, case: Case) -> bool {
-    for at in 0..case.queued.len() {
-        let event = Queued {
-            agent: AgentId(case.queued[at]),
-            mbox: MboxId(case.mbox),
-            msg: MsgId(case.msg),
-            payload: payload(case.field),
-        };
-        if outcomes.queued_at(at as u32) != Some(event) {
+fn are_queued(outcomes: &Outcomes, sent: Sent, case: Case) -> bool {
+    for at in 0..sent.queued {
+        if outcomes.queued_at(at) != event(case, at) {
             return false;
         }
     }
-    outcomes.queued_at(case.queued.len() as u32).is_none()
+    outcomes.queued_at(sent.queued).is_none()
+}
+
+/// The event that the case has at this position.
+fn event(case: Case, at: u32) -> Option<Queued> {
+    let agent = case.queued.get(at as usize)?;
+    Some(Queued {
+        agent: AgentId(*agent),
+        mbox: MboxId(case.mbox),
+        msg: MsgId(case.msg),
+        payload: payload(case.field),
+    })
 }
 
 /// Makes the steps on a new table, and then the delivery.
@@ -173,9 +177,18 @@ fn receivers_are_in_order_of_registration(rt: HostRuntime) {
         num(&[], 7, &[]),
         num(&[Step::Enter(Q)], 7, &[Q]),
         num(ALL, 7, &[R, Q, D]),
-        num(&[Step::Enter(D), Step::Enter(R), Step::Enter(Q)], 7, &[D, R, Q]),
         num(
-            &[Step::Enter(R), Step::Enter(Q), Step::Leave(R), Step::Enter(R)],
+            &[Step::Enter(D), Step::Enter(R), Step::Enter(Q)],
+            7,
+            &[D, R, Q],
+        ),
+        num(
+            &[
+                Step::Enter(R),
+                Step::Enter(Q),
+                Step::Leave(R),
+                Step::Enter(R),
+            ],
             7,
             &[Q, R],
         ),
@@ -190,7 +203,11 @@ fn an_agent_receives_what_it_is_subscribed_to_and_once(rt: HostRuntime) {
     let cases = [
         num(&[Step::Enter(R), Step::Unsubscribe(R, 0)], 7, &[]),
         num(
-            &[Step::Enter(R), Step::Unsubscribe(R, 0), Step::Subscribe(R, 1)],
+            &[
+                Step::Enter(R),
+                Step::Unsubscribe(R, 0),
+                Step::Subscribe(R, 1),
+            ],
             7,
             &[R],
         ),
@@ -230,7 +247,12 @@ fn a_message_that_a_filter_refuses_is_not_lost(rt: HostRuntime) {
         num(&[Step::Enter(Q), Step::DropFilter(Q, 1)], 3, &[Q]),
         // a registration sets the filters back
         num(
-            &[Step::Enter(R), Step::SetFilter(R, 1), Step::Leave(R), Step::Enter(R)],
+            &[
+                Step::Enter(R),
+                Step::SetFilter(R, 1),
+                Step::Leave(R),
+                Step::Enter(R),
+            ],
             20,
             &[R],
         ),
@@ -297,7 +319,12 @@ fn receiver(table: &Table, at: u32) -> Option<AgentId> {
 fn the_receiver_at_a_position_is_the_next_that_is_subscribed(rt: HostRuntime) -> Result<(), Fail> {
     let scene = board(rt.alloc())?;
     let mut table = Table::with(rt.alloc(), &scene)?;
-    for step in [Step::Enter(D), Step::Enter(Q), Step::Enter(R), Step::Unsubscribe(Q, 0)] {
+    for step in [
+        Step::Enter(D),
+        Step::Enter(Q),
+        Step::Enter(R),
+        Step::Unsubscribe(Q, 0),
+    ] {
         assert!(rt; make(&mut table, step));
     }
     assert_eq!(rt; receiver(&table, 0), Some(AgentId(D)));

@@ -76,6 +76,20 @@ impl<'a> Table<'a> {
         })
     }
 
+    /// The scene that it was made for.
+    pub fn scene(&self) -> &'a Scene
+        ensures { result.now ≡ self.now.scene }
+    {
+        self.scene
+    }
+
+    /// Tells whether the agent is registered.
+    pub fn is_entered(&self, agent: AgentId) -> bool
+        ensures { result ≡ is_entered self.now agent }
+    {
+        self.order.iter().any(|other| agent == *other)
+    }
+
     /// Registers an agent, after those that are. Its rows and filters are the scene's, of which a later active
     /// filter of the same mbox and type replaces an earlier one.
     pub fn enter(&mut self, agent: AgentId)
