@@ -1,20 +1,14 @@
 -- The scene of the tests is a scene.
-use Rattle.std.proofs.Common.{◌≡◌, ℕ, zero, suc, ◌<◌, ◌+◌, get_or, inl, inr, List, [], ◌∷◌, length, map, true, false, None, arith, refl, rules}
-use Rattle.std.specs.Prelude.{bytes_eq, ℤ, Bool, ◌≤◌}
-use Rattle.std.specs.List.{All, AllByRecursion, IsDistinct}
+use Rattle.std.proofs.Common.{◌≡◌, ℕ, zero, suc, ◌<◌, ◌+◌, get_or, inl, List, [], ◌∷◌, length, None, arith, refl, rules}
+use Rattle.std.specs.Prelude.{ℤ, Bool, ◌≤◌}
+use Rattle.std.specs.List.{AllByRecursion, IsDistinct}
 use Rattle.std.proofs.lemmas.List.Elements.{All-from_recursion}
-use Rattle.so_ids.specs.declared.AgentId.{AgentId}
-use Rattle.so_ids.specs.declared.RowId.{RowId}
 use Rattle.so_code.specs.declared.instr.Body.TheVariants.{Start, Finish, Row as RowBody}
 use Rattle.so_code.specs.declared.instr.Cmp.{Cmp}
-use Rattle.so_code.specs.Bodies.{bodies_in}
-use Rattle.so_code.specs.Shape.{Part, IsCode, AreAgentBodies, agent_bodies, flatten}
+use Rattle.so_code.specs.Shape.{IsCode}
 use Rattle.so_state.specs.declared.choice.Row.{Row}
 use Rattle.so_state.specs.declared.choice.RowKind.{RowKind}
-use Rattle.so_scene.specs.declared.parts.AgentDef.{AgentDef}
-use Rattle.so_scene.specs.declared.parts.FilterDef.{FilterDef}
-use Rattle.so_scene.specs.Parts.{message_name, mbox_names}
-use Rattle.so_scene.specs.Checked.{IsScene, IsAgent, IsRow, IsHandler, IsFilter, IsCoop, NamesParts, row_numbers, given, filter_ids}
+use Rattle.so_scene.specs.Checked.{IsScene, IsAgent, IsRow, IsHandler, IsFilter, IsCoop, NamesParts}
 use Rattle.so_scene.specs.Definition.{definition_fault}
 use Rattle.so_deliver.specs.Board.{idle_code, row, field_test, agent, board}
 

@@ -1,6 +1,5 @@
 -- The scene of the tests: three agents, with subscriptions and filters on the mbox `board`.
 use Rattle.std.specs.Prelude.{ℕ, ℤ, pos, List, [], ◌∷◌, replicate, Bool, true, false, None}
-use Rattle.so_ids.specs.declared.AgentId.{AgentId}
 use Rattle.so_code.specs.declared.instr.Instr.{Instr}
 use Rattle.so_code.specs.declared.instr.Instr.TheVariants.{End}
 use Rattle.so_code.specs.declared.instr.Body.TheVariants.{Start, Finish, Row as RowBody}

@@ -1,4 +1,3 @@
-use Rattle.so_code.specs.Shape.{IsCode}
 use Rattle.so_deliver.proofs.BoardLaws.{idle_is_code}
 use Rattle.so_deliver.proofs.example.idle_code.Goals as goal
 
