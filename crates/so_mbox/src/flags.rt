@@ -1,8 +1,7 @@
 //! Which rows, or which filters, of an agent are active.
 
-ghost use Rattle.std.specs.Prelude.{◌≡◌, ◌<◌, ◌^◌, length, replicate, slice_set, slice_get, Some, false, IfOk};
-ghost use Rattle.so_scene.specs.Delivery.{is_filter_for};
-ghost use Rattle.so_scene.specs.Subscriptions.{rows_first, stays_beside, beside, filter_at, filter_set, filter_taken, filters_taken, filters_first};
+ghost use Rattle.std.specs.Prelude.{◌≡◌, ◌<◌, length, replicate, slice_set, false, IfOk};
+ghost use Rattle.so_scene.specs.Subscriptions.{rows_first, stays_beside, beside, filter_set, filter_taken, filters_first};
 
 use so_ids::NoMemory;
 use so_scene::FilterDef;
