@@ -1,14 +1,15 @@
 -- The command of words is the one that they say, and where there is none their fault is found.
 use Rattle.std.proofs.Common.{◌≡◌, inl, inr, ℕ, ◌+◌, ◌≤◌, List, [], ◌∷◌, ◌++◌, Bool, true, false, Option, Some, None, Result, Ok, Err, refl, sym, ◌∙◌, ap, subst, codes, if◌then◌else◌, IfSome, arith}
-use Rattle.std.specs.Prelude.{unwrap_or}
+use Rattle.std.specs.Prelude.{unwrap_or, IfOk, MatchResult}
 use Rattle.std.specs.Str.{bytes_eq}
 use Rattle.std.proofs.lemmas.Bool.{cases_Bool}
 use Rattle.std.proofs.lemmas.Slice.Eq.{bytes_eq-Decides}
 use Rattle.sorun.specs.Words.{is_file}
 use Rattle.so_history.specs.declared.lines.Mode.{Mode}
 use Rattle.sorun.specs.Options.{most_units, usual_units, no_options, options_of, count_of, units_of}
-use Rattle.sorun.specs.Commands.{Command, IsWithin, check_of, sim_of, command_of, plain, optioned, after_options, file_at, file_then}
+use Rattle.sorun.specs.Commands.{Command, IsWithin, meant, check_of, sim_of, command_of, plain, optioned, after_options, file_at, file_then}
 use Rattle.sorun.specs.Sentences.{AreOptions, IsPlain, IsOptioned, Asks, IsSentenceOf, IsSentence}
+use Rattle.sorun.specs.declared.commands.Command as declared
 use Rattle.sorun.specs.declared.commands.Job.{Job}
 use Rattle.sorun.specs.declared.commands.Job.TheVariants.{Check, Sim}
 use Rattle.sorun.specs.declared.options.Options.{Options}
@@ -133,3 +134,7 @@ asks_within (Sim mode units) file ws s = given_within s.given units s.are.within
 
 pub within_most : (c : Command) (ws : List (List ℕ)) → command_of ws ≡ Ok c → IsWithin c.job
 within_most c ws is = asks_within c.job c.file ws (says c ws is)
+
+pub sim_within : (ws : List (List ℕ)) (r : Result declared.Command ℕ) → MatchResult r (λ c. after_options sim_of (options_of no_options ws) ≡ Ok (meant c)) (λ k. after_options sim_of (options_of no_options ws) ≡ Err k) → IfOk r (λ c. IsWithin c.job)
+sim_within ws (Ok c) is = within_most (meant c) (codes "sim" ∷ ws) is
+sim_within ws (Err k) is = tt
