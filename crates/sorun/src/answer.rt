@@ -7,7 +7,7 @@ ghost use Rattle.sorun.specs.Options.{most_units};
 ghost use Rattle.sorun.specs.Commands.{IsWithin, command_of};
 ghost use Rattle.sorun.specs.Answers.{status_of, refusal_cause, IsChecked, IsRun, JobAnswers, SceneAnswers, FileAnswers, WordsAnswers};
 
-use crate::commands::{Command, Job, command_of};
+use crate::commands::{Job, command_of};
 use crate::report::{Report, refused, status_of};
 use crate::summary::put_summary;
 use so_env::{Cause, Outcome, simulate};
@@ -36,29 +36,30 @@ pub(crate) fn answer<F: Files, K: Sink>(
 {
     match command_of(words) {
         Err(place) => refused(Cause::Usage(place)),
-        Ok(command) => answer_file(alloc, command, files, out),
+        Ok(command) => answer_file(alloc, command.file, command.job, files, out),
     }
 }
 
-/// The answer to a command, which begins with its file.
+/// The answer to what is asked of a file.
 fn answer_file<F: Files, K: Sink>(
     alloc: Global,
-    command: Command<'_>,
+    file: &str,
+    job: Job,
     files: &mut F,
     out: &mut K,
 ) -> Report
-    requires { IsWithin command.job }
+    requires { IsWithin job }
     ensures status { result.status ≡ status_of result.cause }
-    ensures file { FileAnswers command.job (F.content files.old command.file.now) result (F.faults files.old) (F.faults files.new)
+    ensures file { FileAnswers job (F.content files.old file.now) result (F.faults files.old) (F.faults files.new)
         (K.content out.old) (K.content out.new) (K.faults out.old) (K.faults out.new) }
     ensures kept { (name : List ℕ) → F.content files.new name ≡ F.content files.old name }
     ensures later { F.faults files.old ≤ F.faults files.new }
 {
-    match files.read_all(alloc, command.file, MOST_BYTES) {
+    match files.read_all(alloc, file, MOST_BYTES) {
         Err(ReadFail::Failed) => refused(Cause::Read),
         Err(ReadFail::TooLong) => refused(Cause::Long),
         Err(ReadFail::NoMemory) => refused(Cause::Memory),
-        Ok(bytes) => answer_bytes(alloc, command.job, &bytes, out),
+        Ok(bytes) => answer_bytes(alloc, job, &bytes, out),
     }
 }
 
