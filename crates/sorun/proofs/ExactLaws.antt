@@ -9,13 +9,12 @@ use Rattle.so_history.specs.declared.lines.Mode.{Mode}
 use Rattle.so_history.specs.Kept.{Kept}
 use Rattle.so_history.specs.Steps.{finished, is_over}
 use Rattle.so_history.specs.Text.{text}
-use Rattle.so_history.specs.Facts.{HasFacts}
 use Rattle.so_history.proofs.FactLaws.{has_facts}
 use Rattle.so_env.specs.declared.outcome.Cause.{Cause}
 use Rattle.so_history.specs.Coops.{aborted}
 use Rattle.so_env.specs.declared.outcome.Cause.TheVariants.{Done, Usage, Limit, Aborted, Scene, Read, Long, Write, Memory}
 use Rattle.so_env.specs.Prints.{Printed, HasRisen, IsSimulated, cause_of}
-use Rattle.sorun.specs.Answers.{most_bytes, IsRefused, IsChecked, IsRun, RunAnswers, JobAnswers, SceneAnswers, FileAnswers, could_not_read, too_long, wanting, was_read, WordsAnswers}
+use Rattle.sorun.specs.Answers.{most_bytes, IsRefused, RunAnswers, JobAnswers, SceneAnswers, FileAnswers, could_not_read, too_long, wanting, was_read, WordsAnswers}
 use Rattle.sorun.specs.Exact.{IsWhole, RunsNothing, IsFileExact, IsExact, FactsOf, RunHasFacts}
 use Rattle.so_scene_json.specs.Scene.{scene_of}
 use Rattle.sorun.specs.Commands.{Command}

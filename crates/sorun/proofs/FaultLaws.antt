@@ -1,5 +1,5 @@
 -- Where words leave the sentences.
-use Rattle.std.proofs.Common.{◌≡◌, inl, inr, ℕ, ◌+◌, ◌<◌, ◌≤◌, List, [], ◌∷◌, ◌++◌, length, take, drop, Bool, true, false, Result, Ok, Err, refl, sym, ◌∙◌, ap, subst, codes, if◌then◌else◌, append_assoc, length-append, arith}
+use Rattle.std.proofs.Common.{◌≡◌, inl, inr, ℕ, ◌+◌, ◌<◌, ◌≤◌, List, [], ◌∷◌, ◌++◌, length, take, drop, true, false, Result, Ok, Err, refl, sym, ◌∙◌, ap, subst, codes, if◌then◌else◌, append_assoc, length-append, arith}
 use Rattle.std.specs.Str.{bytes_eq}
 use Rattle.std.proofs.lemmas.Bool.{cases_Bool, cases_lt, cases_eq}
 use Rattle.std.proofs.lemmas.List.{append-nil, take_at, take-append-drop, take-take}

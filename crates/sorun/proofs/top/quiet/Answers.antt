@@ -1,4 +1,3 @@
-use Rattle.std.proofs.Common.{◌∙◌}
 use Rattle.sorun.proofs.ExactLaws.{exact, facts}
 use Rattle.sorun.proofs.FaultLaws.{are_read}
 use Rattle.sorun.proofs.top.quiet.Goals as goal
