@@ -48,9 +48,12 @@ parts_of name s = record { messages = s.messages; mboxes = s.names.mboxes; coops
 abbrev pub agent_number : ℕ → AgentId
 agent_number k = record { 0 = k }
 
+abbrev pub fault_of : SceneParts → ℕ → Option DefFault
+fault_of s k = definition_fault s (agent_number k)
+
 -- the first definition rule that an agent breaks
 abbrev pub first_fault : SceneParts → Option DefFault
-first_fault s = first_below (λ k. definition_fault s (agent_number k)) (length s.agents)
+first_fault s = first_below (fault_of s) (length s.agents)
 
 -- a cooperation without agents, and one with an agent that breaks such a rule, would be refused when it is registered
 abbrev pub is_refused : SceneParts → Bool

@@ -1,10 +1,10 @@
 //! The second pass: in each name space each name is declared once.
 
-ghost use Rattle.std.specs.Prelude.{◌≡◌, ◌<◌, ◌++◌, Some, Ok, length};
+ghost use Rattle.std.specs.Prelude.{◌≡◌, ◌<◌, ◌+◌, ◌++◌, Some, Ok, length, option_map};
 ghost use Rattle.serde_json.specs.View.{view, items_view};
 ghost use Rattle.so_scene.specs.Names.{number_in};
 ghost use Rattle.so_scene_json.specs.Values.{name_of, name_in, id_in};
-ghost use Rattle.so_scene_json.specs.Twice.{is_signal, no_names, names_in, with_mbox, with_mbox_read, with_mboxes, entering, declared_name, declared, twice_step};
+ghost use Rattle.so_scene_json.specs.Twice.{is_signal, no_names, names_in, with_mbox, with_mbox_read, with_mboxes, entering, name_for, declared_name, declared, twice_step};
 ghost use Rattle.so_scene_json.specs.Visits.{Leaves};
 
 use crate::table::{Form, ObjectKind, Rule, Space, declares, key};
@@ -30,6 +30,24 @@ pub(crate) fn is_signal(value: &Value) -> bool
     }
 }
 
+/// The id of an object, if it has one.
+fn id(value: &Value) -> Option<&str>
+    ensures { option_map (λ n. n.now) result ≡ id_in (view value.now) }
+{
+    let id = string_in(value, "id");
+    if is_name(id.as_bytes()) { Some(id) } else { None }
+}
+
+/// The name that an object declares in a space.
+fn name_for(space: Space, value: &Value) -> Option<&str>
+    ensures { option_map (λ n. n.now) result ≡ name_for space (view value.now) }
+{
+    match space {
+        Space::Rows | Space::Filters => id(value),
+        _ => Some(name_in(value)),
+    }
+}
+
 /// The names so far, by number in each name space.
 #[derive(Drop)]
 pub(crate) struct Declared {
@@ -44,6 +62,15 @@ pub(crate) struct Declared {
     pub(crate) filters: Names,
     /// Whether each message is a signal.
     pub(crate) signals: Items<bool>,
+}
+
+/// The number of the second names' name `k` where their numbers follow those of the first.
+fn number_behind(first: &Names, second: &Names, k: usize) -> usize
+    requires { k < length second.now }
+    ensures { result ≡ length first.now + k }
+{
+    let _second = second.as_slice().len();
+    first.as_slice().len() + k
 }
 
 impl Declared {
@@ -68,7 +95,7 @@ impl Declared {
         match self.agents.number(name) {
             Some(agent) => Some(agent),
             None => match self.mboxes.number(name) {
-                Some(k) => Some(self.agents.len() + k),
+                Some(k) => Some(number_behind(&self.agents, &self.mboxes, k)),
                 None => None,
             },
         }
@@ -159,21 +186,18 @@ impl Declared {
         }
     }
 
-    /// The id of a row or a filter, where it has one.
-    fn declare_id(
+    fn declare_given(
         &mut self,
         place: &ScenePlace,
         space: Space,
-        value: &Value,
+        name: Option<&str>,
     ) -> Result<(), SceneRefusal>
         requires { length place.now < 16 }
-        ensures { Leaves (declared_name place.now space (id_in (view value.now)) self.old) result self.new }
+        ensures { Leaves (declared_name place.now space (option_map (λ n. n.now) name.entry) self.old) result self.new }
     {
-        let id = string_in(value, "id");
-        if is_name(id.as_bytes()) {
-            self.declare(place, space, id)
-        } else {
-            Ok(())
+        match name {
+            Some(name) => self.declare(place, space, name),
+            None => Ok(()),
         }
     }
 
@@ -187,9 +211,7 @@ impl Declared {
         ensures { Leaves (declared place.now space (view value.now) self.old) result self.new }
     {
         match space {
-            Some(Space::Rows) => self.declare_id(place, Space::Rows, value),
-            Some(Space::Filters) => self.declare_id(place, Space::Filters, value),
-            Some(space) => self.declare(place, space, name_in(value)),
+            Some(space) => self.declare_given(place, space, name_for(space, value)),
             None => Ok(()),
         }
     }

@@ -1,0 +1,6 @@
+use Rattle.so_scene_json.specs.Values.{id_in}
+use Rattle.so_scene_json.proofs.Ends.{taken_all}
+use Rattle.so_scene_json.proofs.scope.ids.Goals as goal
+
+pub returns : goal.returns
+returns c = taken_all id_in _ _ _ c.loop-value-test.false c.loop-value.invariant
