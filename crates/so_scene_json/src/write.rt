@@ -305,6 +305,20 @@ impl Writer {
         }
     }
 
+    /// The instruction of an act with the ids of this agent.
+    fn instr(
+        &self,
+        names: &Declared,
+        text: u32,
+        rest: usize,
+        word: Word,
+        list: &[Value],
+    ) -> Instr
+        ensures { result ≡ word_instr names.now self.now.scope text rest word (items_view list.now) }
+    {
+        instr(names, &self.scope, text, rest, word, list)
+    }
+
     fn word(
         &mut self,
         names: &Declared,
@@ -317,9 +331,13 @@ impl Writer {
         match word {
             Word::Log => {
                 let text = self.text(text_in(list, 0))?;
-                self.push(instr(names, &self.scope, text, rest, Word::Log, list))
+                let instr = self.instr(names, text, rest, Word::Log, list);
+                self.push(instr)
             }
-            _ => self.push(instr(names, &self.scope, 0, rest, word, list)),
+            _ => {
+                let instr = self.instr(names, 0, rest, word, list);
+                self.push(instr)
+            }
         }
     }
 
