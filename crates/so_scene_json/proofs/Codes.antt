@@ -199,10 +199,10 @@ record Wrote (names : Declared) (rest : ℕ) (w v : Writer) : Type 0 where
   fine : IsActBefore true one rest
   grows : length w.texts ≤ length v.texts
   scope : v.scope ≡ w.scope
-  named : NamesWithin (allows names w.scope (length v.texts)) one
+  named : HasFewIds w.scope → NamesWithin (allows names w.scope (length v.texts)) one
   texts : AllByRecursion (λ t. is_text t ≡ true) w.texts → AllByRecursion (λ t. is_text t ≡ true) v.texts
 
-simple : (names : Declared) (rest : ℕ) (w : Writer) (i : Instr) → IsActBefore true i rest → NamesWithin (allows names w.scope (length w.texts)) i → Wrote names rest w (with_instr i w)
+simple : (names : Declared) (rest : ℕ) (w : Writer) (i : Instr) → IsActBefore true i rest → (HasFewIds w.scope → NamesWithin (allows names w.scope (length w.texts)) i) → Wrote names rest w (with_instr i w)
 simple names rest w i f n = record { one = i; same = refl; fine = f; grows = omega arith; scope = refl; named = n; texts = λ a. a }
 
 idle_fine : (rest : ℕ) → IsActBefore true idle rest
@@ -255,15 +255,15 @@ filter_there ids name None filter few e f = absurd cc
 filter_there ids name (Some k) filter few e f = let its : filter_number k ≡ filter = cc in subst (λ (r : FilterId). HasId ids r.0) its (id_there ids name k few e)
 
 -- an act on a row of the agent, and on a filter
-row_wrote : (names : Declared) (rest : ℕ) (w : Writer) (ds : Items) (f : RowId → Instr) → HasFewIds w.scope → ((row : RowId) → IsActBefore true (f row) rest) → ((n : Named) (row : RowId) → HasId n.rows row.0 → NamesWithin n (f row)) → Wrote names rest w (with_instr (or_idle f (row_at w.scope ds)) w)
-row_wrote names rest w ds f few fine names_it =
+row_wrote : (names : Declared) (rest : ℕ) (w : Writer) (ds : Items) (f : RowId → Instr) → ((row : RowId) → IsActBefore true (f row) rest) → ((n : Named) (row : RowId) → HasId n.rows row.0 → NamesWithin n (f row)) → Wrote names rest w (with_instr (or_idle f (row_at w.scope ds)) w)
+row_wrote names rest w ds f fine names_it =
     simple names rest w _ (or_fine (λ i. IsActBefore true i rest) f (row_at w.scope ds) (idle_fine rest) (λ row e. fine row))
-    (or_fine (NamesWithin (allows names w.scope (length w.texts))) f (row_at w.scope ds) tt (λ row e. names_it (allows names w.scope (length w.texts)) row (row_there w.scope.rows (string_at 0 ds) (number_with w.scope.rows (string_at 0 ds)) row few.rows refl e)))
+    (λ few. or_fine (NamesWithin (allows names w.scope (length w.texts))) f (row_at w.scope ds) tt (λ row e. names_it (allows names w.scope (length w.texts)) row (row_there w.scope.rows (string_at 0 ds) (number_with w.scope.rows (string_at 0 ds)) row few.rows refl e)))
 
-filter_wrote : (names : Declared) (rest : ℕ) (w : Writer) (ds : Items) (f : FilterId → Instr) → HasFewIds w.scope → ((filter : FilterId) → IsActBefore true (f filter) rest) → ((n : Named) (filter : FilterId) → HasId n.filters filter.0 → NamesWithin n (f filter)) → Wrote names rest w (with_instr (or_idle f (filter_at w.scope ds)) w)
-filter_wrote names rest w ds f few fine names_it =
+filter_wrote : (names : Declared) (rest : ℕ) (w : Writer) (ds : Items) (f : FilterId → Instr) → ((filter : FilterId) → IsActBefore true (f filter) rest) → ((n : Named) (filter : FilterId) → HasId n.filters filter.0 → NamesWithin n (f filter)) → Wrote names rest w (with_instr (or_idle f (filter_at w.scope ds)) w)
+filter_wrote names rest w ds f fine names_it =
     simple names rest w _ (or_fine (λ i. IsActBefore true i rest) f (filter_at w.scope ds) (idle_fine rest) (λ filter e. fine filter))
-    (or_fine (NamesWithin (allows names w.scope (length w.texts))) f (filter_at w.scope ds) tt (λ filter e. names_it (allows names w.scope (length w.texts)) filter (filter_there w.scope.filters (string_at 0 ds) (number_with w.scope.filters (string_at 0 ds)) filter (omega (arith, few.filters)) refl e)))
+    (λ few. or_fine (NamesWithin (allows names w.scope (length w.texts))) f (filter_at w.scope ds) tt (λ filter e. names_it (allows names w.scope (length w.texts)) filter (filter_there w.scope.filters (string_at 0 ds) (number_with w.scope.filters (string_at 0 ds)) filter (omega (arith, few.filters)) refl e)))
 
 -- ---- a text
 
@@ -276,7 +276,7 @@ text_wrote names rest w t args (Some n) h is are = record {
   fine = record { act = refl; switch = λ e. refl; parts = are; jumps = omega arith };
   grows = omega arith;
   scope = refl;
-  named = omega (arith, h, min-le_left n (2 ^ 32 - 1));
+  named = λ few. omega (arith, h, min-le_left n (2 ^ 32 - 1));
   texts = λ a. a;
 }
 text_wrote names rest w t args None h is are = record {
@@ -285,7 +285,7 @@ text_wrote names rest w t args None h is are = record {
   fine = record { act = refl; switch = λ e. refl; parts = are; jumps = omega arith };
   grows = omega (arith, length-append w.texts (t ∷ []));
   scope = refl;
-  named = omega (arith, length-append w.texts (t ∷ []), min-le_left (length w.texts) (2 ^ 32 - 1));
+  named = λ few. omega (arith, length-append w.texts (t ∷ []), min-le_left (length w.texts) (2 ^ 32 - 1));
   texts = λ a. each-append (λ t. is_text t ≡ true) w.texts (t ∷ []) a (is, tt);
 }
 
@@ -296,31 +296,31 @@ checked_text false s e = refl
 text_at_fine : (i : ℕ) (ds : Items) → is_text (text_at i ds) ≡ true
 text_at_fine i ds = checked_text (is_text (string_at i ds)) (string_at i ds) refl
 
-wrote_word : (names : Declared) (rest : ℕ) (w : Writer) → HasFewIds w.scope → (wd : Word) (ds : Items) → Wrote names rest w (word_written names rest w wd ds)
-wrote_word names rest w few word.Set ds = simple names rest w _ (record { act = refl; switch = λ e. refl; parts = (dest_fine 0 ds, operand_fine 1 ds); jumps = omega arith }) tt
-wrote_word names rest w few word.Add ds = simple names rest w _ (record { act = refl; switch = λ e. refl; parts = (dest_fine 0 ds, operand_fine 1 ds, operand_fine 2 ds); jumps = omega arith }) tt
-wrote_word names rest w few word.Sub ds = simple names rest w _ (record { act = refl; switch = λ e. refl; parts = (dest_fine 0 ds, operand_fine 1 ds, operand_fine 2 ds); jumps = omega arith }) tt
-wrote_word names rest w few word.Mul ds = simple names rest w _ (record { act = refl; switch = λ e. refl; parts = (dest_fine 0 ds, operand_fine 1 ds, operand_fine 2 ds); jumps = omega arith }) tt
-wrote_word names rest w few word.If ds = simple names rest w _ (record { act = refl; switch = λ e. refl; parts = (operand_fine 0 ds, operand_fine 2 ds); jumps = count_fine rest 3 ds }) tt
-wrote_word names rest w few word.Skip ds = simple names rest w _ (record { act = refl; switch = λ e. refl; parts = tt; jumps = count_fine rest 0 ds }) tt
-wrote_word names rest w few word.Throw ds = simple names rest w _ (record { act = refl; switch = λ e. refl; parts = operand_fine 0 ds; jumps = omega arith }) tt
-wrote_word names rest w few word.Log ds = text_wrote names rest w (text_at 0 ds) (args_from 1 ds) (number_in w.texts (text_at 0 ds)) (number_below w.texts (text_at 0 ds)) (text_at_fine 0 ds) (args_fine 1 ds)
-wrote_word names rest w few word.Send ds =
+wrote_word : (names : Declared) (rest : ℕ) (w : Writer) (wd : Word) (ds : Items) → Wrote names rest w (word_written names rest w wd ds)
+wrote_word names rest w word.Set ds = simple names rest w _ (record { act = refl; switch = λ e. refl; parts = (dest_fine 0 ds, operand_fine 1 ds); jumps = omega arith }) (λ few. tt)
+wrote_word names rest w word.Add ds = simple names rest w _ (record { act = refl; switch = λ e. refl; parts = (dest_fine 0 ds, operand_fine 1 ds, operand_fine 2 ds); jumps = omega arith }) (λ few. tt)
+wrote_word names rest w word.Sub ds = simple names rest w _ (record { act = refl; switch = λ e. refl; parts = (dest_fine 0 ds, operand_fine 1 ds, operand_fine 2 ds); jumps = omega arith }) (λ few. tt)
+wrote_word names rest w word.Mul ds = simple names rest w _ (record { act = refl; switch = λ e. refl; parts = (dest_fine 0 ds, operand_fine 1 ds, operand_fine 2 ds); jumps = omega arith }) (λ few. tt)
+wrote_word names rest w word.If ds = simple names rest w _ (record { act = refl; switch = λ e. refl; parts = (operand_fine 0 ds, operand_fine 2 ds); jumps = count_fine rest 3 ds }) (λ few. tt)
+wrote_word names rest w word.Skip ds = simple names rest w _ (record { act = refl; switch = λ e. refl; parts = tt; jumps = count_fine rest 0 ds }) (λ few. tt)
+wrote_word names rest w word.Throw ds = simple names rest w _ (record { act = refl; switch = λ e. refl; parts = operand_fine 0 ds; jumps = omega arith }) (λ few. tt)
+wrote_word names rest w word.Log ds = text_wrote names rest w (text_at 0 ds) (args_from 1 ds) (number_in w.texts (text_at 0 ds)) (number_below w.texts (text_at 0 ds)) (text_at_fine 0 ds) (args_fine 1 ds)
+wrote_word names rest w word.Send ds =
     simple names rest w _ (send_fine rest _ _ (args_from 2 ds) (args_fine 2 ds))
-    (send_named (allows names w.scope (length w.texts)) (number_in (names_in space.Mboxes names) (string_at 0 ds)) (number_in names.messages (string_at 1 ds)) (args_from 2 ds) (mbox_below names (string_at 0 ds)) (number_below names.messages (string_at 1 ds)))
-wrote_word names rest w few word.Subscribe ds = row_wrote names rest w ds instr.Subscribe few (λ row. record { act = refl; switch = λ e. refl; parts = tt; jumps = omega arith }) (λ n row h. h)
-wrote_word names rest w few word.Unsubscribe ds = row_wrote names rest w ds instr.Unsubscribe few (λ row. record { act = refl; switch = λ e. refl; parts = tt; jumps = omega arith }) (λ n row h. h)
-wrote_word names rest w few word.SetFilter ds = filter_wrote names rest w ds instr.SetFilter few (λ filter. record { act = refl; switch = λ e. refl; parts = tt; jumps = omega arith }) (λ n filter h. h)
-wrote_word names rest w few word.DropFilter ds = filter_wrote names rest w ds instr.DropFilter few (λ filter. record { act = refl; switch = λ e. refl; parts = tt; jumps = omega arith }) (λ n filter h. h)
-wrote_word names rest w few word.Stop ds = simple names rest w _ (record { act = refl; switch = λ e. refl; parts = tt; jumps = omega arith }) tt
-wrote_word names rest w few other ds = simple names rest w _ (idle_fine rest) tt
+    (λ few. send_named (allows names w.scope (length w.texts)) (number_in (names_in space.Mboxes names) (string_at 0 ds)) (number_in names.messages (string_at 1 ds)) (args_from 2 ds) (mbox_below names (string_at 0 ds)) (number_below names.messages (string_at 1 ds)))
+wrote_word names rest w word.Subscribe ds = row_wrote names rest w ds instr.Subscribe (λ row. record { act = refl; switch = λ e. refl; parts = tt; jumps = omega arith }) (λ n row h. h)
+wrote_word names rest w word.Unsubscribe ds = row_wrote names rest w ds instr.Unsubscribe (λ row. record { act = refl; switch = λ e. refl; parts = tt; jumps = omega arith }) (λ n row h. h)
+wrote_word names rest w word.SetFilter ds = filter_wrote names rest w ds instr.SetFilter (λ filter. record { act = refl; switch = λ e. refl; parts = tt; jumps = omega arith }) (λ n filter h. h)
+wrote_word names rest w word.DropFilter ds = filter_wrote names rest w ds instr.DropFilter (λ filter. record { act = refl; switch = λ e. refl; parts = tt; jumps = omega arith }) (λ n filter h. h)
+wrote_word names rest w word.Stop ds = simple names rest w _ (record { act = refl; switch = λ e. refl; parts = tt; jumps = omega arith }) (λ few. tt)
+wrote_word names rest w other ds = simple names rest w _ (idle_fine rest) (λ few. tt)
 
-wrote_parts : (names : Declared) (rest : ℕ) (w : Writer) → HasFewIds w.scope → (o : Option (Word × Items)) → Wrote names rest w (parts_written names rest w o)
-wrote_parts names rest w few None = simple names rest w _ (idle_fine rest) tt
-wrote_parts names rest w few (Some p) = wrote_word names rest w few p.0 p.1
+wrote_parts : (names : Declared) (rest : ℕ) (w : Writer) (o : Option (Word × Items)) → Wrote names rest w (parts_written names rest w o)
+wrote_parts names rest w None = simple names rest w _ (idle_fine rest) (λ few. tt)
+wrote_parts names rest w (Some p) = wrote_word names rest w p.0 p.1
 
-wrote_act : (names : Declared) (rest : ℕ) (w : Writer) → HasFewIds w.scope → (d : Data) → Wrote names rest w (act_written names rest w d)
-wrote_act names rest w few d = wrote_parts names rest w few (act_parts d)
+wrote_act : (names : Declared) (rest : ℕ) (w : Writer) (d : Data) → Wrote names rest w (act_written names rest w d)
+wrote_act names rest w d = wrote_parts names rest w (act_parts d)
 
 -- ---- a list of acts
 
@@ -362,8 +362,11 @@ record WroteActs (names : Declared) (w v : Writer) (n : ℕ) : Type 0 where
   fine : AreActsBefore true 0 acts
   grows : length w.texts ≤ length v.texts
   scope : v.scope ≡ w.scope
-  named : AllByRecursion (NamesWithin (allows names w.scope (length v.texts))) acts
+  named : HasFewIds w.scope → AllByRecursion (NamesWithin (allows names w.scope (length v.texts))) acts
   texts : AllByRecursion (λ t. is_text t ≡ true) w.texts → AllByRecursion (λ t. is_text t ≡ true) v.texts
+
+same_few : (s t : Scope) → t ≡ s → HasFewIds s → HasFewIds t
+same_few s t e h = subst HasFewIds (sym e) h
 
 one_more : (names : Declared) (w u v : Writer) (rest n : ℕ) → rest ≡ n → Wrote names rest w u → WroteActs names u v n → WroteActs names w v (suc n)
 one_more names w u v rest n e one more = record {
@@ -373,22 +376,17 @@ one_more names w u v rest n e one more = record {
   fine = (let ahead : rest ≡ length more.acts + 0 = omega (arith, e, more.long) in subst (IsActBefore true one.one) ahead one.fine, more.fine);
   grows = omega (arith, one.grows, more.grows);
   scope = more.scope ∙ one.scope;
-  named = (
-    names_grow (allows names w.scope (length u.texts)) (allows names w.scope (length v.texts)) one.one (texts_grow names w.scope w.scope (length u.texts) (length v.texts) refl more.grows) one.named,
-    subst (λ (x : Scope). AllByRecursion (NamesWithin (allows names x (length v.texts))) more.acts) one.scope more.named,
+  named = λ few. (
+    names_grow (allows names w.scope (length u.texts)) (allows names w.scope (length v.texts)) one.one (texts_grow names w.scope w.scope (length u.texts) (length v.texts) refl more.grows) (one.named few),
+    subst (λ (x : Scope). AllByRecursion (NamesWithin (allows names x (length v.texts))) more.acts) one.scope (more.named (same_few w.scope u.scope one.scope few)),
   );
   texts = λ a. more.texts (one.texts a);
 }
 
-same_few : (s t : Scope) → t ≡ s → HasFewIds s → HasFewIds t
-same_few s t e h = subst HasFewIds (sym e) h
-
-wrote_acts : (names : Declared) (w : Writer) → HasFewIds w.scope → (ds : Items) → WroteActs names w (acts_written names w ds) (items_len ds)
+wrote_acts : (names : Declared) (w : Writer) (ds : Items) → WroteActs names w (acts_written names w ds) (items_len ds)
 unfolding acts_written
-wrote_acts names w few no_items = record { acts = []; same = sym (append-nil w.code); long = refl; fine = tt; grows = omega arith; scope = refl; named = tt; texts = λ a. a }
-wrote_acts names w few (item d ds) =
-    let one = wrote_act names (items_len ds) w few d in
-    one_more names w _ _ _ _ refl one (wrote_acts names (act_written names (items_len ds) w d) (same_few w.scope _ one.scope few) ds)
+wrote_acts names w no_items = record { acts = []; same = sym (append-nil w.code); long = refl; fine = tt; grows = omega arith; scope = refl; named = λ few. tt; texts = λ a. a }
+wrote_acts names w (item d ds) = one_more names w _ _ _ _ refl (wrote_act names (items_len ds) w d) (wrote_acts names (act_written names (items_len ds) w d) ds)
 
 -- ---- bodies
 
@@ -399,7 +397,7 @@ record WroteParts (names : Declared) (w v : Writer) (bodies : List Body) : Type 
   each : AllByRecursion IsPart parts
   grows : length w.texts ≤ length v.texts
   scope : v.scope ≡ w.scope
-  named : AllByRecursion (NamesWithin (allows names w.scope (length v.texts))) (flatten parts)
+  named : HasFewIds w.scope → AllByRecursion (NamesWithin (allows names w.scope (length v.texts))) (flatten parts)
   texts : AllByRecursion (λ t. is_text t ≡ true) w.texts → AllByRecursion (λ t. is_text t ≡ true) v.texts
 
 ended : (names : Declared) (b : Body) (w u : Writer) (n : ℕ) → may_switch b ≡ true → WroteActs names w u n → WroteParts names w (with_instr (instr.End b) u) (b ∷ [])
@@ -410,13 +408,13 @@ ended names b w u n e wrote = record {
   each = (plain_acts b wrote.acts (subst (λ s. AreActsBefore s 0 wrote.acts) (sym e) wrote.fine), tt);
   grows = wrote.grows;
   scope = wrote.scope;
-  named = subst (λ c. AllByRecursion (NamesWithin (allows names w.scope (length u.texts))) (c ++ instr.End b ∷ [])) (sym (plain_code wrote.acts))
-      (each-append (NamesWithin (allows names w.scope (length u.texts))) wrote.acts (instr.End b ∷ []) wrote.named (tt, tt));
+  named = λ few. subst (λ c. AllByRecursion (NamesWithin (allows names w.scope (length u.texts))) (c ++ instr.End b ∷ [])) (sym (plain_code wrote.acts))
+      (each-append (NamesWithin (allows names w.scope (length u.texts))) wrote.acts (instr.End b ∷ []) (wrote.named few) (tt, tt));
   texts = wrote.texts;
 }
 
-wrote_body : (names : Declared) (b : Body) (w : Writer) (found : Option Data) → HasFewIds w.scope → may_switch b ≡ true → WroteParts names w (body_written names b w found) (b ∷ [])
-wrote_body names b w found few e = ended names b w (acts_written names w (list_of found)) _ e (wrote_acts names w few (list_of found))
+wrote_body : (names : Declared) (b : Body) (w : Writer) (found : Option Data) → may_switch b ≡ true → WroteParts names w (body_written names b w found) (b ∷ [])
+wrote_body names b w found e = ended names b w (acts_written names w (list_of found)) _ e (wrote_acts names w (list_of found))
 
 flatten-append : (ps qs : List Part) → flatten (ps ++ qs) ≡ flatten ps ++ flatten qs
 flatten-append [] qs = refl
@@ -434,10 +432,10 @@ joined names w u v bs cs a b = record {
   each = each-append IsPart a.parts b.parts a.each b.each;
   grows = omega (arith, a.grows, b.grows);
   scope = b.scope ∙ a.scope;
-  named = subst (AllByRecursion (NamesWithin (allows names w.scope (length v.texts)))) (sym (flatten-append a.parts b.parts))
+  named = λ few. subst (AllByRecursion (NamesWithin (allows names w.scope (length v.texts)))) (sym (flatten-append a.parts b.parts))
       (each-append (NamesWithin (allows names w.scope (length v.texts))) (flatten a.parts) (flatten b.parts)
-      (each-weaker (NamesWithin (allows names w.scope (length u.texts))) (NamesWithin (allows names w.scope (length v.texts))) (λ i h. names_grow _ _ i (texts_grow names w.scope w.scope (length u.texts) (length v.texts) refl b.grows) h) (flatten a.parts) a.named)
-      (subst (λ (x : Scope). AllByRecursion (NamesWithin (allows names x (length v.texts))) (flatten b.parts)) a.scope b.named));
+      (each-weaker (NamesWithin (allows names w.scope (length u.texts))) (NamesWithin (allows names w.scope (length v.texts))) (λ i h. names_grow _ _ i (texts_grow names w.scope w.scope (length u.texts) (length v.texts) refl b.grows) h) (flatten a.parts) (a.named few))
+      (subst (λ (x : Scope). AllByRecursion (NamesWithin (allows names x (length v.texts))) (flatten b.parts)) a.scope (b.named (same_few w.scope u.scope a.scope few))));
   texts = λ t. b.texts (a.texts t);
 }
 
@@ -446,24 +444,23 @@ row_bodies k zero = []
 row_bodies k (suc n) = row_body k ∷ row_bodies (suc k) n
 
 no_rows : (names : Declared) (w : Writer) → WroteParts names w w []
-no_rows names w = record { parts = []; same = sym (append-nil w.code); made = refl; each = tt; grows = omega arith; scope = refl; named = tt; texts = λ a. a }
+no_rows names w = record { parts = []; same = sym (append-nil w.code); made = refl; each = tt; grows = omega arith; scope = refl; named = λ few. tt; texts = λ a. a }
 
-wrote_rows : (names : Declared) (k : ℕ) (w : Writer) → HasFewIds w.scope → (ds : Items) → WroteParts names w (rows_written names k w ds) (row_bodies k (items_len ds))
+wrote_rows : (names : Declared) (k : ℕ) (w : Writer) (ds : Items) → WroteParts names w (rows_written names k w ds) (row_bodies k (items_len ds))
 unfolding rows_written row_bodies
-wrote_rows names k w few no_items = no_rows names w
-wrote_rows names k w few (item d ds) =
-    let first = wrote_body names (row_body k) w (get (codes "do") d) few refl in
-    joined names w _ _ (row_body k ∷ []) (row_bodies (suc k) (items_len ds)) first
-    (wrote_rows names (suc k) (body_written names (row_body k) w (get (codes "do") d)) (same_few w.scope _ first.scope few) ds)
+wrote_rows names k w no_items = no_rows names w
+wrote_rows names k w (item d ds) =
+    joined names w _ _ (row_body k ∷ []) (row_bodies (suc k) (items_len ds))
+    (wrote_body names (row_body k) w (get (codes "do") d) refl)
+    (wrote_rows names (suc k) (body_written names (row_body k) w (get (codes "do") d)) ds)
 
-wrote_agent : (names : Declared) (w : Writer) (d : Data) → HasFewIds w.scope → WroteParts names w (agent_written names w d) (body.Start ∷ body.Finish ∷ row_bodies 0 (items_len (row_items d)))
-wrote_agent names w d few =
-    let start = wrote_body names body.Start w (get (codes "start") d) few refl in
-    let begun : HasFewIds (body_written names body.Start w (get (codes "start") d)).scope = same_few w.scope _ start.scope few in
-    let finish = wrote_body names body.Finish (body_written names body.Start w (get (codes "start") d)) (get (codes "finish") d) begun refl in
-    joined names w _ _ (body.Start ∷ []) (body.Finish ∷ row_bodies 0 (items_len (row_items d))) start
-    (joined names _ _ _ (body.Finish ∷ []) (row_bodies 0 (items_len (row_items d))) finish
-    (wrote_rows names 0 _ (same_few _ _ finish.scope begun) (row_items d)))
+wrote_agent : (names : Declared) (w : Writer) (d : Data) → WroteParts names w (agent_written names w d) (body.Start ∷ body.Finish ∷ row_bodies 0 (items_len (row_items d)))
+wrote_agent names w d =
+    joined names w _ _ (body.Start ∷ []) (body.Finish ∷ row_bodies 0 (items_len (row_items d)))
+    (wrote_body names body.Start w (get (codes "start") d) refl)
+    (joined names _ _ _ (body.Finish ∷ []) (row_bodies 0 (items_len (row_items d)))
+    (wrote_body names body.Finish (body_written names body.Start w (get (codes "start") d)) (get (codes "finish") d) refl)
+    (wrote_rows names 0 _ (row_items d)))
 
 -- ---- the code of an agent
 
@@ -521,7 +518,7 @@ few_rows ps n e l =
 pub record IsWritten (names : Declared) (scope : Scope) (d : Data) (instrs : List Instr) (texts : ℕ) : Type 0 where
   pub code : IsCode instrs
   pub bodies : bodies_in instrs ≡ agent_bodies 0 (row_numbers (items_len (row_items d)))
-  pub named : AllByRecursion (NamesWithin (allows names scope texts)) instrs
+  pub named : HasFewIds scope → AllByRecursion (NamesWithin (allows names scope texts)) instrs
 
 written_parts : (names : Declared) (w v : Writer) (d : Data) → WroteParts names w v (body.Start ∷ body.Finish ∷ row_bodies 0 (items_len (row_items d))) → w.code ≡ [] → length v.code ≤ 1024 → IsWritten names w.scope d v.code (length v.texts)
 written_parts names w v d p e l =
@@ -532,18 +529,23 @@ written_parts names w v d p e l =
     record {
       code = subst IsCode (sym same) (structured p.parts few order p.each);
       bodies = ap bodies_in same ∙ (bodies_in-flatten p.parts p.each ∙ (p.made ∙ ap (λ (bs : List Body). body.Start ∷ body.Finish ∷ bs) (rows_are 0 (items_len (row_items d)) (omega (arith, n)))));
-      named = subst (AllByRecursion (NamesWithin (allows names w.scope (length v.texts)))) (sym same) p.named;
+      named = λ few. subst (AllByRecursion (NamesWithin (allows names w.scope (length v.texts)))) (sym same) (p.named few);
     }
 
-pub agent_is_written : (names : Declared) (w : Writer) (d : Data) → HasFewIds w.scope → w.code ≡ [] → length (agent_written names w d).code ≤ 1024
+pub agent_is_written : (names : Declared) (w : Writer) (d : Data) → w.code ≡ [] → length (agent_written names w d).code ≤ 1024
     → IsWritten names w.scope d (agent_written names w d).code (length (agent_written names w d).texts)
-agent_is_written names w d few e l = written_parts names w (agent_written names w d) d (wrote_agent names w d few) e l
+agent_is_written names w d e l = written_parts names w (agent_written names w d) d (wrote_agent names w d) e l
 
-pub agent_grows : (names : Declared) (w : Writer) (d : Data) → HasFewIds w.scope → length w.texts ≤ length (agent_written names w d).texts
-agent_grows names w d few = (wrote_agent names w d few).grows
+pub agent_grows : (names : Declared) (w : Writer) (d : Data) → length w.texts ≤ length (agent_written names w d).texts
+agent_grows names w d = (wrote_agent names w d).grows
 
-pub agent_scope : (names : Declared) (w : Writer) (d : Data) → HasFewIds w.scope → (agent_written names w d).scope ≡ w.scope
-agent_scope names w d few = (wrote_agent names w d few).scope
+pub agent_scope : (names : Declared) (w : Writer) (d : Data) → (agent_written names w d).scope ≡ w.scope
+agent_scope names w d = (wrote_agent names w d).scope
 
-pub agent_texts : (names : Declared) (w : Writer) (d : Data) → HasFewIds w.scope → AllByRecursion (λ t. is_text t ≡ true) w.texts → AllByRecursion (λ t. is_text t ≡ true) (agent_written names w d).texts
-agent_texts names w d few = (wrote_agent names w d few).texts
+pub agent_texts : (names : Declared) (w : Writer) (d : Data) → AllByRecursion (λ t. is_text t ≡ true) w.texts → AllByRecursion (λ t. is_text t ≡ true) (agent_written names w d).texts
+agent_texts names w d = (wrote_agent names w d).texts
+
+pub code_of_writer : (names : Declared) (w v : Writer) (d : Data) (code : List Instr) → agent_written names w d ≡ v → w.code ≡ [] → code ≡ v.code → length v.code ≤ 1024 → IsCode code
+code_of_writer names w v d code written empty same l =
+    subst IsCode (ap (λ (x : Writer). x.code) written ∙ sym same)
+    (agent_is_written names w d empty (subst (λ (x : Writer). length x.code ≤ 1024) (sym written) l)).code

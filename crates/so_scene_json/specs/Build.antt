@@ -62,8 +62,12 @@ agent_of a names d w = record {
   code = w.code;
 }
 
-abbrev pub fresh : Build → Data → Writer
-fresh s d = record { texts = s.texts; code = []; scope = scope_of d }
+-- a writer for an agent, with the texts so far
+abbrev pub fresh : List (List ℕ) → Data → Writer
+fresh texts d = record { texts = texts; code = []; scope = scope_of d }
+
+abbrev pub written : Build → Data → Writer
+written s d = agent_written s.names (fresh s.texts d) d
 
 -- an agent whose code has more than 1,024 instructions is out of range
 abbrev pub with_agent : Place → Build → Data → Writer → Result Build SceneFault
@@ -72,7 +76,7 @@ with_agent place s d w = if nat_lt 1024 (length w.code) then Err (fault.OutOfRan
 abbrev pub entered : ObjectKind → Place → Build → Data → Result Build SceneFault
 entered object.Message place s d = Ok (with_message d s)
 entered object.Coop place s d = Ok (with_coop d s)
-entered object.Agent place s d = with_agent place s d (agent_written s.names (fresh s d) d)
+entered object.Agent place s d = with_agent place s d (written s d)
 entered other place s d = Ok s
 
 abbrev pub build_step : Build → Visit → Result Build SceneFault

@@ -1,9 +1,10 @@
 //! The fourth pass: the parts of the scene, and the length of each code.
 
-ghost use Rattle.std.specs.Prelude.{◌≡◌, ◌≤◌, ◌++◌, ◌∷◌, [], Ok, length, option_map};
+ghost use Rattle.std.specs.Prelude.{◌≡◌, ◌≤◌, ◌++◌, ◌∷◌, [], Ok, IfOk, length, option_map};
 ghost use Rattle.serde_json.specs.View.{view, items_view};
 ghost use Rattle.so_code.specs.Shape.{IsCode};
-ghost use Rattle.so_scene_json.specs.Build.{body_written, row_body, rows_written, agent_written, no_parts, with_message, with_coop, fresh, with_agent, build_step};
+ghost use Rattle.so_scene_json.specs.Build.{body_written, row_body, rows_written, agent_written, no_parts, with_message, with_coop, fresh, written, with_agent, build_step};
+ghost use Rattle.so_scene_json.specs.Reads.{Returns};
 ghost use Rattle.so_scene_json.specs.Visits.{list_of, Leaves};
 
 use crate::declare::Declared;
@@ -52,6 +53,22 @@ impl Writer {
     }
 }
 
+/// The code of an agent, with the texts so far and its own.
+fn written(names: &Declared, texts: Names, value: &Value) -> Result<Writer, SceneRefusal>
+    ensures value { Returns (agent_written names.now (fresh texts (view value.now)) (view value.now)) result }
+    ensures code { IfOk result (λ w. length w.code ≤ 1024 → IsCode w.code) }
+{
+    let alloc = texts.alloc();
+    let scope = Scope::of(alloc, value)?;
+    let mut writer = Writer {
+        texts,
+        code: Items::new(alloc),
+        scope,
+    };
+    writer.agent(names, value)?;
+    Ok(writer)
+}
+
 /// The parts so far.
 #[derive(Drop)]
 pub(crate) struct Build {
@@ -95,20 +112,22 @@ impl Build {
         }
     }
 
-    /// An agent, whose code takes the texts along while it is written.
-    fn agent(&mut self, place: &ScenePlace, value: &Value) -> Result<(), SceneRefusal>
-        ensures { Leaves (with_agent place.now self.old (view value.now) (agent_written self.old.names (fresh self.old (view value.now)) (view value.now))) result self.new }
+    /// The texts, which are taken out.
+    fn take_texts(&mut self) -> Names
+        ensures taken { result ≡ self.old.texts }
+        ensures rest { self.new ≡ record self.old { texts = [] } }
     {
         let alloc = self.texts.alloc();
-        let scope = Scope::of(alloc, value)?;
-        let texts = mem::replace(&mut self.texts, Names::new(alloc));
-        let mut writer = Writer {
-            texts,
-            code: Items::new(alloc),
-            scope,
-        };
-        writer.agent(&self.names, value)?;
-        let Writer { texts, code, scope } = writer;
+        mem::replace(&mut self.texts, Names::new(alloc))
+    }
+
+    /// An agent, whose code takes the texts along while it is written.
+    fn agent(&mut self, place: &ScenePlace, value: &Value) -> Result<(), SceneRefusal>
+        ensures { Leaves (with_agent place.now self.old (view value.now) (written self.old (view value.now))) result self.new }
+    {
+        let alloc = self.texts.alloc();
+        let texts = self.take_texts();
+        let Writer { texts, code, scope } = written(&self.names, texts, value)?;
         if code.len() > 1024 {
             return Err(SceneRefusal::Fault(SceneFault::OutOfRange(place.copy())));
         }
