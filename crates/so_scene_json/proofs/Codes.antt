@@ -54,7 +54,7 @@ OnSome : {X : Type 0} (P : X → Type 0) → Option X → Type 0
 OnSome P None = Unit {0}
 OnSome P (Some x) = P x
 
-OnOk : {X : Type 0} (P : X → Type 0) → Result X Trouble → Type 0
+unfoldable pub OnOk : {X : Type 0} (P : X → Type 0) → Result X Trouble → Type 0
 OnOk P (Err t) = Unit {0}
 OnOk P (Ok x) = P x
 
@@ -136,7 +136,7 @@ unfolding OnOk
 ok_fine P x (Err t) h k = h
 ok_fine P x (Ok y) h k = k
 
-read_fine : {X : Type 0} (P : X → Type 0) (x : X) (f : Data → Result X Trouble) (o : Option Data) → P x → ((d : Data) → OnOk P (f d)) → P (read_or x f o)
+pub read_fine : {X : Type 0} (P : X → Type 0) (x : X) (f : Data → Result X Trouble) (o : Option Data) → P x → ((d : Data) → OnOk P (f d)) → P (read_or x f o)
 read_fine P x f None h k = h
 read_fine P x f (Some d) h k = ok_fine P x (f d) h (k d)
 
@@ -167,11 +167,11 @@ unfolding OnOk
 up_to true n limit e = leb-true n limit e
 up_to false n limit e = tt
 
-natural_fine : (limit : ℕ) (z : ℤ) → OnOk (λ k. k ≤ limit) (natural_up_to limit z)
+pub natural_fine : (limit : ℕ) (z : ℤ) → OnOk (λ k. k ≤ limit) (natural_up_to limit z)
 natural_fine limit (pos n) = up_to (nat_le n limit) n limit refl
 natural_fine limit (negsuc n) = nothing (λ k. k ≤ limit)
 
-then_fine : {X Y : Type 0} (P : Y → Type 0) (r : Result X Trouble) (f : X → Result Y Trouble) → ((x : X) → OnOk P (f x)) → OnOk P (r then f)
+pub then_fine : {X Y : Type 0} (P : Y → Type 0) (r : Result X Trouble) (f : X → Result Y Trouble) → ((x : X) → OnOk P (f x)) → OnOk P (r then f)
 unfolding OnOk
 then_fine P (Ok x) f h = h x
 then_fine P (Err t) f h = tt

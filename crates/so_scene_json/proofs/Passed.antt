@@ -334,7 +334,7 @@ record AreNew (old new : List (List ℕ)) : Type 0 where
   distinct : IsDistinct bytes_eq new
   apart : AllByRecursion (λ x. has_name old x ≡ false) new
 
-swapped : (x y : List ℕ) (b : Bool) → bytes_eq x y ≡ b → bytes_eq y x ≡ false → b ≡ false
+pub swapped : (x y : List ℕ) (b : Bool) → bytes_eq x y ≡ b → bytes_eq y x ≡ false → b ≡ false
 swapped x y true e n = absurd (true≢false (sym ((bytes_eq-Decides y x).1 (sym ((bytes_eq-Decides x y).0 e))) ∙ n))
 swapped x y false e n = refl
 

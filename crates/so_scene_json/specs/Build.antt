@@ -4,6 +4,7 @@ use Rattle.serde_json.specs.Data.{Data, Items, no_items, item}
 use Rattle.serde_json.specs.Find.{get}
 use Rattle.so_code.specs.declared.instr.Body.{Body}
 use Rattle.so_code.specs.declared.instr.Body.TheVariants as body
+use Rattle.so_code.specs.declared.instr.Instr.{Instr}
 use Rattle.so_code.specs.declared.instr.Instr.TheVariants as instr
 use Rattle.so_scene.specs.declared.fault.SceneFault.{SceneFault}
 use Rattle.so_scene.specs.declared.fault.SceneFault.TheVariants as fault
@@ -11,6 +12,7 @@ use Rattle.so_scene.specs.declared.parts.AgentDef.{AgentDef}
 use Rattle.so_scene_json.specs.declared.table.ObjectKind.{ObjectKind}
 use Rattle.so_scene_json.specs.declared.table.ObjectKind.TheVariants as object
 use Rattle.so_scene_json.specs.declared.declare.Declared.{Declared}
+use Rattle.so_scene_json.specs.declared.scope.Scope.{Scope}
 use Rattle.so_scene_json.specs.declared.write.Writer.{Writer}
 use Rattle.so_scene_json.specs.declared.build.Build.{Build}
 use Rattle.so_scene_json.specs.Values.{name_in}
@@ -50,17 +52,20 @@ with_message d s = record s { messages = s.messages ++ message_of d ∷ [] }
 abbrev pub with_coop : Data → Build → Build
 with_coop d s = record s { coops = s.coops ++ name_in d ∷ [] }
 
--- the agent of a number
-abbrev pub agent_of : ℕ → Declared → Data → Writer → AgentDef
-agent_of a names d w = record {
+-- the agent of a number, with its ids and its code
+abbrev pub agent_with : ℕ → Declared → Data → Scope → List Instr → AgentDef
+agent_with a names d scope code = record {
   name = name_in d;
   coop = record { 0 = 0 };
   vars = vars_of d;
   rows = rows_of a names (row_items d);
-  row_ids = w.scope.rows;
+  row_ids = scope.rows;
   filters = filters_of names (filter_items d);
-  code = w.code;
+  code = code;
 }
+
+abbrev pub agent_of : ℕ → Declared → Data → Writer → AgentDef
+agent_of a names d w = agent_with a names d w.scope w.code
 
 -- a writer for an agent, with the texts so far
 abbrev pub fresh : List (List ℕ) → Data → Writer

@@ -3,7 +3,7 @@
 ghost use Rattle.std.specs.Prelude.{◌≡◌, ◌≤◌, ◌++◌, ◌∷◌, [], Ok, IfOk, length, option_map};
 ghost use Rattle.serde_json.specs.View.{view, items_view};
 ghost use Rattle.so_code.specs.Shape.{IsCode};
-ghost use Rattle.so_scene_json.specs.Build.{body_written, row_body, rows_written, agent_written, no_parts, with_message, with_coop, fresh, written, with_agent, build_step};
+ghost use Rattle.so_scene_json.specs.Build.{body_written, row_body, rows_written, agent_written, no_parts, with_message, with_coop, fresh, written, agent_with, with_agent, build_step};
 ghost use Rattle.so_scene_json.specs.Reads.{Returns};
 ghost use Rattle.so_scene_json.specs.Visits.{list_of, Leaves};
 
@@ -69,6 +69,29 @@ fn written(names: &Declared, texts: Names, value: &Value) -> Result<Writer, Scen
     Ok(writer)
 }
 
+/// The agent of a number, with its ids and its code.
+fn agent_with(
+    alloc: Global,
+    number: usize,
+    names: &Declared,
+    value: &Value,
+    scope: Scope,
+    code: Items<Instr>,
+) -> Result<AgentDef, SceneRefusal>
+    requires { IsCode code }
+    ensures { Returns (agent_with number names.now (view value.now) scope code) result }
+{
+    Ok(AgentDef {
+        name: name_of(value),
+        coop: CoopId(0),
+        vars: vars_of(value),
+        rows: rows_in(alloc, number, names, list(value.get("on")))?,
+        row_ids: scope.rows,
+        filters: filters_in(alloc, names, list(value.get("filters")))?,
+        code: Code::new(code.into_vec()),
+    })
+}
+
 /// The parts so far.
 #[derive(Drop)]
 pub(crate) struct Build {
@@ -126,20 +149,19 @@ impl Build {
         ensures { Leaves (with_agent place.now self.old (view value.now) (written self.old (view value.now))) result self.new }
     {
         let alloc = self.texts.alloc();
+        let number = self.agents.len();
         let texts = self.take_texts();
         let Writer { texts, code, scope } = written(&self.names, texts, value)?;
         if code.len() > 1024 {
             return Err(SceneRefusal::Fault(SceneFault::OutOfRange(place.copy())));
         }
-        let agent = AgentDef {
-            name: name_of(value),
-            coop: CoopId(0),
-            vars: vars_of(value),
-            rows: rows_in(alloc, self.agents.len(), &self.names, list(value.get("on")))?,
-            row_ids: scope.rows,
-            filters: filters_in(alloc, &self.names, list(value.get("filters")))?,
-            code: Code::new(code.into_vec()),
-        };
+        let agent = agent_with(alloc, number, &self.names, value, scope, code)?;
+        self.add(agent, texts)
+    }
+
+    fn add(&mut self, agent: AgentDef, texts: Names) -> Result<(), SceneRefusal>
+        ensures { Leaves (Ok (record self.old { agents = self.old.agents ++ agent ∷ []; texts = texts })) result self.new }
+    {
         self.texts = texts;
         match self.agents.push(agent) {
             Ok(()) => Ok(()),
