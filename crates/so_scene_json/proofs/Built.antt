@@ -1,5 +1,5 @@
 -- What the four passes leave is what a scene keeps.
-use Rattle.std.proofs.Common.{◌≡◌, ℕ, zero, suc, ◌+◌, ◌-◌, ◌<◌, ◌≤◌, ◌^◌, get_or, List, [], ◌∷◌, ◌++◌, length, map, Bool, true, false, not, ◌&&◌, ◌||◌, Option, Some, None, option_and_then, Result, Ok, Err, refl, sym, ap, ◌∙◌, subst, arith, codes, if◌then◌else◌, nat_le, nat_lt, is_some, length-append, append_assoc, bytes_eq}
+use Rattle.std.proofs.Common.{◌≡◌, ℕ, ◌+◌, ◌-◌, ◌<◌, ◌≤◌, ◌^◌, get_or, List, [], ◌∷◌, ◌++◌, length, map, Bool, true, false, not, ◌&&◌, ◌||◌, Option, Some, None, option_and_then, Result, Ok, Err, refl, sym, ap, ◌∙◌, subst, arith, codes, if◌then◌else◌, nat_le, nat_lt, is_some, length-append, append_assoc, bytes_eq}
 use Rattle.std.proofs.Math.Nat.{min-le_left}
 use Rattle.std.proofs.lemmas.Bool.{true≢false, leb-true, ltb-false}
 use Rattle.std.proofs.lemmas.List.{map_push}
@@ -8,15 +8,12 @@ use Rattle.std.specs.List.{All, AllByRecursion, IsDistinct, list_all, list_any}
 use Rattle.serde_json.specs.Data.{Data, Items, no_items, item}
 use Rattle.serde_json.specs.Events.{items_len}
 use Rattle.serde_json.specs.Find.{get, as_str}
-use Rattle.so_ids.specs.declared.AgentId.{AgentId}
 use Rattle.so_ids.specs.declared.MboxId.{MboxId}
 use Rattle.so_code.specs.Shape.{agent_bodies}
-use Rattle.so_lists.specs.Lists.{is_empty, first_below}
+use Rattle.so_lists.specs.Lists.{is_empty}
 use Rattle.so_lists.proofs.Filters.{each-append, each-weaker}
 use Rattle.so_lists.proofs.First.{none-first_below}
-use Rattle.so_state.specs.declared.choice.Row.{Row}
-use Rattle.so_scene.specs.Checked.{IsAgent, IsCoop, IsScene, IsRow, IsFilter, IsHandler, NamesWithin, given, row_numbers, filter_ids, filter_id, named_by}
-use Rattle.so_scene.specs.Definition.{definition_fault}
+use Rattle.so_scene.specs.Checked.{IsAgent, IsCoop, IsScene, IsHandler, given, row_numbers, filter_ids, filter_id}
 use Rattle.so_scene.specs.Names.{has_name, number_in}
 use Rattle.so_scene.specs.Parts.{message_name, agent_name}
 use Rattle.so_scene.specs.Words.{is_name, is_name_byte, is_text, is_text_byte}
@@ -24,32 +21,29 @@ use Rattle.so_scene.proofs.Positions.{absent_any, added_distinct, no_names as no
 use Rattle.so_scene.specs.declared.fault.SceneFault.{SceneFault}
 use Rattle.so_scene.specs.declared.parts.AgentDef.{AgentDef}
 use Rattle.so_scene.specs.declared.parts.CoopDef.{CoopDef}
-use Rattle.so_scene.specs.declared.parts.FilterDef.{FilterDef}
 use Rattle.so_scene.specs.declared.parts.SceneParts.{SceneParts}
 use Rattle.so_scene_json.specs.declared.build.Build.{Build}
 use Rattle.so_scene_json.specs.declared.declare.Declared.{Declared}
 use Rattle.so_scene_json.specs.declared.known.Known.{Known}
 use Rattle.so_scene_json.specs.declared.scope.Scope.{Scope}
 use Rattle.so_scene_json.specs.declared.shape.Shape.{Shape}
-use Rattle.so_scene_json.specs.declared.write.Writer.{Writer}
 use Rattle.so_scene_json.specs.declared.table.Form.{Form}
 use Rattle.so_scene_json.specs.declared.table.Form.TheVariants as form
 use Rattle.so_scene_json.specs.declared.table.ObjectKind.TheVariants as object
-use Rattle.so_scene_json.specs.declared.table.Space.{Space}
 use Rattle.so_scene_json.specs.declared.table.Space.TheVariants as space
 use Rattle.so_scene_json.specs.declared.values.Trouble.{Trouble}
 use Rattle.so_scene_json.specs.declared.values.Trouble.TheVariants.{WrongShape, OutOfRange}
-use Rattle.so_scene_json.specs.Values.{name_in, name_of, string_in, id_in, text_or_empty, integer_of, natural_up_to, from_low, number_of, checked, named, flag_of, ◌then◌, ◌else◌}
+use Rattle.so_scene_json.specs.Values.{name_in, name_of, string_in, id_in, text_or_empty, integer_of, natural_up_to, from_low, number_of, checked, flag_of, ◌then◌, ◌else◌}
 use Rattle.so_scene_json.specs.Visits.{Visit, enters, tries, leaves, Place, run, ◌>>=◌, narrow, listed, list_of}
 use Rattle.so_scene_json.specs.Shape.{shape_step}
 use Rattle.so_scene_json.specs.Scope.{ids_of, row_items, filter_items, scope_of}
-use Rattle.so_scene_json.specs.Twice.{twice_step, no_names, names_in, with_name, entering, declared_name, with_mbox, with_mbox_read, with_mboxes, with_field}
+use Rattle.so_scene_json.specs.Twice.{twice_step, no_names, names_in, with_name, entering, declared_name, with_mbox_read, with_mboxes, with_field}
 use Rattle.so_scene_json.specs.Known.{known_step, knows}
 use Rattle.so_scene_json.specs.Writer.{read_or}
-use Rattle.so_scene_json.specs.Defs.{message_of, row_of, rows_of, mbox_in, row_mbox, kind_of, number_named, narrow_or_zero, filter_of, filters_of, field_in}
+use Rattle.so_scene_json.specs.Defs.{message_of, row_of, rows_of, mbox_in, kind_of, number_named, narrow_or_zero, filter_of, field_in}
 use Rattle.so_scene_json.specs.Build.{build_step, no_parts, with_message, with_coop, agent_of, agent_written, fresh, written}
 use Rattle.so_scene_json.specs.Scene.{fields, no_state, exceeds, fault_of, first_fault, is_refused, coop_of, parts_of}
-use Rattle.so_scene_json.specs.Kept.{IsBuiltRow, IsBuiltFilter, IsBuiltAgent, named_among, mboxes_in, IsBuilt, IsChecked}
+use Rattle.so_scene_json.specs.Kept.{IsBuiltRow, IsBuiltFilter, IsBuiltAgent, named_among, IsBuilt, IsChecked}
 use Rattle.so_scene_json.proofs.Codes.{HasFewIds, Grows, allows, names_grow, agent_is_written, agent_grows, agent_scope, agent_texts, OnOk, read_fine, then_fine, natural_fine}
 use Rattle.so_scene_json.proofs.Ends.{all_of, length_map}
 use Rattle.so_scene_json.proofs.Passed.{ok, ok_same, swapped, HasRow, HasFilter, IsFineAgent, EntersFine, passed_all, scene_fine, total, is_message, mboxes_in_field, mboxes_named, few_messages, few_mboxes}

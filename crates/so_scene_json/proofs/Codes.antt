@@ -5,7 +5,6 @@ use Rattle.std.proofs.lemmas.Bool.{leb-true, ltb-true, true≢false}
 use Rattle.std.proofs.lemmas.List.Quantifiers.{position-Some}
 use Rattle.std.specs.Prelude.{slice_get, slice_index, bytes_eq, map, codes}
 use Rattle.std.specs.List.Sorted.{IsStrictlyIncreasing}
-use Rattle.so_scene.specs.declared.fault.SceneFault.{SceneFault}
 use Rattle.std.specs.List.{AllByRecursion}
 use Rattle.std.specs.Option.{option_map, option_and_then}
 use Rattle.serde_json.specs.Data.{Num, Data, Items, no_items, item}

@@ -3,7 +3,7 @@ use Rattle.std.proofs.Common.{◌≡◌, ℕ, ◌+◌, ◌<◌, List, [], ◌∷
 use Rattle.std.proofs.lemmas.Bool.{true≢false}
 use Rattle.std.proofs.lemmas.Iterator.Adapters.{position_from-zero}
 use Rattle.std.proofs.lemmas.List.Quantifiers.{position-Some}
-use Rattle.std.specs.List.{position, position_from}
+use Rattle.std.specs.List.{position_from}
 use Rattle.so_scene.specs.Names.{number_in, has_name}
 
 first_step : (b : Bool) (i k : ℕ) (o p : Option ℕ) → cond b (Some i) o ≡ Some k → (o ≡ Some k → p ≡ Some k) → cond b (Some i) p ≡ Some k

@@ -1,5 +1,5 @@
 -- What the first three passes make sure of, at each visit.
-use Rattle.std.proofs.Common.{◌≡◌, ℕ, zero, suc, ◌+◌, ◌<◌, ◌≤◌, List, [], ◌∷◌, ◌++◌, length, get_or, map, Bool, true, false, ◌||◌, Option, Some, None, is_some, Result, Ok, Err, refl, sym, ap, ◌∙◌, subst, arith, codes, if◌then◌else◌, nat_le, bytes_eq}
+use Rattle.std.proofs.Common.{◌≡◌, ℕ, zero, suc, ◌+◌, ◌<◌, ◌≤◌, List, [], ◌∷◌, ◌++◌, length, get_or, Bool, true, false, ◌||◌, Option, Some, None, is_some, Result, Ok, Err, refl, sym, ap, ◌∙◌, subst, arith, codes, if◌then◌else◌, nat_le, bytes_eq}
 use Rattle.std.proofs.lemmas.Bool.{leb-true, true≢false}
 use Rattle.std.proofs.lemmas.Slice.Eq.{bytes_eq-Decides}
 use Rattle.std.specs.List.{AllByRecursion, IsDistinct}
@@ -29,9 +29,9 @@ use Rattle.so_scene_json.specs.declared.values.Trouble.TheVariants.{WrongShape, 
 use Rattle.so_scene_json.specs.Table.{rules_of, objects_of, required, optional, later}
 use Rattle.so_scene_json.specs.Values.{checked, trouble, name_of, text_or_empty, string_in, id_in, ◌else◌}
 use Rattle.so_scene_json.specs.Visits.{Visit, enters, tries, leaves, Place, visits, fields_of, field_visits, in_objects, items_from, at_item, at_key, list_of, listed, run, ◌>>=◌}
-use Rattle.so_scene_json.specs.Shape.{shape_step, shape_fault, unless_faulty, field_fault, form_fault, trouble_at, list_trouble, first_of, object_trouble, name_trouble as shape_name_trouble}
+use Rattle.so_scene_json.specs.Shape.{shape_step, shape_fault, unless_faulty, field_fault, trouble_at, list_trouble, first_of, object_trouble, name_trouble as shape_name_trouble}
 use Rattle.so_scene_json.specs.Scope.{ids_of, row_items, filter_items}
-use Rattle.so_scene_json.specs.Twice.{twice_step, names_in, with_name, with_field, with_mbox, with_mbox_read, with_mboxes, declared_name}
+use Rattle.so_scene_json.specs.Twice.{twice_step, names_in, with_name, with_field, with_mbox_read, with_mboxes, declared_name}
 use Rattle.so_scene_json.specs.Known.{known_step, entered, field_unknown, name_trouble}
 use Rattle.so_lists.proofs.Filters.{each-append, each-weaker}
 use Rattle.so_scene.proofs.Positions.{absent_any, no_names as no_distinct}

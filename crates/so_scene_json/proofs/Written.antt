@@ -1,5 +1,5 @@
 -- The loops that write acts, bodies and rows, and the one that reads mboxes.
-use Rattle.std.proofs.Common.{◌≡◌, ℕ, ◌+◌, ◌-◌, ◌<◌, ◌≤◌, suc, List, [], ◌∷◌, ◌++◌, codes, Option, length, drop, get_or, Result, Ok, sym, ap, ◌∙◌, add-one, drop-cons, arith, length-drop}
+use Rattle.std.proofs.Common.{◌≡◌, ℕ, ◌+◌, ◌-◌, ◌<◌, ◌≤◌, suc, List, codes, Option, length, drop, get_or, Result, Ok, sym, ap, ◌∙◌, add-one, drop-cons, arith, length-drop}
 use Rattle.std.proofs.Math.ListN.{drop_of_length-le}
 use Rattle.serde_json.proofs.Views.{items_len-items_view}
 use Rattle.serde_json.specs.Data.{Data, Items, item}

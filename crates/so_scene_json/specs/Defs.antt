@@ -1,5 +1,5 @@
 -- The parts of a scene that one value stands for. A part that an earlier pass refuses stands as 0 here.
-use Rattle.std.specs.Prelude.{ℕ, ℤ, pos, List, [], ◌∷◌, map, codes, if◌then◌else◌, Bool, Option, Some, None, is_some, true, false}
+use Rattle.std.specs.Prelude.{ℕ, ℤ, pos, List, map, codes, if◌then◌else◌, Bool, Option, Some, None, is_some, true, false}
 use Rattle.std.specs.List.{range_with_len}
 use Rattle.serde_json.specs.Data.{Data, Items}
 use Rattle.serde_json.specs.Find.{get, get_item}

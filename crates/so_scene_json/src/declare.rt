@@ -11,9 +11,7 @@ use crate::table::{Form, ObjectKind, Rule, Space, declares, key};
 use crate::values::{name, name_in, string_in};
 use crate::walk::{Pass, list};
 use serde_json::Value;
-use so_scene::{
-    Items, Names, PlaceStep, SceneFault, ScenePlace, SceneRefusal, is_name,
-};
+use so_scene::{Items, Names, PlaceStep, SceneFault, ScenePlace, SceneRefusal, is_name};
 use std::alloc::Global;
 
 /// Whether a message is a signal.
@@ -35,7 +33,11 @@ fn id(value: &Value) -> Option<&str>
     ensures { option_map (λ n. n.now) result ≡ id_in (view value.now) }
 {
     let id = string_in(value, "id");
-    if is_name(id.as_bytes()) { Some(id) } else { None }
+    if is_name(id.as_bytes()) {
+        Some(id)
+    } else {
+        None
+    }
 }
 
 /// The name that an object declares in a space.
@@ -119,9 +121,9 @@ impl Declared {
         ensures { Leaves (declared_name place.now space (Some name.now) self.old) result self.new }
     {
         if self.number(space, name).is_some() {
-            return Err(SceneRefusal::Fault(SceneFault::Twice(place.step(PlaceStep::Key(
-                key(space),
-            )))));
+            return Err(SceneRefusal::Fault(SceneFault::Twice(place.step(PlaceStep::Key(key(
+                space,
+            ))))));
         }
         let added = match space {
             Space::Messages => self.messages.add(name),

@@ -70,7 +70,6 @@ impl Declared {
             [] => None,
         }
     }
-
 }
 
 /// Whether an id is one of these.

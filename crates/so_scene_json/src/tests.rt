@@ -44,9 +44,18 @@ static FAULTS: [(&str, &str); 76] = [
     ("{\"version\":1,\"chains\":7}", "not_built at /chains"),
     ("{\"version\":1,\"chains\":7,\"y\":0}", "wrong_shape at /"),
     ("{\"version\":1,\"mboxes\":7}", "wrong_shape at /mboxes"),
-    ("{\"version\":1,\"mboxes\":[\"m\",5]}", "wrong_shape at /mboxes"),
-    ("{\"version\":1,\"mboxes\":[\"a-b\"]}", "wrong_shape at /mboxes"),
-    ("{\"version\":1,\"mboxes\":[\"m\",\"m\"]}", "not_built at /coops"),
+    (
+        "{\"version\":1,\"mboxes\":[\"m\",5]}",
+        "wrong_shape at /mboxes",
+    ),
+    (
+        "{\"version\":1,\"mboxes\":[\"a-b\"]}",
+        "wrong_shape at /mboxes",
+    ),
+    (
+        "{\"version\":1,\"mboxes\":[\"m\",\"m\"]}",
+        "not_built at /coops",
+    ),
     (
         "{\"version\":1,\"mboxes\":[\"m\"],\"coops\":[{\"name\":\"m\",\"agents\":[{\"name\":\"a\"},{\"name\":\"m\"}]}]}",
         "twice at /coops/0/agents/1/name",
@@ -359,10 +368,7 @@ static AGENT_FAULTS: [(&str, &str); 44] = [
         "\"on\":[{\"msg\":\"x\",\"mbox\":\"box\",\"dead\":true,\"do\":[]},{\"msg\":\"x\",\"mbox\":\"box\",\"dead\":true,\"do\":[]}]",
         "not_built at /coops/0",
     ),
-    (
-        "\"filters\":7",
-        "wrong_shape at /coops/0/agents/0/filters",
-    ),
+    ("\"filters\":7", "wrong_shape at /coops/0/agents/0/filters"),
     (
         "\"filters\":[7]",
         "wrong_shape at /coops/0/agents/0/filters",
@@ -842,8 +848,12 @@ fn acts_name_rows_filters_and_mboxes(rt: HostRuntime) {
     let start = [
         Instr::Subscribe { row: RowId(2) },
         Instr::Unsubscribe { row: RowId(2) },
-        Instr::SetFilter { filter: FilterId(0) },
-        Instr::DropFilter { filter: FilterId(0) },
+        Instr::SetFilter {
+            filter: FilterId(0),
+        },
+        Instr::DropFilter {
+            filter: FilterId(0),
+        },
         Instr::Send {
             target: Target::Mbox(MboxId(3)),
             msg: MsgId(0),
@@ -858,7 +868,11 @@ fn acts_name_rows_filters_and_mboxes(rt: HostRuntime) {
     ];
     if scene.agents() == 2 {
         let code = scene.agent(AgentId(0)).code.instrs();
-        assert!(rt; code.iter().zip(start.iter()).all(|(have, want)| have == want));
+        assert!(rt;
+            code.iter()
+                .zip(start.iter())
+                .all(|(have, want)| have == want)
+        );
         assert_eq!(rt; code.len(), 12);
     } else {
         assert!(rt; false);

@@ -306,14 +306,7 @@ impl Writer {
     }
 
     /// The instruction of an act with the ids of this agent.
-    fn instr(
-        &self,
-        names: &Declared,
-        text: u32,
-        rest: usize,
-        word: Word,
-        list: &[Value],
-    ) -> Instr
+    fn instr(&self, names: &Declared, text: u32, rest: usize, word: Word, list: &[Value]) -> Instr
         ensures { result ≡ word_instr names.now self.now.scope text rest word (items_view list.now) }
     {
         instr(names, &self.scope, text, rest, word, list)

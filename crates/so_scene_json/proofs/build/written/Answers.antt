@@ -9,7 +9,6 @@ use Rattle.so_scene_json.specs.declared.write.Writer.{Writer}
 use Rattle.so_scene_json.specs.Build.{agent_written, fresh}
 use Rattle.so_scene_json.specs.Scope.{scope_of}
 use Rattle.so_scene_json.proofs.Codes.{code_of_writer}
-use Rattle.so_scene_json.proofs.Passed.{few_messages}
 use Rattle.so_scene_json.proofs.build.written.Goals as goal
 
 abbrev ok : Writer → Result Writer SceneFault
