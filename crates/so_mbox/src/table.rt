@@ -6,7 +6,7 @@ ghost use Rattle.so_scene.specs.Parts.{rows_of, filters_of};
 ghost use Rattle.so_scene.specs.Definition.{filter_fault_of};
 ghost use Rattle.so_scene.specs.Delivery.{is_subscribed, refuses, field_of, lets_through};
 ghost use Rattle.so_scene.specs.Subscriptions.{filter_of};
-ghost use Rattle.so_mbox.specs.Table.{nobody, is_entered, is_other, IsAgentOf, active_rows, is_row_active, is_filter_active, all_none, all_filters_first, with_row, after_enter, after_leave, after_subscribe, after_unsubscribe, after_set_filter, after_drop_filter, receivers, passes};
+ghost use Rattle.so_mbox.specs.Table.{nobody, is_entered, is_other, IsAgentOf, active_rows, active_filters, is_row_active, is_filter_active, all_none, all_filters_first, with_row, after_enter, after_leave, after_subscribe, after_unsubscribe, after_set_filter, after_drop_filter, receivers, passes};
 ghost use Rattle.so_mbox.specs.Answers.{subscribe_answer, broken_by};
 
 use crate::flags::Flags;
