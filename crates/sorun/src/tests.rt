@@ -46,6 +46,10 @@ const HELLO_CUT: &str =
 const THROW: &str =
     "{\"version\":1,\"coops\":[{\"name\":\"main\",\"agents\":[{\"name\":\"a\",\"start\":[[\"throw\",3]]}]}]}";
 
+/// Numbers through a mbox, and a filter that takes the place of another.
+const NUMBERED: &str =
+    "{\"version\":1,\"messages\":[{\"name\":\"num\"},{\"name\":\"swap\",\"kind\":\"signal\"},{\"name\":\"more\",\"kind\":\"signal\"}],\"mboxes\":[\"board\"],\"coops\":[{\"name\":\"main\",\"agents\":[{\"name\":\"r\",\"filters\":[{\"id\":\"f0\",\"mbox\":\"board\",\"msg\":\"num\",\"field\":0,\"cmp\":\">=\",\"value\":0},{\"id\":\"f1\",\"mbox\":\"board\",\"msg\":\"num\",\"field\":0,\"cmp\":\">=\",\"value\":10,\"active\":false}],\"on\":[{\"msg\":\"num\",\"mbox\":\"board\",\"do\":[[\"log\",\"num\",\"m0\"]]},{\"msg\":\"swap\",\"do\":[[\"set_filter\",\"f1\"],[\"send\",\"s\",\"more\"]]}]},{\"name\":\"s\",\"start\":[[\"send\",\"board\",\"num\",-1],[\"send\",\"board\",\"num\",5],[\"send\",\"r\",\"swap\"],[\"send\",\"board\",\"num\",7]],\"on\":[{\"msg\":\"more\",\"do\":[[\"send\",\"board\",\"num\",9],[\"send\",\"board\",\"num\",12]]}]}]}]}";
+
 /// A message to an agent that isn't there.
 const STRANGER: &str =
     "{\"version\":1,\"messages\":[{\"name\":\"ping\"}],\"coops\":[{\"name\":\"main\",\"agents\":[{\"name\":\"a\",\"start\":[[\"send\",\"b\",\"ping\"]]}]}]}";
@@ -98,9 +102,16 @@ fn run(alloc: Global, texts: &[&str], bytes: &[u8], failing: &[u64]) -> Result<W
     Ok(Written { report, out, err })
 }
 
-fn cases() -> [Case<'static>; 11] {
+fn cases() -> [Case<'static>; 12] {
     [
         told(&["sim", "s.json"], PING, 0, "b: got 7\n", ""),
+        told(
+            &["sim", "s.json"],
+            NUMBERED,
+            0,
+            "r: num 5\nr: num 7\nr: num 12\n",
+            "",
+        ),
         told(
             &["sim", "s.json"],
             THROW,
