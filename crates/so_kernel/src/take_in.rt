@@ -24,7 +24,9 @@ use crate::kernel::Kernel;
 use so_code::{Answer, Effect, Frame};
 use so_deliver::plan_delivery;
 use so_history::{Demand, Entry, EntryKind};
-use so_ids::{AgentId, CoopId, FilterId, LaneId, MboxId, MsgId, Payload, Place, Reason, RowId, Target};
+use so_ids::{
+    AgentId, CoopId, FilterId, LaneId, MboxId, MsgId, Payload, Place, Reason, RowId, Target,
+};
 
 impl<'a> Kernel<'a> {
     /// Takes in a registration.
@@ -138,14 +140,7 @@ impl<'a> Kernel<'a> {
     }
 
     /// Takes in a send through a mbox.
-    fn add_send(
-        &mut self,
-        entry: Entry,
-        agent: AgentId,
-        mbox: MboxId,
-        msg: MsgId,
-        payload: Payload,
-    )
+    fn add_send(&mut self, entry: Entry, agent: AgentId, mbox: MboxId, msg: MsgId, payload: Payload)
         requires agent { agent.0 < length self.old.scene.agents }
         requires mbox { mbox.0 < mboxes self.old.scene }
         requires msg { msg.0 < length self.old.scene.messages }

@@ -6,12 +6,14 @@ use Rattle.so_kernel.proofs.kernel.Kernel.make.Goals as goal
 
 pub invariant_of-result : goal.invariant_of-result
 invariant_of-result c =
-    rw (c.in_ok-with_units.ensures.entries, c.in_ok-with_units.ensures.limit, c.in_ok-with-2.ensures, c.agents.ensures)
-    (record {
-      scene = c.parts-parts.ensures.keeps;
-      few = c.requires;
-      legal = tt;
-      within = rw (units-nil c.args.scene.now) (omega arith);
-      tables = c.in_ok-with.ensures ∙ sym (tables-fresh c.args.scene.now c.args.units);
-      full = λ f. absurd (false≢true f);
-    }, omega arith)
+    rw (c.in_ok-with_units.ensures.entries, c.in_ok-with_units.ensures.limit, c.in_ok-with-2.ensures, c.agents.ensures) (
+      record {
+        scene = c.parts-parts.ensures.keeps;
+        few = c.requires;
+        legal = tt;
+        within = rw (units-nil c.args.scene.now) (omega arith);
+        tables = c.in_ok-with.ensures ∙ sym (tables-fresh c.args.scene.now c.args.units);
+        full = λ f. absurd (false≢true f);
+      },
+      omega arith,
+    )
