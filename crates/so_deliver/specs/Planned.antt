@@ -1,6 +1,5 @@
 -- What becomes of one delivery, over the subscriptions now.
 use Rattle.std.specs.Prelude.{ℕ, List, [], Bool}
-use Rattle.so_ids.specs.declared.AgentId.{AgentId}
 use Rattle.so_ids.specs.declared.MboxId.{MboxId}
 use Rattle.so_ids.specs.declared.MsgId.{MsgId}
 use Rattle.so_ids.specs.declared.Payload.{Payload}

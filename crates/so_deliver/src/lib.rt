@@ -1,8 +1,12 @@
 //! What becomes of one delivery: who gets the message, and what the sender is told.
 #![tactic(auto)]
 
+#[cfg(test)]
+mod example;
 mod outcomes;
 mod plan;
+#[cfg(test)]
+mod tests;
 
 pub use outcomes::Outcomes;
 pub use plan::{Planned, plan_delivery};

@@ -1,6 +1,6 @@
 //! One delivery: each receiver in order, by its filter and by whether its cooperation is leaving.
 
-ghost use Rattle.std.specs.Prelude.{◌≡◌, ◌<◌, ◌≤◌, ◌&&◌, [], length, vec_capacity, true};
+ghost use Rattle.std.specs.Prelude.{◌≡◌, ◌<◌, ◌≤◌, ◌&&◌, length};
 ghost use Rattle.std.specs.List.{filter};
 ghost use Rattle.so_scene.specs.Parts.{mboxes};
 ghost use Rattle.so_scene.specs.Checked.{IsTarget};

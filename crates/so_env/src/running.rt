@@ -28,7 +28,7 @@ pub fn simulate<K: Sink>(
 ) -> Outcome
     requires { units ≤ 1000000 }
     ensures run { IfSome result.history (λ h. IsSimulated scene.now units mode h.entries result.cause result.pieces (K.content out.old) (K.content out.new) (K.faults out.old) (K.faults out.new)) }
-    ensures memory { IfNone result.history ((result.cause ≡ Cause.Memory) × (K.content out.new ≡ K.content out.old)) }
+    ensures memory { IfNone result.history ((result.cause ≡ Cause.Memory) × (result.pieces ≡ 0) × (K.content out.new ≡ K.content out.old)) }
     ensures later { K.faults out.old ≤ K.faults out.new }
 {
     match try_simulate(alloc, scene, units, mode, out) {

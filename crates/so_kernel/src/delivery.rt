@@ -84,7 +84,11 @@ impl<'a> Kernel<'a> {
         ensures { result ≡ may_subscribe self.now.scene self.now.history agent row }
     {
         let rows = self.scene.agent(agent).rows.as_slice();
-        !is_twice(rows, self.tables.mboxes.active(agent), &rows[row.0 as usize])
+        !is_twice(
+            rows,
+            self.tables.mboxes.active(agent),
+            &rows[row.0 as usize],
+        )
     }
 
     /// Tells whether a row of the agent is active.

@@ -155,14 +155,7 @@ impl<'a> Kernel<'a> {
     }
 
     /// Takes in a send through a mbox.
-    fn add_send(
-        &mut self,
-        entry: Entry,
-        agent: AgentId,
-        mbox: MboxId,
-        msg: MsgId,
-        payload: Payload,
-    )
+    fn add_send(&mut self, entry: Entry, agent: AgentId, mbox: MboxId, msg: MsgId, payload: Payload)
         requires agent { agent.0 < length self.old.scene.agents }
         requires mbox { mbox.0 < mboxes self.old.scene }
         requires msg { msg.0 < length self.old.scene.messages }

@@ -1,10 +1,8 @@
 -- Flags that are written anew one after the other.
-use Rattle.std.proofs.Common.{◌≡◌, ℕ, zero, suc, ◌+◌, ◌<◌, List, [], ◌∷◌, length, map, get_or, Bool, true, false, arith, refl, sym, ◌∙◌, ap, add-one}
-use Rattle.std.specs.Prelude.{slice_set, slice_index_or, zip, replicate}
-use Rattle.std.proofs.lemmas.List.{length-replicate}
+use Rattle.std.proofs.Common.{◌≡◌, ℕ, zero, suc, ◌<◌, List, [], ◌∷◌, length, map, Bool, false, arith, refl, ap}
+use Rattle.std.specs.Prelude.{slice_set, slice_index_or, zip}
 use Rattle.so_state.specs.declared.choice.Row.{Row}
-use Rattle.so_scene.specs.declared.parts.FilterDef.{FilterDef}
-use Rattle.so_scene.specs.Subscriptions.{rows_first, is_active_first, stays_beside, beside, filter_taken, filters_taken}
+use Rattle.so_scene.specs.Subscriptions.{rows_first, is_active_first}
 
 -- the first n flags are written, each by the flag itself and what stands beside it
 abbrev pub written : {X : Type 0} → (X × Bool → Bool) → ℕ → List X → List Bool → List Bool

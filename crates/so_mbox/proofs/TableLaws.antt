@@ -1,6 +1,6 @@
 -- What a table keeps through each change.
-use Rattle.std.proofs.Common.{◌≡◌, ℕ, zero, suc, ◌+◌, ◌<◌, ◌≤◌, List, [], ◌∷◌, ◌++◌, length, map, get_or, Bool, true, false, not, ◌||◌, cond, arith, refl, sym, ◌∙◌, ap, inl, inr, get_or-set_same, get_or-set_other}
-use Rattle.std.specs.Prelude.{slice_set, slice_index_or, zip, replicate, ◌==◌, min}
+use Rattle.std.proofs.Common.{◌≡◌, ℕ, zero, suc, ◌<◌, ◌≤◌, List, [], ◌∷◌, ◌++◌, length, map, get_or, Bool, true, false, ◌||◌, cond, arith, refl, ◌∙◌, ap, inl, inr, get_or-set_same, get_or-set_other}
+use Rattle.std.specs.Prelude.{slice_set, zip}
 use Rattle.std.specs.Cmp.{IsEquivalence}
 use Rattle.std.specs.List.{All, AllByRecursion, IsDistinct, filter, list_any}
 use Rattle.std.proofs.Math.Dec.{eqb}
@@ -17,9 +17,9 @@ use Rattle.so_ids.specs.declared.AgentId.{AgentId}
 use Rattle.so_ids.specs.declared.FilterId.{FilterId}
 use Rattle.so_scene.specs.declared.parts.FilterDef.{FilterDef}
 use Rattle.so_scene.specs.declared.parts.SceneParts.{SceneParts}
-use Rattle.so_scene.specs.Parts.{agent_of, no_agent, rows_of, filters_of}
-use Rattle.so_scene.specs.Subscriptions.{rows_first, is_active_first, beside, stays_beside, filter_at, filter_set, filter_taken, filters_taken, filters_first}
-use Rattle.so_mbox.specs.Table.{Subscriptions, IsTable, IsAgentOf, same_agent, is_other, is_entered, active_rows, active_filters, all_none, all_filters_first, nobody, none_active, with_rows, with_filters, with_order, after_enter, after_leave, after_set_filter}
+use Rattle.so_scene.specs.Parts.{no_agent, rows_of, filters_of}
+use Rattle.so_scene.specs.Subscriptions.{rows_first, is_active_first, stays_beside, filter_at, filter_set, filters_taken, filters_first}
+use Rattle.so_mbox.specs.Table.{Subscriptions, IsTable, IsAgentOf, same_agent, is_other, is_entered, active_filters, all_none, all_filters_first, nobody, none_active, with_rows, with_filters, with_order, after_enter, after_leave, after_set_filter}
 
 -- ---- nobody is registered twice
 

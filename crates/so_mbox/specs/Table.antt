@@ -1,5 +1,5 @@
 -- The subscriptions of all agents: who is registered, and which rows and filters of each agent are active.
-use Rattle.std.specs.Prelude.{◌≡◌, ℕ, ◌<◌, List, [], ◌∷◌, ◌++◌, length, map, replicate, slice_set, slice_index_or, Bool, true, false, not, ◌==◌}
+use Rattle.std.specs.Prelude.{◌≡◌, ◌<◌, List, [], ◌∷◌, ◌++◌, length, map, replicate, slice_set, slice_index_or, Bool, false, not, ◌==◌}
 use Rattle.std.specs.List.{All, IsDistinct, filter, list_any}
 use Rattle.so_ids.specs.declared.AgentId.{AgentId}
 use Rattle.so_ids.specs.declared.RowId.{RowId}

@@ -1,8 +1,7 @@
 //! Which rows, or which filters, of an agent are active.
 
-ghost use Rattle.std.specs.Prelude.{◌≡◌, ◌<◌, ◌^◌, length, replicate, slice_set, slice_get, Some, false, IfOk};
-ghost use Rattle.so_scene.specs.Delivery.{is_filter_for};
-ghost use Rattle.so_scene.specs.Subscriptions.{rows_first, stays_beside, beside, filter_at, filter_set, filter_taken, filters_taken, filters_first};
+ghost use Rattle.std.specs.Prelude.{◌≡◌, ◌<◌, length, replicate, slice_set, false, IfOk};
+ghost use Rattle.so_scene.specs.Subscriptions.{rows_first, stays_beside, beside, filter_set, filter_taken, filters_first};
 
 use so_ids::NoMemory;
 use so_scene::FilterDef;
@@ -140,4 +139,68 @@ fn stays_beside(new: &FilterDef, other: &FilterDef, active: bool) -> bool
     ensures { result ≡ stays_beside new.now (other.now, active) }
 {
     active && !(other.mbox == new.mbox && other.msg == new.msg)
+}
+
+#[cfg(test)]
+mod tests {
+    use super::*;
+    use so_code::Cmp;
+    use so_ids::{MboxId, MsgId, StateId};
+    use so_state::RowKind;
+    use std::process::Abort;
+
+    fn filter(mbox: u32, msg: u32, active: bool) -> FilterDef {
+        FilterDef {
+            id: None,
+            mbox: MboxId(mbox),
+            msg: MsgId(msg),
+            field: 0,
+            cmp: Cmp::Eq,
+            value: 0,
+            active,
+        }
+    }
+
+    fn row(active: bool) -> Row {
+        Row {
+            mbox: MboxId(0),
+            msg: MsgId(0),
+            state: StateId(0),
+            kind: RowKind::Run,
+            safe: false,
+            active,
+        }
+    }
+
+    #[test]
+    fn a_newer_filter_replaces_the_one_of_its_mbox_and_type(rt: HostRuntime) {
+        let filters = [
+            filter(3, 0, true),
+            filter(3, 0, true),
+            filter(3, 2, true),
+            filter(4, 0, false),
+        ];
+        let mut flags = [false; 4];
+        take_filters(&mut flags, &filters);
+        assert_eq!(rt; flags, [false, true, true, false]);
+        let cases = [
+            (0, [true, false, true, false]),
+            (3, [true, false, true, true]),
+            (2, [true, false, true, true]),
+            (1, [false, true, true, true]),
+        ];
+        for (k, after) in cases {
+            assert!(rt; k < filters.len());
+            set_filter(&mut flags, &filters, k);
+            assert_eq!(rt; flags, after, "{k}");
+        }
+    }
+
+    #[test]
+    fn a_registration_sets_the_rows_back(rt: HostRuntime) {
+        let rows = [row(true), row(false), row(true)];
+        let mut flags = [false, true, true];
+        put_rows_first(&mut flags, &rows);
+        assert_eq!(rt; flags, [true, false, true]);
+    }
 }

@@ -1,15 +1,12 @@
 //! Who is registered, and which of their rows and filters are active.
 
-ghost use Rattle.std.specs.Prelude.{◌≡◌, ◌<◌, ◌≤◌, length, slice_get, vec_capacity, map, zip, true, false, IfOk, OnOk, OnErr};
+ghost use Rattle.std.specs.Prelude.{◌≡◌, ◌<◌, ◌≤◌, length, slice_get, vec_capacity, map, zip, false, IfOk, OnOk, OnErr};
 ghost use Rattle.std.specs.List.{All, filter, list_any};
-ghost use Rattle.so_ids.specs.declared.AgentId.{AgentId as Agent};
-ghost use Rattle.so_scene.specs.declared.parts.SceneParts.{SceneParts};
-ghost use Rattle.so_scene.specs.declared.parts.FilterDef.{FilterDef as Filter};
 ghost use Rattle.so_scene.specs.Parts.{rows_of, filters_of};
 ghost use Rattle.so_scene.specs.Definition.{filter_fault_of};
-ghost use Rattle.so_scene.specs.Delivery.{takes_from, is_subscribed, refuses, passes_with, field_of, lets_through, is_filter_for};
-ghost use Rattle.so_scene.specs.Subscriptions.{row_of, filter_of};
-ghost use Rattle.so_mbox.specs.Table.{nobody, is_entered, is_other, IsAgentOf, active_rows, active_filters, is_row_active, is_filter_active, none_active, all_none, all_filters_first, with_row, after_enter, after_leave, after_subscribe, after_unsubscribe, after_set_filter, after_drop_filter, receivers, passes};
+ghost use Rattle.so_scene.specs.Delivery.{is_subscribed, refuses, field_of, lets_through};
+ghost use Rattle.so_scene.specs.Subscriptions.{filter_of};
+ghost use Rattle.so_mbox.specs.Table.{nobody, is_entered, is_other, IsAgentOf, active_rows, active_filters, is_row_active, is_filter_active, all_none, all_filters_first, with_row, after_enter, after_leave, after_subscribe, after_unsubscribe, after_set_filter, after_drop_filter, receivers, passes};
 ghost use Rattle.so_mbox.specs.Answers.{subscribe_answer, broken_by};
 
 use crate::flags::Flags;
@@ -76,6 +73,20 @@ impl<'a> Table<'a> {
         })
     }
 
+    /// The scene that it was made for.
+    pub fn scene(&self) -> &'a Scene
+        ensures { result.now ≡ self.now.scene }
+    {
+        self.scene
+    }
+
+    /// Tells whether the agent is registered.
+    pub fn is_entered(&self, agent: AgentId) -> bool
+        ensures { result ≡ is_entered self.now agent }
+    {
+        self.order.iter().any(|other| agent == *other)
+    }
+
     /// Registers an agent, after those that are. Its rows and filters are the scene's, of which a later active
     /// filter of the same mbox and type replaces an earlier one.
     pub fn enter(&mut self, agent: AgentId)
@@ -91,7 +102,7 @@ impl<'a> Table<'a> {
         filters.put_filters_first(def.filters.as_slice());
     }
 
-    /// Takes an agent out. None of its rows is active then, and its filters stay as they are.
+    /// Takes an agent out, if it is registered. None of its rows is active then, and its filters stay as they are.
     pub fn leave(&mut self, agent: AgentId)
         requires { IsAgentOf self.old.scene agent }
         ensures { self.new ≡ after_leave agent self.old }

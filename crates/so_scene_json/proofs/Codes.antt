@@ -1,11 +1,10 @@
 -- What the building writes is the code of an agent.
-use Rattle.std.proofs.Common.{◌≡◌, ℕ, zero, suc, ◌+◌, ◌-◌, ◌<◌, ◌≤◌, ◌^◌, ℤ, pos, negsuc, List, [], ◌∷◌, ◌++◌, length, Bool, true, false, Option, Some, None, Result, Ok, Err, refl, sym, ap, ◌∙◌, subst, arith, inl, length-append, append_assoc, if◌then◌else◌, nat_le, nat_lt}
+use Rattle.std.proofs.Common.{◌≡◌, ℕ, zero, suc, ◌+◌, ◌-◌, ◌<◌, ◌≤◌, ◌^◌, ℤ, pos, negsuc, List, [], ◌∷◌, ◌++◌, length, Bool, true, false, Option, Some, None, Result, Ok, Err, refl, sym, ap, ◌∙◌, subst, arith, inl, length-append, append_assoc, if◌then◌else◌, nat_le, nat_lt, is_some, get_or}
 use Rattle.std.proofs.Math.Nat.{min-le_left, min-le_right}
-use Rattle.std.proofs.lemmas.Bool.{leb-true, ltb-true}
+use Rattle.std.proofs.lemmas.Bool.{leb-true, ltb-true, true≢false}
 use Rattle.std.proofs.lemmas.List.Quantifiers.{position-Some}
 use Rattle.std.specs.Prelude.{slice_get, slice_index, bytes_eq, map, codes}
 use Rattle.std.specs.List.Sorted.{IsStrictlyIncreasing}
-use Rattle.so_scene.specs.declared.fault.SceneFault.{SceneFault}
 use Rattle.std.specs.List.{AllByRecursion}
 use Rattle.std.specs.Option.{option_map, option_and_then}
 use Rattle.serde_json.specs.Data.{Num, Data, Items, no_items, item}
@@ -22,13 +21,22 @@ use Rattle.so_code.specs.declared.instr.Body.TheVariants as body
 use Rattle.so_code.specs.Bodies.{bodies_in}
 use Rattle.so_code.specs.Shape.{IsActBefore, AreActsBefore, Part, plain, acts_code, flatten, may_switch, IsPart, IsCode, AreInOrder, AreAgentBodies, body_of, agent_bodies, row_number}
 use Rattle.so_code.proofs.BuildLaws.{structured, plain_code, plain_acts, bodies_in-flatten}
-use Rattle.so_lists.proofs.Filters.{each-append}
+use Rattle.so_lists.proofs.Filters.{each-append, each-weaker}
 use Rattle.so_scene.specs.Words.{is_text}
 use Rattle.so_scene_json.specs.Acts.{act_parts}
 use Rattle.so_scene_json.specs.Build.{body_written, row_body, rows_written, agent_written}
 use Rattle.std.proofs.lemmas.List.{append-nil}
 use Rattle.so_scene.specs.Names.{number_in}
-use Rattle.so_scene.specs.Parts.{NamesWithin, numbers_from, row_numbers}
+use Rattle.so_ids.specs.declared.FilterId.{FilterId}
+use Rattle.so_ids.specs.declared.RowId.{RowId}
+use Rattle.so_ids.specs.declared.Target.{Target}
+use Rattle.so_ids.specs.declared.Target.TheVariants.{Mbox, Chain}
+use Rattle.so_scene.specs.Checked.{Named, IsTarget, HasId, NamesWithin, numbers_from, row_numbers}
+use Rattle.so_scene_json.specs.declared.scope.Scope.{Scope}
+use Rattle.so_scene_json.specs.declared.table.Space.TheVariants as space
+use Rattle.so_scene_json.specs.Kept.{named_among}
+use Rattle.so_scene_json.specs.Scope.{is_id, number_with, row_items}
+use Rattle.so_scene_json.specs.Twice.{names_in}
 use Rattle.so_scene_json.specs.declared.act_table.Word.{Word}
 use Rattle.so_scene_json.specs.declared.act_table.Word.TheVariants as word
 use Rattle.so_scene_json.specs.declared.values.Trouble.{Trouble}
@@ -37,7 +45,7 @@ use Rattle.so_scene_json.specs.declared.declare.Declared.{Declared}
 use Rattle.so_scene_json.specs.declared.write.Writer.{Writer}
 use Rattle.so_scene_json.specs.Values.{◌or◌, ◌else◌, ◌then◌, numbered, small_number, operand_named, operand_or_number, operand_of, dest_named, dest_of, named, integer_of, natural_up_to, count_of, text_or_empty}
 use Rattle.so_scene_json.specs.Visits.{narrow, list_of}
-use Rattle.so_scene_json.specs.Writer.{ok_or, read_or, operand_at, dest_at, count_at, args_from, send_instr, text_at, string_at, texts_with, number_or_next, with_instr, word_written, parts_written, act_written, acts_written, idle}
+use Rattle.so_scene_json.specs.Writer.{ok_or, read_or, operand_at, dest_at, count_at, args_from, send_instr, row_id, filter_number, row_at, filter_at, or_idle, text_at, string_at, texts_with, number_or_next, with_instr, word_written, parts_written, act_written, acts_written, idle}
 
 -- ---- operands
 
@@ -45,7 +53,7 @@ OnSome : {X : Type 0} (P : X → Type 0) → Option X → Type 0
 OnSome P None = Unit {0}
 OnSome P (Some x) = P x
 
-OnOk : {X : Type 0} (P : X → Type 0) → Result X Trouble → Type 0
+unfoldable pub OnOk : {X : Type 0} (P : X → Type 0) → Result X Trouble → Type 0
 OnOk P (Err t) = Unit {0}
 OnOk P (Ok x) = P x
 
@@ -127,7 +135,7 @@ unfolding OnOk
 ok_fine P x (Err t) h k = h
 ok_fine P x (Ok y) h k = k
 
-read_fine : {X : Type 0} (P : X → Type 0) (x : X) (f : Data → Result X Trouble) (o : Option Data) → P x → ((d : Data) → OnOk P (f d)) → P (read_or x f o)
+pub read_fine : {X : Type 0} (P : X → Type 0) (x : X) (f : Data → Result X Trouble) (o : Option Data) → P x → ((d : Data) → OnOk P (f d)) → P (read_or x f o)
 read_fine P x f None h k = h
 read_fine P x f (Some d) h k = ok_fine P x (f d) h (k d)
 
@@ -158,11 +166,11 @@ unfolding OnOk
 up_to true n limit e = leb-true n limit e
 up_to false n limit e = tt
 
-natural_fine : (limit : ℕ) (z : ℤ) → OnOk (λ k. k ≤ limit) (natural_up_to limit z)
+pub natural_fine : (limit : ℕ) (z : ℤ) → OnOk (λ k. k ≤ limit) (natural_up_to limit z)
 natural_fine limit (pos n) = up_to (nat_le n limit) n limit refl
 natural_fine limit (negsuc n) = nothing (λ k. k ≤ limit)
 
-then_fine : {X Y : Type 0} (P : Y → Type 0) (r : Result X Trouble) (f : X → Result Y Trouble) → ((x : X) → OnOk P (f x)) → OnOk P (r then f)
+pub then_fine : {X Y : Type 0} (P : Y → Type 0) (r : Result X Trouble) (f : X → Result Y Trouble) → ((x : X) → OnOk P (f x)) → OnOk P (r then f)
 unfolding OnOk
 then_fine P (Ok x) f h = h x
 then_fine P (Err t) f h = tt
@@ -174,17 +182,27 @@ count_fine rest i ds =
 
 -- ---- one act
 
+-- what the acts of an agent may name, with so many texts
+abbrev pub allows : Declared → Scope → ℕ → Named
+allows names scope texts = named_among (length names.agents + length names.mboxes) (length names.messages) texts scope.rows scope.filters
+
+-- an agent's ids can be numbered
+pub record HasFewIds (scope : Scope) : Type 0 where
+  pub rows : length scope.rows ≤ 128
+  pub filters : length scope.filters ≤ 32
+
 -- an act writes one instruction, which may stand before so many others, and names what there is
 record Wrote (names : Declared) (rest : ℕ) (w v : Writer) : Type 0 where
   one : Instr
   same : v.code ≡ w.code ++ one ∷ []
   fine : IsActBefore true one rest
   grows : length w.texts ≤ length v.texts
-  named : NamesWithin (length names.parties) (length names.messages) (length v.texts) one
+  scope : v.scope ≡ w.scope
+  named : HasFewIds w.scope → NamesWithin (allows names w.scope (length v.texts)) one
   texts : AllByRecursion (λ t. is_text t ≡ true) w.texts → AllByRecursion (λ t. is_text t ≡ true) v.texts
 
-simple : (names : Declared) (rest : ℕ) (w : Writer) (i : Instr) → IsActBefore true i rest → NamesWithin (length names.parties) (length names.messages) (length w.texts) i → Wrote names rest w (with_instr i w)
-simple names rest w i f n = record { one = i; same = refl; fine = f; grows = omega arith; named = n; texts = λ a. a }
+simple : (names : Declared) (rest : ℕ) (w : Writer) (i : Instr) → IsActBefore true i rest → (HasFewIds w.scope → NamesWithin (allows names w.scope (length w.texts)) i) → Wrote names rest w (with_instr i w)
+simple names rest w i f n = record { one = i; same = refl; fine = f; grows = omega arith; scope = refl; named = n; texts = λ a. a }
 
 idle_fine : (rest : ℕ) → IsActBefore true idle rest
 idle_fine rest = record { act = refl; switch = λ e. refl; parts = tt; jumps = omega arith }
@@ -194,11 +212,11 @@ send_fine rest (Some a) (Some m) args h = record { act = refl; switch = λ e. re
 send_fine rest (Some a) None args h = idle_fine rest
 send_fine rest None m args h = idle_fine rest
 
-send_named : (agents messages texts : ℕ) (a m : Option ℕ) (args : Args) → OnSome (λ k. k < agents) a → OnSome (λ k. k < messages) m → NamesWithin agents messages texts (send_instr a m args)
+send_named : (n : Named) (a m : Option ℕ) (args : Args) → OnSome (λ k. k < n.mboxes) a → OnSome (λ k. k < n.messages) m → NamesWithin n (send_instr a m args)
 unfolding OnSome
-send_named agents messages texts (Some a) (Some m) args h k = (omega (arith, h, min-le_left a (2 ^ 32 - 1)), omega (arith, k, min-le_left m (2 ^ 32 - 1)))
-send_named agents messages texts (Some a) None args h k = tt
-send_named agents messages texts None m args h k = tt
+send_named n (Some a) (Some m) args h k = (omega (arith, h, min-le_left a (2 ^ 32 - 1)), omega (arith, k, min-le_left m (2 ^ 32 - 1)))
+send_named n (Some a) None args h k = tt
+send_named n None m args h k = tt
 
 on_some : {X : Type 0} (P : X → Type 0) (o : Option X) → ((x : X) → o ≡ Some x → P x) → OnSome P o
 unfolding OnSome
@@ -208,6 +226,46 @@ on_some P (Some x) f = f x refl
 number_below : (names : List (List ℕ)) (name : List ℕ) → OnSome (λ k. k < length names) (number_in names name)
 number_below names name = on_some (λ k. k < length names) (number_in names name) (λ i e. (position-Some (bytes_eq name) names i [] e).0)
 
+mbox_below : (names : Declared) (name : List ℕ) → OnSome (λ k. k < length names.agents + length names.mboxes) (number_in (names_in space.Mboxes names) name)
+mbox_below names name = subst (λ n. OnSome (λ k. k < n) (number_in (names.agents ++ names.mboxes) name)) (length-append names.agents names.mboxes) (number_below (names.agents ++ names.mboxes) name)
+
+-- ---- the acts on rows and filters
+
+or_fine : {X : Type 0} (P : Instr → Type 0) (f : X → Instr) (o : Option X) → P idle → ((x : X) → o ≡ Some x → P (f x)) → P (or_idle f o)
+or_fine P f None h k = h
+or_fine P f (Some x) h k = k x refl
+
+given_id : (name : List ℕ) (o : Option (List ℕ)) → is_id name o ≡ true → is_some o ≡ true
+given_id name None e = absurd (true≢false (sym e))
+given_id name (Some id) e = refl
+
+id_there : (ids : List (Option (List ℕ))) (name : List ℕ) (k : ℕ) → length ids ≤ 128 → number_with ids name ≡ Some k → HasId ids (narrow k)
+id_there ids name k few e =
+    let found = position-Some (is_id name) ids k None e in
+    let its : narrow k ≡ k = omega (arith, found.0, few) in
+    subst (HasId ids) (sym its) (given_id name (get_or ids k None) found.1)
+
+row_there : (ids : List (Option (List ℕ))) (name : List ℕ) (o : Option ℕ) (row : RowId) → length ids ≤ 128 → number_with ids name ≡ o → option_map row_id o ≡ Some row → HasId ids row.0
+row_there ids name None row few e f = absurd cc
+row_there ids name (Some k) row few e f = let its : row_id k ≡ row = cc in subst (λ (r : RowId). HasId ids r.0) its (id_there ids name k few e)
+
+filter_there : (ids : List (Option (List ℕ))) (name : List ℕ) (o : Option ℕ) (filter : FilterId) → length ids ≤ 128 → number_with ids name ≡ o → option_map filter_number o ≡ Some filter → HasId ids filter.0
+filter_there ids name None filter few e f = absurd cc
+filter_there ids name (Some k) filter few e f = let its : filter_number k ≡ filter = cc in subst (λ (r : FilterId). HasId ids r.0) its (id_there ids name k few e)
+
+-- an act on a row of the agent, and on a filter
+row_wrote : (names : Declared) (rest : ℕ) (w : Writer) (ds : Items) (f : RowId → Instr) → ((row : RowId) → IsActBefore true (f row) rest) → ((n : Named) (row : RowId) → HasId n.rows row.0 → NamesWithin n (f row)) → Wrote names rest w (with_instr (or_idle f (row_at w.scope ds)) w)
+row_wrote names rest w ds f fine names_it =
+    simple names rest w _ (or_fine (λ i. IsActBefore true i rest) f (row_at w.scope ds) (idle_fine rest) (λ row e. fine row))
+    (λ few. or_fine (NamesWithin (allows names w.scope (length w.texts))) f (row_at w.scope ds) tt (λ row e. names_it (allows names w.scope (length w.texts)) row (row_there w.scope.rows (string_at 0 ds) (number_with w.scope.rows (string_at 0 ds)) row few.rows refl e)))
+
+filter_wrote : (names : Declared) (rest : ℕ) (w : Writer) (ds : Items) (f : FilterId → Instr) → ((filter : FilterId) → IsActBefore true (f filter) rest) → ((n : Named) (filter : FilterId) → HasId n.filters filter.0 → NamesWithin n (f filter)) → Wrote names rest w (with_instr (or_idle f (filter_at w.scope ds)) w)
+filter_wrote names rest w ds f fine names_it =
+    simple names rest w _ (or_fine (λ i. IsActBefore true i rest) f (filter_at w.scope ds) (idle_fine rest) (λ filter e. fine filter))
+    (λ few. or_fine (NamesWithin (allows names w.scope (length w.texts))) f (filter_at w.scope ds) tt (λ filter e. names_it (allows names w.scope (length w.texts)) filter (filter_there w.scope.filters (string_at 0 ds) (number_with w.scope.filters (string_at 0 ds)) filter (omega (arith, few.filters)) refl e)))
+
+-- ---- a text
+
 text_wrote : (names : Declared) (rest : ℕ) (w : Writer) (t : List ℕ) (args : Args) (o : Option ℕ) → OnSome (λ k. k < length w.texts) o → is_text t ≡ true → AreArgs args
     → Wrote names rest w (with_instr (instr.Log (record { 0 = number_or_next o w.texts }) args) (record w { texts = texts_with o t w.texts }))
 unfolding OnSome
@@ -216,7 +274,8 @@ text_wrote names rest w t args (Some n) h is are = record {
   same = refl;
   fine = record { act = refl; switch = λ e. refl; parts = are; jumps = omega arith };
   grows = omega arith;
-  named = omega (arith, h, min-le_left n (2 ^ 32 - 1));
+  scope = refl;
+  named = λ few. omega (arith, h, min-le_left n (2 ^ 32 - 1));
   texts = λ a. a;
 }
 text_wrote names rest w t args None h is are = record {
@@ -224,7 +283,8 @@ text_wrote names rest w t args None h is are = record {
   same = refl;
   fine = record { act = refl; switch = λ e. refl; parts = are; jumps = omega arith };
   grows = omega (arith, length-append w.texts (t ∷ []));
-  named = omega (arith, length-append w.texts (t ∷ []), min-le_left (length w.texts) (2 ^ 32 - 1));
+  scope = refl;
+  named = λ few. omega (arith, length-append w.texts (t ∷ []), min-le_left (length w.texts) (2 ^ 32 - 1));
   texts = λ a. each-append (λ t. is_text t ≡ true) w.texts (t ∷ []) a (is, tt);
 }
 
@@ -236,22 +296,26 @@ text_at_fine : (i : ℕ) (ds : Items) → is_text (text_at i ds) ≡ true
 text_at_fine i ds = checked_text (is_text (string_at i ds)) (string_at i ds) refl
 
 wrote_word : (names : Declared) (rest : ℕ) (w : Writer) (wd : Word) (ds : Items) → Wrote names rest w (word_written names rest w wd ds)
-wrote_word names rest w word.Set ds = simple names rest w _ (record { act = refl; switch = λ e. refl; parts = (dest_fine 0 ds, operand_fine 1 ds); jumps = omega arith }) tt
-wrote_word names rest w word.Add ds = simple names rest w _ (record { act = refl; switch = λ e. refl; parts = (dest_fine 0 ds, operand_fine 1 ds, operand_fine 2 ds); jumps = omega arith }) tt
-wrote_word names rest w word.Sub ds = simple names rest w _ (record { act = refl; switch = λ e. refl; parts = (dest_fine 0 ds, operand_fine 1 ds, operand_fine 2 ds); jumps = omega arith }) tt
-wrote_word names rest w word.Mul ds = simple names rest w _ (record { act = refl; switch = λ e. refl; parts = (dest_fine 0 ds, operand_fine 1 ds, operand_fine 2 ds); jumps = omega arith }) tt
-wrote_word names rest w word.If ds = simple names rest w _ (record { act = refl; switch = λ e. refl; parts = (operand_fine 0 ds, operand_fine 2 ds); jumps = count_fine rest 3 ds }) tt
-wrote_word names rest w word.Skip ds = simple names rest w _ (record { act = refl; switch = λ e. refl; parts = tt; jumps = count_fine rest 0 ds }) tt
-wrote_word names rest w word.Throw ds = simple names rest w _ (record { act = refl; switch = λ e. refl; parts = operand_fine 0 ds; jumps = omega arith }) tt
+wrote_word names rest w word.Set ds = simple names rest w _ (record { act = refl; switch = λ e. refl; parts = (dest_fine 0 ds, operand_fine 1 ds); jumps = omega arith }) (λ few. tt)
+wrote_word names rest w word.Add ds = simple names rest w _ (record { act = refl; switch = λ e. refl; parts = (dest_fine 0 ds, operand_fine 1 ds, operand_fine 2 ds); jumps = omega arith }) (λ few. tt)
+wrote_word names rest w word.Sub ds = simple names rest w _ (record { act = refl; switch = λ e. refl; parts = (dest_fine 0 ds, operand_fine 1 ds, operand_fine 2 ds); jumps = omega arith }) (λ few. tt)
+wrote_word names rest w word.Mul ds = simple names rest w _ (record { act = refl; switch = λ e. refl; parts = (dest_fine 0 ds, operand_fine 1 ds, operand_fine 2 ds); jumps = omega arith }) (λ few. tt)
+wrote_word names rest w word.If ds = simple names rest w _ (record { act = refl; switch = λ e. refl; parts = (operand_fine 0 ds, operand_fine 2 ds); jumps = count_fine rest 3 ds }) (λ few. tt)
+wrote_word names rest w word.Skip ds = simple names rest w _ (record { act = refl; switch = λ e. refl; parts = tt; jumps = count_fine rest 0 ds }) (λ few. tt)
+wrote_word names rest w word.Throw ds = simple names rest w _ (record { act = refl; switch = λ e. refl; parts = operand_fine 0 ds; jumps = omega arith }) (λ few. tt)
 wrote_word names rest w word.Log ds = text_wrote names rest w (text_at 0 ds) (args_from 1 ds) (number_in w.texts (text_at 0 ds)) (number_below w.texts (text_at 0 ds)) (text_at_fine 0 ds) (args_fine 1 ds)
 wrote_word names rest w word.Send ds =
     simple names rest w _ (send_fine rest _ _ (args_from 2 ds) (args_fine 2 ds))
-    (send_named _ _ _ (number_in names.parties (string_at 0 ds)) (number_in names.messages (string_at 1 ds)) (args_from 2 ds) (number_below names.parties (string_at 0 ds)) (number_below names.messages (string_at 1 ds)))
-wrote_word names rest w word.Stop ds = simple names rest w _ (record { act = refl; switch = λ e. refl; parts = tt; jumps = omega arith }) tt
-wrote_word names rest w other ds = simple names rest w _ (idle_fine rest) tt
+    (λ few. send_named (allows names w.scope (length w.texts)) (number_in (names_in space.Mboxes names) (string_at 0 ds)) (number_in names.messages (string_at 1 ds)) (args_from 2 ds) (mbox_below names (string_at 0 ds)) (number_below names.messages (string_at 1 ds)))
+wrote_word names rest w word.Subscribe ds = row_wrote names rest w ds instr.Subscribe (λ row. record { act = refl; switch = λ e. refl; parts = tt; jumps = omega arith }) (λ n row h. h)
+wrote_word names rest w word.Unsubscribe ds = row_wrote names rest w ds instr.Unsubscribe (λ row. record { act = refl; switch = λ e. refl; parts = tt; jumps = omega arith }) (λ n row h. h)
+wrote_word names rest w word.SetFilter ds = filter_wrote names rest w ds instr.SetFilter (λ filter. record { act = refl; switch = λ e. refl; parts = tt; jumps = omega arith }) (λ n filter h. h)
+wrote_word names rest w word.DropFilter ds = filter_wrote names rest w ds instr.DropFilter (λ filter. record { act = refl; switch = λ e. refl; parts = tt; jumps = omega arith }) (λ n filter h. h)
+wrote_word names rest w word.Stop ds = simple names rest w _ (record { act = refl; switch = λ e. refl; parts = tt; jumps = omega arith }) (λ few. tt)
+wrote_word names rest w other ds = simple names rest w _ (idle_fine rest) (λ few. tt)
 
 wrote_parts : (names : Declared) (rest : ℕ) (w : Writer) (o : Option (Word × Items)) → Wrote names rest w (parts_written names rest w o)
-wrote_parts names rest w None = simple names rest w _ (idle_fine rest) tt
+wrote_parts names rest w None = simple names rest w _ (idle_fine rest) (λ few. tt)
 wrote_parts names rest w (Some p) = wrote_word names rest w p.0 p.1
 
 wrote_act : (names : Declared) (rest : ℕ) (w : Writer) (d : Data) → Wrote names rest w (act_written names rest w d)
@@ -259,9 +323,36 @@ wrote_act names rest w d = wrote_parts names rest w (act_parts d)
 
 -- ---- a list of acts
 
-pub names_grow : (agents messages t u : ℕ) (i : Instr) → t ≤ u → NamesWithin agents messages t i → NamesWithin agents messages u i
-names_grow agents messages t u (instr.Log text args) l h = omega (arith, l, h)
-names_grow agents messages t u other l h = h
+-- more mboxes and texts may be named
+pub record Grows (n m : Named) : Type 0 where
+  pub mboxes : n.mboxes ≤ m.mboxes
+  pub messages : m.messages ≡ n.messages
+  pub texts : n.texts ≤ m.texts
+  pub rows : m.rows ≡ n.rows
+  pub filters : m.filters ≡ n.filters
+
+target_grows : (n m : ℕ) (t : Target) → n ≤ m → IsTarget n t → IsTarget m t
+target_grows n m (Mbox mbox) l h = omega (arith, l, h)
+target_grows n m (Chain chain) l h = h
+
+pub names_grow : (n m : Named) (i : Instr) → Grows n m → NamesWithin n i → NamesWithin m i
+names_grow n m (instr.Log text args) g h = omega (arith, g.texts, h)
+names_grow n m (instr.Send target msg args) g h = (target_grows n.mboxes m.mboxes target g.mboxes h.0, omega (arith, g.messages, h.1))
+names_grow n m (instr.Subscribe row) g h = subst (λ ids. HasId ids row.0) (sym g.rows) h
+names_grow n m (instr.Unsubscribe row) g h = subst (λ ids. HasId ids row.0) (sym g.rows) h
+names_grow n m (instr.SetFilter filter) g h = subst (λ ids. HasId ids filter.0) (sym g.filters) h
+names_grow n m (instr.DropFilter filter) g h = subst (λ ids. HasId ids filter.0) (sym g.filters) h
+names_grow n m other g h = h
+
+-- with more texts, and the ids of the same agent
+texts_grow : (names : Declared) (scope other : Scope) (t u : ℕ) → scope ≡ other → t ≤ u → Grows (allows names scope t) (allows names other u)
+texts_grow names scope other t u e l = record {
+  mboxes = omega arith;
+  messages = refl;
+  texts = l;
+  rows = ap (λ (x : Scope). x.rows) (sym e);
+  filters = ap (λ (x : Scope). x.filters) (sym e);
+}
 
 record WroteActs (names : Declared) (w v : Writer) (n : ℕ) : Type 0 where
   acts : List Instr
@@ -269,8 +360,12 @@ record WroteActs (names : Declared) (w v : Writer) (n : ℕ) : Type 0 where
   long : length acts ≡ n
   fine : AreActsBefore true 0 acts
   grows : length w.texts ≤ length v.texts
-  named : AllByRecursion (NamesWithin (length names.parties) (length names.messages) (length v.texts)) acts
+  scope : v.scope ≡ w.scope
+  named : HasFewIds w.scope → AllByRecursion (NamesWithin (allows names w.scope (length v.texts))) acts
   texts : AllByRecursion (λ t. is_text t ≡ true) w.texts → AllByRecursion (λ t. is_text t ≡ true) v.texts
+
+same_few : (s t : Scope) → t ≡ s → HasFewIds s → HasFewIds t
+same_few s t e h = subst HasFewIds (sym e) h
 
 one_more : (names : Declared) (w u v : Writer) (rest n : ℕ) → rest ≡ n → Wrote names rest w u → WroteActs names u v n → WroteActs names w v (suc n)
 one_more names w u v rest n e one more = record {
@@ -279,13 +374,17 @@ one_more names w u v rest n e one more = record {
   long = omega (arith, more.long);
   fine = (let ahead : rest ≡ length more.acts + 0 = omega (arith, e, more.long) in subst (IsActBefore true one.one) ahead one.fine, more.fine);
   grows = omega (arith, one.grows, more.grows);
-  named = (names_grow _ _ _ _ one.one more.grows one.named, more.named);
+  scope = more.scope ∙ one.scope;
+  named = λ few. (
+    names_grow (allows names w.scope (length u.texts)) (allows names w.scope (length v.texts)) one.one (texts_grow names w.scope w.scope (length u.texts) (length v.texts) refl more.grows) (one.named few),
+    subst (λ (x : Scope). AllByRecursion (NamesWithin (allows names x (length v.texts))) more.acts) one.scope (more.named (same_few w.scope u.scope one.scope few)),
+  );
   texts = λ a. more.texts (one.texts a);
 }
 
 wrote_acts : (names : Declared) (w : Writer) (ds : Items) → WroteActs names w (acts_written names w ds) (items_len ds)
 unfolding acts_written
-wrote_acts names w no_items = record { acts = []; same = sym (append-nil w.code); long = refl; fine = tt; grows = omega arith; named = tt; texts = λ a. a }
+wrote_acts names w no_items = record { acts = []; same = sym (append-nil w.code); long = refl; fine = tt; grows = omega arith; scope = refl; named = λ few. tt; texts = λ a. a }
 wrote_acts names w (item d ds) = one_more names w _ _ _ _ refl (wrote_act names (items_len ds) w d) (wrote_acts names (act_written names (items_len ds) w d) ds)
 
 -- ---- bodies
@@ -296,7 +395,8 @@ record WroteParts (names : Declared) (w v : Writer) (bodies : List Body) : Type 
   made : map body_of parts ≡ bodies
   each : AllByRecursion IsPart parts
   grows : length w.texts ≤ length v.texts
-  named : AllByRecursion (NamesWithin (length names.parties) (length names.messages) (length v.texts)) (flatten parts)
+  scope : v.scope ≡ w.scope
+  named : HasFewIds w.scope → AllByRecursion (NamesWithin (allows names w.scope (length v.texts))) (flatten parts)
   texts : AllByRecursion (λ t. is_text t ≡ true) w.texts → AllByRecursion (λ t. is_text t ≡ true) v.texts
 
 ended : (names : Declared) (b : Body) (w u : Writer) (n : ℕ) → may_switch b ≡ true → WroteActs names w u n → WroteParts names w (with_instr (instr.End b) u) (b ∷ [])
@@ -306,8 +406,9 @@ ended names b w u n e wrote = record {
   made = refl;
   each = (plain_acts b wrote.acts (subst (λ s. AreActsBefore s 0 wrote.acts) (sym e) wrote.fine), tt);
   grows = wrote.grows;
-  named = subst (λ c. AllByRecursion (NamesWithin (length names.parties) (length names.messages) (length u.texts)) (c ++ instr.End b ∷ [])) (sym (plain_code wrote.acts))
-      (each-append (NamesWithin (length names.parties) (length names.messages) (length u.texts)) wrote.acts (instr.End b ∷ []) wrote.named (tt, tt));
+  scope = wrote.scope;
+  named = λ few. subst (λ c. AllByRecursion (NamesWithin (allows names w.scope (length u.texts))) (c ++ instr.End b ∷ [])) (sym (plain_code wrote.acts))
+      (each-append (NamesWithin (allows names w.scope (length u.texts))) wrote.acts (instr.End b ∷ []) (wrote.named few) (tt, tt));
   texts = wrote.texts;
 }
 
@@ -322,10 +423,6 @@ bodies-append : (ps qs : List Part) → map body_of (ps ++ qs) ≡ map body_of p
 bodies-append [] qs = refl
 bodies-append (p ∷ ps) qs = ap (λ (l : List Body). p.body ∷ l) (bodies-append ps qs)
 
-names_grow_all : (agents messages t u : ℕ) (is : List Instr) → t ≤ u → AllByRecursion (NamesWithin agents messages t) is → AllByRecursion (NamesWithin agents messages u) is
-names_grow_all agents messages t u [] l a = tt
-names_grow_all agents messages t u (i ∷ is) l a = (names_grow agents messages t u i l a.0, names_grow_all agents messages t u is l a.1)
-
 joined : (names : Declared) (w u v : Writer) (bs cs : List Body) → WroteParts names w u bs → WroteParts names u v cs → WroteParts names w v (bs ++ cs)
 joined names w u v bs cs a b = record {
   parts = a.parts ++ b.parts;
@@ -333,8 +430,11 @@ joined names w u v bs cs a b = record {
   made = bodies-append a.parts b.parts ∙ (ap (λ l. l ++ map body_of b.parts) a.made ∙ ap (λ l. bs ++ l) b.made);
   each = each-append IsPart a.parts b.parts a.each b.each;
   grows = omega (arith, a.grows, b.grows);
-  named = subst (AllByRecursion (NamesWithin (length names.parties) (length names.messages) (length v.texts))) (sym (flatten-append a.parts b.parts))
-      (each-append (NamesWithin (length names.parties) (length names.messages) (length v.texts)) (flatten a.parts) (flatten b.parts) (names_grow_all _ _ _ _ (flatten a.parts) b.grows a.named) b.named);
+  scope = b.scope ∙ a.scope;
+  named = λ few. subst (AllByRecursion (NamesWithin (allows names w.scope (length v.texts)))) (sym (flatten-append a.parts b.parts))
+      (each-append (NamesWithin (allows names w.scope (length v.texts))) (flatten a.parts) (flatten b.parts)
+      (each-weaker (NamesWithin (allows names w.scope (length u.texts))) (NamesWithin (allows names w.scope (length v.texts))) (λ i h. names_grow _ _ i (texts_grow names w.scope w.scope (length u.texts) (length v.texts) refl b.grows) h) (flatten a.parts) (a.named few))
+      (subst (λ (x : Scope). AllByRecursion (NamesWithin (allows names x (length v.texts))) (flatten b.parts)) a.scope (b.named (same_few w.scope u.scope a.scope few))));
   texts = λ t. b.texts (a.texts t);
 }
 
@@ -343,7 +443,7 @@ row_bodies k zero = []
 row_bodies k (suc n) = row_body k ∷ row_bodies (suc k) n
 
 no_rows : (names : Declared) (w : Writer) → WroteParts names w w []
-no_rows names w = record { parts = []; same = sym (append-nil w.code); made = refl; each = tt; grows = omega arith; named = tt; texts = λ a. a }
+no_rows names w = record { parts = []; same = sym (append-nil w.code); made = refl; each = tt; grows = omega arith; scope = refl; named = λ few. tt; texts = λ a. a }
 
 wrote_rows : (names : Declared) (k : ℕ) (w : Writer) (ds : Items) → WroteParts names w (rows_written names k w ds) (row_bodies k (items_len ds))
 unfolding rows_written row_bodies
@@ -353,16 +453,13 @@ wrote_rows names k w (item d ds) =
     (wrote_body names (row_body k) w (get (codes "do") d) refl)
     (wrote_rows names (suc k) (body_written names (row_body k) w (get (codes "do") d)) ds)
 
-abbrev pub rows_in : Data → Items
-rows_in d = list_of (get (codes "on") d)
-
-wrote_agent : (names : Declared) (w : Writer) (d : Data) → WroteParts names w (agent_written names w d) (body.Start ∷ body.Finish ∷ row_bodies 0 (items_len (rows_in d)))
+wrote_agent : (names : Declared) (w : Writer) (d : Data) → WroteParts names w (agent_written names w d) (body.Start ∷ body.Finish ∷ row_bodies 0 (items_len (row_items d)))
 wrote_agent names w d =
-    joined names w _ _ (body.Start ∷ []) (body.Finish ∷ row_bodies 0 (items_len (list_of (get (codes "on") d))))
+    joined names w _ _ (body.Start ∷ []) (body.Finish ∷ row_bodies 0 (items_len (row_items d)))
     (wrote_body names body.Start w (get (codes "start") d) refl)
-    (joined names _ _ _ (body.Finish ∷ []) (row_bodies 0 (items_len (list_of (get (codes "on") d))))
+    (joined names _ _ _ (body.Finish ∷ []) (row_bodies 0 (items_len (row_items d)))
     (wrote_body names body.Finish (body_written names body.Start w (get (codes "start") d)) (get (codes "finish") d) refl)
-    (wrote_rows names 0 _ (list_of (get (codes "on") d))))
+    (wrote_rows names 0 _ (row_items d)))
 
 -- ---- the code of an agent
 
@@ -417,40 +514,37 @@ few_rows ps n e l =
     let long : length (map body_of ps) ≡ suc (suc (length (row_bodies 0 n))) = ap length e in
     omega (arith, l, long, length_parts ps, length_bodies ps, length_rows 0 n)
 
-pub record IsWritten (names : Declared) (d : Data) (instrs : List Instr) (texts : ℕ) : Type 0 where
+pub record IsWritten (names : Declared) (scope : Scope) (d : Data) (instrs : List Instr) (texts : ℕ) : Type 0 where
   pub code : IsCode instrs
-  pub bodies : bodies_in instrs ≡ agent_bodies 0 (row_numbers (items_len (rows_in d)))
-  pub named : AllByRecursion (NamesWithin (length names.parties) (length names.messages) texts) instrs
+  pub bodies : bodies_in instrs ≡ agent_bodies 0 (row_numbers (items_len (row_items d)))
+  pub named : HasFewIds scope → AllByRecursion (NamesWithin (allows names scope texts)) instrs
 
-written_parts : (names : Declared) (w v : Writer) (d : Data) → WroteParts names w v (body.Start ∷ body.Finish ∷ row_bodies 0 (items_len (rows_in d))) → w.code ≡ [] → length v.code ≤ 1024 → IsWritten names d v.code (length v.texts)
+written_parts : (names : Declared) (w v : Writer) (d : Data) → WroteParts names w v (body.Start ∷ body.Finish ∷ row_bodies 0 (items_len (row_items d))) → w.code ≡ [] → length v.code ≤ 1024 → IsWritten names w.scope d v.code (length v.texts)
 written_parts names w v d p e l =
     let same : v.code ≡ flatten p.parts = p.same ∙ ap (λ (c : List Instr). c ++ flatten p.parts) e in
     let few : length (flatten p.parts) ≤ 1024 = subst (λ (c : List Instr). length c ≤ 1024) same l in
-    let n : items_len (rows_in d) ≤ 2 ^ 32 - 1 = few_rows p.parts (items_len (rows_in d)) p.made few in
-    let order : AreInOrder (map body_of p.parts) = subst AreInOrder (sym p.made) (inl (agent_order (items_len (rows_in d)) n)) in
+    let n : items_len (row_items d) ≤ 2 ^ 32 - 1 = few_rows p.parts (items_len (row_items d)) p.made few in
+    let order : AreInOrder (map body_of p.parts) = subst AreInOrder (sym p.made) (inl (agent_order (items_len (row_items d)) n)) in
     record {
       code = subst IsCode (sym same) (structured p.parts few order p.each);
-      bodies = ap bodies_in same ∙ (bodies_in-flatten p.parts p.each ∙ (p.made ∙ ap (λ (bs : List Body). body.Start ∷ body.Finish ∷ bs) (rows_are 0 (items_len (rows_in d)) (omega (arith, n)))));
-      named = subst (AllByRecursion (NamesWithin (length names.parties) (length names.messages) (length v.texts))) (sym same) p.named;
+      bodies = ap bodies_in same ∙ (bodies_in-flatten p.parts p.each ∙ (p.made ∙ ap (λ (bs : List Body). body.Start ∷ body.Finish ∷ bs) (rows_are 0 (items_len (row_items d)) (omega (arith, n)))));
+      named = λ few. subst (AllByRecursion (NamesWithin (allows names w.scope (length v.texts)))) (sym same) (p.named few);
     }
 
-pub agent_is_written : (names : Declared) (w : Writer) (d : Data) → w.code ≡ [] → length (agent_written names w d).code ≤ 1024 → IsWritten names d (agent_written names w d).code (length (agent_written names w d).texts)
+pub agent_is_written : (names : Declared) (w : Writer) (d : Data) → w.code ≡ [] → length (agent_written names w d).code ≤ 1024
+    → IsWritten names w.scope d (agent_written names w d).code (length (agent_written names w d).texts)
 agent_is_written names w d e l = written_parts names w (agent_written names w d) d (wrote_agent names w d) e l
 
 pub agent_grows : (names : Declared) (w : Writer) (d : Data) → length w.texts ≤ length (agent_written names w d).texts
 agent_grows names w d = (wrote_agent names w d).grows
 
+pub agent_scope : (names : Declared) (w : Writer) (d : Data) → (agent_written names w d).scope ≡ w.scope
+agent_scope names w d = (wrote_agent names w d).scope
+
 pub agent_texts : (names : Declared) (w : Writer) (d : Data) → AllByRecursion (λ t. is_text t ≡ true) w.texts → AllByRecursion (λ t. is_text t ≡ true) (agent_written names w d).texts
 agent_texts names w d = (wrote_agent names w d).texts
 
-abbrev ok : {S : Type 0} → S → Result S SceneFault
-ok x = Ok x
-
-ok_same : {S : Type 0} (a b : S) → ok a ≡ Ok b → a ≡ b
-ok_same a b e = cc
-
-pub code_of_writer : (names : Declared) (w v : Writer) (d : Data) (code : List Instr) → ok (agent_written names w d) ≡ Ok v → w.code ≡ [] → code ≡ v.code → length v.code ≤ 1024 → IsCode code
-code_of_writer names w v d code e empty same l =
-    let written : agent_written names w d ≡ v = ok_same _ _ e in
+pub code_of_writer : (names : Declared) (w v : Writer) (d : Data) (code : List Instr) → agent_written names w d ≡ v → w.code ≡ [] → code ≡ v.code → length v.code ≤ 1024 → IsCode code
+code_of_writer names w v d code written empty same l =
     subst IsCode (ap (λ (x : Writer). x.code) written ∙ sym same)
     (agent_is_written names w d empty (subst (λ (x : Writer). length x.code ≤ 1024) (sym written) l)).code

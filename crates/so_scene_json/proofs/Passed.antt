@@ -1,13 +1,17 @@
--- What the first and the third pass make sure of, at each visit.
-use Rattle.std.proofs.Common.{◌≡◌, ℕ, suc, ◌+◌, ◌≤◌, List, [], ◌∷◌, ◌++◌, Bool, true, false, Option, Some, None, Result, Ok, refl, sym, ap, subst, arith, codes, if◌then◌else◌, nat_le}
-use Rattle.std.proofs.lemmas.Bool.{leb-true}
-use Rattle.std.specs.List.{AllByRecursion}
+-- What the first three passes make sure of, at each visit.
+use Rattle.std.proofs.Common.{◌≡◌, ℕ, zero, suc, ◌+◌, ◌<◌, ◌≤◌, List, [], ◌∷◌, ◌++◌, length, get_or, Bool, true, false, ◌||◌, Option, Some, None, is_some, Result, Ok, Err, refl, sym, ap, ◌∙◌, subst, arith, codes, if◌then◌else◌, nat_le, bytes_eq}
+use Rattle.std.proofs.lemmas.Bool.{leb-true, true≢false}
+use Rattle.std.proofs.lemmas.Slice.Eq.{bytes_eq-Decides}
+use Rattle.std.specs.List.{AllByRecursion, IsDistinct}
 use Rattle.std.specs.Option.{option_and_then}
 use Rattle.serde_json.specs.Data.{Data, Items, no_items, item, null, boolean, number, string, array, object as object_data}
 use Rattle.serde_json.specs.Events.{items_len}
-use Rattle.serde_json.specs.Find.{as_str, get}
+use Rattle.serde_json.specs.Find.{as_str, as_array, get}
+use Rattle.so_scene.specs.Checked.{given}
+use Rattle.so_scene.specs.Faults.{spelling}
 use Rattle.so_scene.specs.Names.{has_name}
 use Rattle.so_scene.specs.Words.{is_name}
+use Rattle.so_scene.specs.declared.place.Field.{Field}
 use Rattle.so_scene.specs.declared.place.Field.TheVariants as field
 use Rattle.so_scene.specs.declared.fault.SceneFault.{SceneFault}
 use Rattle.so_scene_json.specs.declared.declare.Declared.{Declared}
@@ -15,95 +19,122 @@ use Rattle.so_scene_json.specs.declared.known.Known.{Known}
 use Rattle.so_scene_json.specs.declared.shape.Shape.{Shape}
 use Rattle.so_scene_json.specs.declared.table.ObjectKind.{ObjectKind}
 use Rattle.so_scene_json.specs.declared.table.ObjectKind.TheVariants as object
+use Rattle.so_scene_json.specs.declared.table.Space.{Space}
 use Rattle.so_scene_json.specs.declared.table.Space.TheVariants as space
+use Rattle.so_scene_json.specs.declared.table.Form.{Form}
 use Rattle.so_scene_json.specs.declared.table.Form.TheVariants as form
 use Rattle.so_scene_json.specs.declared.table.Rule.{Rule}
+use Rattle.so_scene_json.specs.declared.values.Trouble.{Trouble}
 use Rattle.so_scene_json.specs.declared.values.Trouble.TheVariants.{WrongShape, UnknownName, OutOfRange}
-use Rattle.so_scene_json.specs.Table.{required, optional, later}
-use Rattle.so_scene_json.specs.Values.{checked, trouble, text_or_empty, string_in, ◌else◌}
-use Rattle.so_scene_json.specs.Visits.{Visit, enters, tries, leaves, Place, visits, fields_of, field_visits, items_from, at_item, list_of, run, ◌>>=◌}
-use Rattle.so_scene_json.specs.Shape.{shape_step, shape_fault, unless_faulty, field_fault, form_fault, trouble_at, first_of, object_trouble}
-use Rattle.so_scene_json.specs.Known.{known_step, known_fault, knows, field_unknown, name_trouble}
-use Rattle.so_lists.proofs.Filters.{each-append}
-use Rattle.so_scene.specs.declared.place.PlaceStep.TheVariants.{Key}
-use Rattle.so_scene_json.proofs.Codes.{rows_in}
+use Rattle.so_scene_json.specs.Table.{rules_of, objects_of, required, optional, later}
+use Rattle.so_scene_json.specs.Values.{checked, trouble, name_of, text_or_empty, string_in, id_in, ◌else◌}
+use Rattle.so_scene_json.specs.Visits.{Visit, enters, tries, leaves, Place, visits, fields_of, field_visits, in_objects, items_from, at_item, at_key, list_of, listed, run, ◌>>=◌}
+use Rattle.so_scene_json.specs.Shape.{shape_step, shape_fault, unless_faulty, field_fault, trouble_at, list_trouble, first_of, object_trouble, name_trouble as shape_name_trouble}
+use Rattle.so_scene_json.specs.Scope.{ids_of, row_items, filter_items}
+use Rattle.so_scene_json.specs.Twice.{twice_step, names_in, with_name, with_field, with_mbox_read, with_mboxes, declared_name}
+use Rattle.so_scene_json.specs.Known.{known_step, entered, field_unknown, name_trouble}
+use Rattle.so_lists.proofs.Filters.{each-append, each-weaker}
+use Rattle.so_scene.proofs.Positions.{absent_any, no_names as no_distinct}
+use Rattle.so_scene_json.proofs.Joined.{absent_first, absent_second}
+use Rattle.so_scene_json.proofs.Runs.{run-append}
 
--- ---- a pass that keeps its state passes each visit
-
-abbrev ok : {S : Type 0} → S → Result S SceneFault
+abbrev pub ok : {S : Type 0} → S → Result S SceneFault
 ok x = Ok x
 
-pub record Passes {S : Type 0} (f : S → Visit → Option SceneFault) (s t : S) (vs : List Visit) : Type 0 where
-  pub same : t ≡ s
-  pub each : AllByRecursion (λ v. f s v ≡ None) vs
+pub ok_same : {S : Type 0} (s t : S) → ok s ≡ Ok t → s ≡ t
+ok_same s t e = cc
 
-same_ok : {S : Type 0} (s t : S) → ok s ≡ Ok t → s ≡ t
-same_ok s t e = cc
+-- ---- the first pass
 
 passed_one : {S : Type 0} (f : S → Visit → Option SceneFault) (s t : S) (v : Visit) (vs : List Visit) (o : Option SceneFault) → f s v ≡ o
-    → (run (λ s v. unless_faulty s (f s v)) s vs ≡ Ok t → Passes f s t vs)
-    → (unless_faulty s o >>= λ u. run (λ s v. unless_faulty s (f s v)) u vs) ≡ Ok t → Passes f s t (v ∷ vs)
-passed_one f s t v vs None e more h = let p = more h in record { same = p.same; each = (e, p.each) }
+    → (run (λ s v. unless_faulty s (f s v)) s vs ≡ Ok t → AllByRecursion (λ v. f s v ≡ None) vs)
+    → (unless_faulty s o >>= λ u. run (λ s v. unless_faulty s (f s v)) u vs) ≡ Ok t → AllByRecursion (λ v. f s v ≡ None) (v ∷ vs)
+passed_one f s t v vs None e more h = (e, more h)
 passed_one f s t v vs (Some x) e more h = absurd cc
 
-pub passes_each : {S : Type 0} (f : S → Visit → Option SceneFault) (s t : S) (vs : List Visit) → run (λ s v. unless_faulty s (f s v)) s vs ≡ Ok t → Passes f s t vs
+passes_each : {S : Type 0} (f : S → Visit → Option SceneFault) (s t : S) (vs : List Visit) → run (λ s v. unless_faulty s (f s v)) s vs ≡ Ok t → AllByRecursion (λ v. f s v ≡ None) vs
 unfolding run
-passes_each f s t [] h = record { same = sym (same_ok s t h); each = tt }
+passes_each f s t [] h = tt
 passes_each f s t (v ∷ vs) h = passed_one f s t v vs (f s v) refl (passes_each f s t vs) h
 
--- ---- what a visit passes
+-- ---- the third pass
 
--- it has the shape that it should, and the names that it uses are declared
+abbrev pub AreKnown : Declared → Form → Place → Option Data → Type 0
+AreKnown names (form.NameIn space) place (Some d) = trouble_at place (name_trouble names space (as_str d)) ≡ None
+AreKnown names other place found = Unit {0}
+
+-- a name that the field uses is declared
+abbrev pub IsKnown : Declared → Visit → Type 0
+IsKnown names (enters kind place d) = Unit {0}
+IsKnown names (tries rule place found) = AreKnown names rule.form place found
+IsKnown names (leaves kind place d) = Unit {0}
+
+record Knew (k t : Known) (v : Visit) : Type 0 where
+  names : t.names ≡ k.names
+  known : IsKnown k.names v
+
+record Ended {S : Type 0} (s t : S) (o : Option SceneFault) : Type 0 where
+  same : s ≡ t
+  none : o ≡ None
+
+no_fault : {S : Type 0} (s t : S) (o : Option SceneFault) → unless_faulty s o ≡ Ok t → Ended s t o
+no_fault s t None e = record { same = ok_same s t e; none = refl }
+no_fault s t (Some x) e = absurd cc
+
+known_form : (k : Known) (f : Form) (place : Place) (found : Option Data) → field_unknown k f place found ≡ None → AreKnown k.names f place found
+known_form k (form.NameIn space) place (Some d) e = e
+known_form k (form.NameIn space) place None e = tt
+known_form k other place found e = tt
+
+knew : (k t : Known) (v : Visit) → known_step k v ≡ Ok t → Knew k t v
+knew k t (enters object.Agent place d) e = record { names = ap (λ (x : Known). x.names) (sym (ok_same (entered object.Agent d k) t e)); known = tt }
+knew k t (enters other place d) e = record { names = ap (λ (x : Known). x.names) (sym (ok_same k t e)); known = tt }
+knew k t (tries rule place found) e =
+    let p = no_fault k t (field_unknown k rule.form place found) e in
+    record { names = ap (λ (x : Known). x.names) (sym p.same); known = known_form k rule.form place found p.none }
+knew k t (leaves kind place d) e = record { names = ap (λ (x : Known). x.names) (sym (ok_same k t e)); known = tt }
+
+pub record KnewAll (k t : Known) (vs : List Visit) : Type 0 where
+  pub names : t.names ≡ k.names
+  pub each : AllByRecursion (IsKnown k.names) vs
+
+knew_more : (k t : Known) (v : Visit) (vs : List Visit) (r : Result Known SceneFault) → known_step k v ≡ r → ((u : Known) → run known_step u vs ≡ Ok t → KnewAll u t vs) → (r >>= λ u. run known_step u vs) ≡ Ok t → KnewAll k t (v ∷ vs)
+knew_more k t v vs (Ok u) e more h =
+    let one = knew k u v e in
+    let rest = more u h in
+    record { names = rest.names ∙ one.names; each = (one.known, subst (λ n. AllByRecursion (IsKnown n) vs) one.names rest.each) }
+knew_more k t v vs (Err x) e more h = absurd cc
+
+knew_all : (k t : Known) (vs : List Visit) → run known_step k vs ≡ Ok t → KnewAll k t vs
+unfolding run
+knew_all k t [] h = record { names = ap (λ (x : Known). x.names) (sym (ok_same k t h)); each = tt }
+knew_all k t (v ∷ vs) h = knew_more k t v vs (known_step k v) refl (λ u r. knew_all u t vs r) h
+
+-- ---- what visits pass
+
+-- a visit has the shape that it should, and the names that it uses are declared
 abbrev pub IsFine : Declared → Visit → Type 0
-IsFine names v = (shape_fault v ≡ None) × (known_fault names v ≡ None)
+IsFine names v = (shape_fault v ≡ None) × IsKnown names v
 
-both_each : (names : Declared) (vs : List Visit) → AllByRecursion (λ v. shape_fault v ≡ None) vs → AllByRecursion (λ v. known_fault names v ≡ None) vs → AllByRecursion (IsFine names) vs
+both_each : (names : Declared) (vs : List Visit) → AllByRecursion (λ v. shape_fault v ≡ None) vs → AllByRecursion (IsKnown names) vs → AllByRecursion (IsFine names) vs
 both_each names [] a b = tt
 both_each names (v ∷ vs) a b = ((a.0, b.0), both_each names vs a.1 b.1)
 
-pub fine_each : (names : Declared) (shape shaped : Shape) (known : Known) (vs : List Visit) → run shape_step shape vs ≡ Ok shaped → run known_step (knows names) vs ≡ Ok known → (known.names ≡ names) × AllByRecursion (IsFine names) vs
-fine_each names shape shaped known vs e f =
-    let p = passes_each (λ s v. shape_fault v) shape shaped vs e in
-    let q = passes_each (λ (s : Known) v. known_fault s.names v) (knows names) known vs f in
-    (ap (λ (k : Known). k.names) q.same, both_each names vs p.each q.each)
+-- so do these, and somewhere the second pass goes over them
+pub record ArePassed (names : Declared) (vs : List Visit) : Type 0 where
+  pub each : AllByRecursion (IsFine names) vs
+  pub begins : Declared
+  pub ends : Declared
+  pub runs : run twice_step begins vs ≡ Ok ends
 
--- ---- what an agent's visit stands for
+record Split {S : Type 0} (r : Result S SceneFault) (f : S → Result S SceneFault) (t : S) : Type 0 where
+  between : S
+  first : r ≡ Ok between
+  second : f between ≡ Ok t
 
-abbrev pub HasRow : Declared → Data → Type 0
-HasRow names d = has_name names.messages (string_in (codes "msg") d) ≡ true
-
-abbrev pub HaveRows : Declared → Items → Type 0
-HaveRows names no_items = Unit {0}
-HaveRows names (item d ds) = HasRow names d × HaveRows names ds
-
--- an agent has few rows, each of a type that is declared
-pub record IsFineAgent (names : Declared) (d : Data) : Type 0 where
-  pub few : items_len (rows_in d) ≤ 128
-  pub rows : HaveRows names (rows_in d)
-
-abbrev pub EntersFine : Declared → Visit → Type 0
-EntersFine names (enters object.Agent place d) = IsFineAgent names d
-EntersFine names (enters other place d) = Unit {0}
-EntersFine names (tries rule place found) = Unit {0}
-EntersFine names (leaves kind place d) = Unit {0}
-
--- ---- a row
-
-known_name : (names : Declared) (place : Place) (text : List ℕ) (b : Bool) → has_name names.messages text ≡ b → trouble_at place (if b then None else Some UnknownName) ≡ None → has_name names.messages text ≡ true
-known_name names place text true e h = e
-known_name names place text false e h = absurd cc
-
-known_string : (names : Declared) (place : Place) (o : Option (List ℕ)) → trouble_at place (trouble (option_and_then (checked is_name) o else WrongShape)) ≡ None → trouble_at place (name_trouble names space.Messages o) ≡ None → has_name names.messages (text_or_empty o) ≡ true
-known_string names place None e h = absurd cc
-known_string names place (Some text) e h = known_name names place text (has_name names.messages text) refl h
-
-known_field : (names : Declared) (place : Place) (found : Option Data) → field_fault (required field.Msg (form.NameIn space.Messages)) place found ≡ None → field_unknown names (form.NameIn space.Messages) place found ≡ None → has_name names.messages (text_or_empty (option_and_then as_str found)) ≡ true
-known_field names place None e h = absurd cc
-known_field names place (Some d) e h = known_string names place (as_str d) e h
-
-fine_row : (names : Declared) (place : Place) (d : Data) → AllByRecursion (IsFine names) (visits 1 object.Row place d) → HasRow names d
-unfolding visits fields_of field_visits
-fine_row names place d a = known_field names _ (get (codes "msg") d) a.1.1.0.0 a.1.1.0.1
+split : {S : Type 0} (r : Result S SceneFault) (f : S → Result S SceneFault) (t : S) → (r >>= f) ≡ Ok t → Split r f t
+split (Ok u) f t e = record { between = u; first = refl; second = e }
+split (Err x) f t e = absurd cc
 
 front : {X : Type 0} (P : X → Type 0) (xs ys : List X) → AllByRecursion P (xs ++ ys) → AllByRecursion P xs
 front P [] ys a = tt
@@ -113,109 +144,385 @@ back : {X : Type 0} (P : X → Type 0) (xs ys : List X) → AllByRecursion P (xs
 back P [] ys a = a
 back P (x ∷ xs) ys a = back P xs ys a.1
 
-fine_rows : (names : Declared) (place : Place) (i : ℕ) (ds : Items) → AllByRecursion (IsFine names) (items_from (visits 1 object.Row) place i ds) → HaveRows names ds
+halves : (s t : Declared) (xs ys : List Visit) → run twice_step s (xs ++ ys) ≡ Ok t → Split (run twice_step s xs) (λ u. run twice_step u ys) t
+halves s t xs ys e = split (run twice_step s xs) (λ u. run twice_step u ys) t (sym (run-append twice_step s xs ys) ∙ e)
+
+passed_front : (names : Declared) (xs ys : List Visit) → ArePassed names (xs ++ ys) → ArePassed names xs
+passed_front names xs ys p =
+    let h = halves p.begins p.ends xs ys p.runs in
+    record { each = front (IsFine names) xs ys p.each; begins = p.begins; ends = h.between; runs = h.first }
+
+passed_back : (names : Declared) (xs ys : List Visit) → ArePassed names (xs ++ ys) → ArePassed names ys
+passed_back names xs ys p =
+    let h = halves p.begins p.ends xs ys p.runs in
+    record { each = back (IsFine names) xs ys p.each; begins = h.between; ends = p.ends; runs = h.second }
+
+passed_tail : (names : Declared) (v : Visit) (vs : List Visit) → ArePassed names (v ∷ vs) → ArePassed names vs
+passed_tail names v vs p = passed_back names (v ∷ []) vs p
+
+pub passed_all : (names declared : Declared) (shape shaped : Shape) (k known : Known) (vs : List Visit) → k.names ≡ names → run shape_step shape vs ≡ Ok shaped → run twice_step declared vs ≡ Ok names → run known_step k vs ≡ Ok known → (known.names ≡ names) × ArePassed names vs
+passed_all names declared shape shaped k known vs n e f g =
+    let q = knew_all k known vs g in (
+      q.names ∙ n,
+      record {
+        each = both_each names vs (passes_each (λ s v. shape_fault v) shape shaped vs e) (subst (λ m. AllByRecursion (IsKnown m) vs) n q.each);
+        begins = declared;
+        ends = names;
+        runs = f;
+      },
+    )
+
+-- ---- the fields of an object
+
+passed_field : (names : Declared) (inside : ObjectKind → Place → Data → List Visit) (rules : List Rule) (k : ℕ) (default : Rule) (place : Place) (d : Data) → k < length rules
+    → ArePassed names (fields_of inside rules place d) → ArePassed names (field_visits inside (get_or rules k default) place d)
+unfolding fields_of
+passed_field names inside [] k default place d l p = absurd (omega arith)
+passed_field names inside (rule ∷ rules) zero default place d l p = passed_front names (field_visits inside rule place d) (fields_of inside rules place d) p
+passed_field names inside (rule ∷ rules) (suc k) default place d l p =
+    passed_field names inside rules k default place d (omega arith) (passed_back names (field_visits inside rule place d) (fields_of inside rules place d) p)
+
+abbrev found_in : Rule → Data → Option Data
+found_in rule d = get (spelling rule.field) d
+
+passed_try : (names : Declared) (inside : ObjectKind → Place → Data → List Visit) (rule : Rule) (place : Place) (d : Data) → ArePassed names (field_visits inside rule place d) → IsFine names (tries rule (at_key place rule) (found_in rule d))
+unfolding field_visits
+passed_try names inside rule place d p = p.each.0
+
+passed_inside : (names : Declared) (inside : ObjectKind → Place → Data → List Visit) (rule : Rule) (place : Place) (d : Data) → ArePassed names (field_visits inside rule place d) → ArePassed names (in_objects inside (objects_of rule.form) (at_key place rule) (found_in rule d))
+unfolding field_visits
+passed_inside names inside rule place d p = passed_tail names (tries rule (at_key place rule) (found_in rule d)) (in_objects inside (objects_of rule.form) (at_key place rule) (found_in rule d)) p
+
+abbrev inner : ℕ → ObjectKind → Place → Data → List Visit
+inner n kind place d = fields_of (visits n) (rules_of kind) place d
+
+passed_fields : (names : Declared) (n : ℕ) (kind : ObjectKind) (place : Place) (d : Data) → ArePassed names (visits (suc n) kind place d) → ArePassed names (inner n kind place d)
+unfolding visits
+passed_fields names n kind place d p =
+    passed_front names (inner n kind place d) (leaves kind place d ∷ []) (passed_tail names (enters kind place d) (inner n kind place d ++ leaves kind place d ∷ []) p)
+
+-- ---- a name that a field uses
+
+known_name : (names : Declared) (space : Space) (place : Place) (text : List ℕ) (b : Bool) → has_name (names_in space names) text ≡ b → trouble_at place (if b then None else Some UnknownName) ≡ None → has_name (names_in space names) text ≡ true
+known_name names space place text true e h = e
+known_name names space place text false e h = absurd cc
+
+known_string : (names : Declared) (space : Space) (place : Place) (o : Option (List ℕ)) → trouble_at place (trouble (option_and_then (checked is_name) o else WrongShape)) ≡ None → trouble_at place (name_trouble names space o) ≡ None → has_name (names_in space names) (text_or_empty o) ≡ true
+known_string names space place None e h = absurd cc
+known_string names space place (Some text) e h = known_name names space place text (has_name (names_in space names) text) refl h
+
+known_field : (names : Declared) (space : Space) (f : Field) (place : Place) (found : Option Data) → IsFine names (tries (required f (form.NameIn space)) place found) → has_name (names_in space names) (text_or_empty (option_and_then as_str found)) ≡ true
+known_field names space f place None h = absurd cc
+known_field names space f place (Some d) h = known_string names space place (as_str d) h.0 h.1
+
+known_if_there : (names : Declared) (space : Space) (f : Field) (place : Place) (found : Option Data) → IsFine names (tries (optional f (form.NameIn space)) place found) → is_some found ≡ true → has_name (names_in space names) (text_or_empty (option_and_then as_str found)) ≡ true
+known_if_there names space f place None h there = absurd (true≢false (sym there))
+known_if_there names space f place (Some d) h there = known_string names space place (as_str d) h.0 h.1
+
+-- ---- rows and filters
+
+pub record HasRow (names : Declared) (d : Data) : Type 0 where
+  pub msg : has_name names.messages (string_in (codes "msg") d) ≡ true
+  pub mbox : is_some (get (codes "mbox") d) ≡ true → has_name (names.agents ++ names.mboxes) (string_in (codes "mbox") d) ≡ true
+
+pub record HasFilter (names : Declared) (d : Data) : Type 0 where
+  pub msg : has_name names.messages (string_in (codes "msg") d) ≡ true
+  pub mbox : has_name (names.agents ++ names.mboxes) (string_in (codes "mbox") d) ≡ true
+
+no_rule : Rule
+no_rule = later field.Id
+
+fine_try : (names : Declared) (n : ℕ) (kind : ObjectKind) (k : ℕ) (place : Place) (d : Data) → k < length (rules_of kind) → ArePassed names (visits (suc n) kind place d)
+    → IsFine names (tries (get_or (rules_of kind) k no_rule) (at_key place (get_or (rules_of kind) k no_rule)) (found_in (get_or (rules_of kind) k no_rule) d))
+fine_try names n kind k place d l p = passed_try names (visits n) (get_or (rules_of kind) k no_rule) place d (passed_field names (visits n) (rules_of kind) k no_rule place d l (passed_fields names n kind place d p))
+
+fine_row : (names : Declared) (n : ℕ) (place : Place) (d : Data) → ArePassed names (visits (suc n) object.Row place d) → HasRow names d
+fine_row names n place d p = record {
+  msg = known_field names space.Messages field.Msg _ (get (codes "msg") d) (fine_try names n object.Row 1 place d (omega arith) p);
+  mbox = λ there. known_if_there names space.Mboxes field.Mbox _ (get (codes "mbox") d) (fine_try names n object.Row 2 place d (omega arith) p) there;
+}
+
+fine_filter : (names : Declared) (n : ℕ) (place : Place) (d : Data) → ArePassed names (visits (suc n) object.Filter place d) → HasFilter names d
+fine_filter names n place d p = record {
+  msg = known_field names space.Messages field.Msg _ (get (codes "msg") d) (fine_try names n object.Filter 2 place d (omega arith) p);
+  mbox = known_field names space.Mboxes field.Mbox _ (get (codes "mbox") d) (fine_try names n object.Filter 1 place d (omega arith) p);
+}
+
+-- what each object of a list has
+each_item : (names : Declared) (P : Data → Type 0) (inside : Place → Data → List Visit) → ((place : Place) (d : Data) → ArePassed names (inside place d) → P d) → (place : Place) (i : ℕ) (ds : Items) → ArePassed names (items_from inside place i ds) → AllByRecursion P (listed ds)
 unfolding items_from
-fine_rows names place i no_items a = tt
-fine_rows names place i (item d ds) a = (
-  fine_row names (at_item place i) d (front (IsFine names) (visits 1 object.Row (at_item place i) d) (items_from (visits 1 object.Row) place (suc i) ds) a),
-  fine_rows names place (suc i) ds (back (IsFine names) (visits 1 object.Row (at_item place i) d) (items_from (visits 1 object.Row) place (suc i) ds) a),
+each_item names P inside h place i no_items p = tt
+each_item names P inside h place i (item d ds) p = (
+  h (at_item place i) d (passed_front names (inside (at_item place i) d) (items_from inside place (suc i) ds) p),
+  each_item names P inside h place (suc i) ds (passed_back names (inside (at_item place i) d) (items_from inside place (suc i) ds) p),
 )
 
--- ---- the limit of a list of objects
+-- ---- ids: each is declared once
 
-limit_items : (place : Place) (limit : ℕ) (ds : Items) (b : Bool) → nat_le (items_len ds) limit ≡ b → trouble_at place (if b then first_of object_trouble ds else Some OutOfRange) ≡ None → items_len ds ≤ limit
-limit_items place limit ds true e h = leb-true (items_len ds) limit e
-limit_items place limit ds false e h = absurd cc
+record SameIds (s t : Declared) : Type 0 where
+  rows : t.rows ≡ s.rows
+  filters : t.filters ≡ s.filters
 
-limit_value : (kind : ObjectKind) (limit : ℕ) (place : Place) (d : Data) → form_fault (form.Objects kind (Some limit)) place d ≡ None → items_len (list_of (Some d)) ≤ limit
-limit_value kind limit place null h = absurd cc
-limit_value kind limit place (boolean b) h = absurd cc
-limit_value kind limit place (number n) h = absurd cc
-limit_value kind limit place (string s) h = absurd cc
-limit_value kind limit place (array ds) h = limit_items place limit ds (nat_le (items_len ds) limit) refl h
-limit_value kind limit place (object_data ms) h = absurd cc
+kept_ids : (s t : Declared) → s ≡ t → SameIds s t
+kept_ids s t e = record { rows = ap (λ (x : Declared). x.rows) (sym e); filters = ap (λ (x : Declared). x.filters) (sym e) }
 
-pub limit_field : (rule : Rule) (kind : ObjectKind) (limit : ℕ) (place : Place) (found : Option Data) → rule.form ≡ form.Objects kind (Some limit) → field_fault rule place found ≡ None → items_len (list_of found) ≤ limit
-limit_field rule kind limit place None e h = omega arith
-limit_field rule kind limit place (Some d) e h = limit_value kind limit place d (subst (λ f. form_fault f place d ≡ None) e h)
+then_ids : (s t u : Declared) → SameIds s t → SameIds t u → SameIds s u
+then_ids s t u a b = record { rows = b.rows ∙ a.rows; filters = b.filters ∙ a.filters }
+
+mbox_ids : (b : Bool) (s : Declared) (name : List ℕ) → SameIds s (if b then s else record s { mboxes = s.mboxes ++ name ∷ [] })
+mbox_ids true s name = record { rows = refl; filters = refl }
+mbox_ids false s name = record { rows = refl; filters = refl }
+
+read_ids : (r : Result (List ℕ) Trouble) (s : Declared) → SameIds s (with_mbox_read r s)
+read_ids (Ok name) s = mbox_ids (has_name (names_in space.Mboxes s) name) s name
+read_ids (Err t) s = record { rows = refl; filters = refl }
+
+mboxes_ids : (ds : Items) (s : Declared) → SameIds s (with_mboxes ds s)
+unfolding with_mboxes
+mboxes_ids no_items s = record { rows = refl; filters = refl }
+mboxes_ids (item d ds) s = then_ids s (with_mbox_read (name_of d) s) _ (read_ids (name_of d) s) (mboxes_ids ds (with_mbox_read (name_of d) s))
+
+form_ids : (f : Form) (found : Option Data) (s : Declared) → SameIds s (with_field f found s)
+form_ids (form.Mboxes limit) found s = mboxes_ids (list_of found) s
+form_ids other found s = record { rows = refl; filters = refl }
+
+-- no object is entered
+abbrev IsInside : Visit → Type 0
+IsInside (enters kind place d) = ⊥
+IsInside (tries rule place found) = Unit {0}
+IsInside (leaves kind place d) = Unit {0}
+
+step_ids : (s t : Declared) (v : Visit) → IsInside v → twice_step s v ≡ Ok t → SameIds s t
+step_ids s t (enters kind place d) h e = absurd h
+step_ids s t (tries rule place found) h e = then_ids s (with_field rule.form found s) t (form_ids rule.form found s) (kept_ids _ t (ok_same (with_field rule.form found s) t e))
+step_ids s t (leaves kind place d) h e = kept_ids s t (ok_same s t e)
+
+run_ids : (s t : Declared) (vs : List Visit) → AllByRecursion IsInside vs → run twice_step s vs ≡ Ok t → SameIds s t
+unfolding run
+run_ids s t [] h e = kept_ids s t (ok_same s t e)
+run_ids s t (v ∷ vs) h e =
+    let p = split (twice_step s v) (λ u. run twice_step u vs) t e in
+    then_ids s p.between t (step_ids s p.between v h.0 p.first) (run_ids p.between t vs h.1 p.second)
+
+-- a kind of object that declares an id in a space, and has no objects in it
+record DeclaresIds (kind : ObjectKind) (space : Space) : Type 0 where
+  enter : (s : Declared) (place : Place) (d : Data) → twice_step s (enters kind place d) ≡ declared_name place space (id_in d) s
+  added : (name : List ℕ) (s : Declared) → names_in space (with_name space name s) ≡ names_in space s ++ name ∷ []
+  same : (s t : Declared) → SameIds s t → names_in space t ≡ names_in space s
+  within : (n : ℕ) (place : Place) (d : Data) → AllByRecursion IsInside (inner n kind place d ++ leaves kind place d ∷ [])
+
+rows_declare : DeclaresIds object.Row space.Rows
+unfolding fields_of field_visits
+rows_declare = record {
+  enter = λ s place d. refl;
+  added = λ name s. refl;
+  same = λ s t h. h.rows;
+  within = λ n place d. (tt, (tt, (tt, (tt, (tt, (tt, (tt, (tt, (tt, (tt, (tt, (tt, tt))))))))))));
+}
+
+filters_declare : DeclaresIds object.Filter space.Filters
+unfolding fields_of field_visits
+filters_declare = record {
+  enter = λ s place d. refl;
+  added = λ name s. refl;
+  same = λ s t h. h.filters;
+  within = λ n place d. (tt, (tt, (tt, (tt, (tt, (tt, (tt, (tt, tt))))))));
+}
+
+-- new names, of which none is an old one
+record AreNew (old new : List (List ℕ)) : Type 0 where
+  distinct : IsDistinct bytes_eq new
+  apart : AllByRecursion (λ x. has_name old x ≡ false) new
+
+pub swapped : (x y : List ℕ) (b : Bool) → bytes_eq x y ≡ b → bytes_eq y x ≡ false → b ≡ false
+swapped x y true e n = absurd (true≢false (sym ((bytes_eq-Decides y x).1 (sym ((bytes_eq-Decides x y).0 e))) ∙ n))
+swapped x y false e n = refl
+
+first_false : (a : Bool) → (a || false) ≡ false → a ≡ false
+first_false true e = absurd (true≢false e)
+first_false false e = refl
+
+other_name : (old : List (List ℕ)) (x y : List ℕ) → has_name (old ++ x ∷ []) y ≡ false → bytes_eq x y ≡ false
+other_name old x y h = swapped x y (bytes_eq x y) refl (first_false (bytes_eq y x) (absent_any (x ∷ []) y (absent_second y old (x ∷ []) h)))
+
+one_more_new : (old new : List (List ℕ)) (x : List ℕ) → has_name old x ≡ false → AreNew (old ++ x ∷ []) new → AreNew old (x ∷ new)
+unfolding IsDistinct
+one_more_new old new x absent h = record {
+  distinct = (each-weaker (λ y. has_name (old ++ x ∷ []) y ≡ false) (λ y. bytes_eq x y ≡ false) (λ y a. other_name old x y a) new h.apart, h.distinct);
+  apart = (absent, each-weaker (λ y. has_name (old ++ x ∷ []) y ≡ false) (λ y. has_name old y ≡ false) (λ y a. absent_first y old (x ∷ []) a) new h.apart);
+}
+
+if_new : (b : Bool) (x : SceneFault) (s t : Declared) → (if b then Err x else ok s) ≡ Ok t → (b ≡ false) × (s ≡ t)
+if_new true x s t e = absurd cc
+if_new false x s t e = (refl, ok_same s t e)
+
+declared_new : (kind : ObjectKind) (space : Space) → DeclaresIds kind space → (place : Place) (o : Option (List ℕ)) (ids : List (Option (List ℕ))) (s t u : Declared) → declared_name place space o s ≡ Ok t → names_in space u ≡ names_in space t → AreNew (names_in space u) (given ids) → AreNew (names_in space s) (given (o ∷ ids))
+declared_new kind space is place None ids s t u e f h = subst (λ q. AreNew q (given ids)) (f ∙ ap (names_in space) (sym (ok_same s t e))) h
+declared_new kind space is place (Some x) ids s t u e f h =
+    let p = if_new (has_name (names_in space s) x) _ (with_name space x s) t e in
+    let same : names_in space u ≡ names_in space s ++ x ∷ [] = f ∙ (ap (names_in space) (sym p.1) ∙ is.added x s) in
+    one_more_new (names_in space s) (given ids) x p.0 (subst (λ q. AreNew q (given ids)) same h)
+
+object_new : (kind : ObjectKind) (space : Space) → DeclaresIds kind space → (n : ℕ) (place : Place) (d : Data) (ids : List (Option (List ℕ))) (s u : Declared) → run twice_step s (visits (suc n) kind place d) ≡ Ok u → AreNew (names_in space u) (given ids) → AreNew (names_in space s) (given (id_in d ∷ ids))
+unfolding visits run
+object_new kind space is n place d ids s u e h =
+    let p = split (twice_step s (enters kind place d)) (λ t. run twice_step t (inner n kind place d ++ leaves kind place d ∷ [])) u e in
+    declared_new kind space is place (id_in d) ids s p.between u (sym (is.enter s place d) ∙ p.first) (is.same p.between u (run_ids p.between u _ (is.within n place d) p.second)) h
+
+ids_new : (kind : ObjectKind) (space : Space) → DeclaresIds kind space → (n : ℕ) (place : Place) (i : ℕ) (ds : Items) (s t : Declared) → run twice_step s (items_from (visits (suc n) kind) place i ds) ≡ Ok t → AreNew (names_in space s) (given (ids_of ds))
+unfolding items_from
+ids_new kind space is n place i no_items s t e = record { distinct = no_distinct; apart = tt }
+ids_new kind space is n place i (item d ds) s t e =
+    let p = halves s t (visits (suc n) kind (at_item place i) d) (items_from (visits (suc n) kind) place (suc i) ds) e in
+    object_new kind space is n (at_item place i) d (ids_of ds) s p.between p.first (ids_new kind space is n place (suc i) ds p.between t p.second)
+
+-- ---- the limit of a list
+
+limit_items : (place : Place) (limit : ℕ) (f : Data → Option Trouble) (ds : Items) (b : Bool) → nat_le (items_len ds) limit ≡ b → trouble_at place (if b then first_of f ds else Some OutOfRange) ≡ None → items_len ds ≤ limit
+limit_items place limit f ds true e h = leb-true (items_len ds) limit e
+limit_items place limit f ds false e h = absurd cc
+
+limit_value : (f : Data → Option Trouble) (limit : ℕ) (place : Place) (d : Data) → trouble_at place (list_trouble (Some limit) f (as_array d)) ≡ None → items_len (list_of (Some d)) ≤ limit
+limit_value f limit place null h = absurd cc
+limit_value f limit place (boolean b) h = absurd cc
+limit_value f limit place (number n) h = absurd cc
+limit_value f limit place (string s) h = absurd cc
+limit_value f limit place (array ds) h = limit_items place limit f ds (nat_le (items_len ds) limit) refl h
+limit_value f limit place (object_data ms) h = absurd cc
+
+limit_objects : (f : Field) (kind : ObjectKind) (limit : ℕ) (place : Place) (found : Option Data) → field_fault (optional f (form.Objects kind (Some limit))) place found ≡ None → items_len (list_of found) ≤ limit
+limit_objects f kind limit place None h = omega arith
+limit_objects f kind limit place (Some d) h = limit_value object_trouble limit place d h
+
+limit_mboxes : (f : Field) (limit : ℕ) (place : Place) (found : Option Data) → field_fault (optional f (form.Mboxes limit)) place found ≡ None → items_len (list_of found) ≤ limit
+limit_mboxes f limit place None h = omega arith
+limit_mboxes f limit place (Some d) h = limit_value shape_name_trouble limit place d h
+
+-- ---- an agent
+
+pub record IsFineAgent (names : Declared) (d : Data) : Type 0 where
+  pub few_rows : items_len (row_items d) ≤ 128
+  pub few_filters : items_len (filter_items d) ≤ 32
+  pub rows : AllByRecursion (HasRow names) (listed (row_items d))
+  pub filters : AllByRecursion (HasFilter names) (listed (filter_items d))
+  pub row_ids : IsDistinct bytes_eq (given (ids_of (row_items d)))
+  pub filter_ids : IsDistinct bytes_eq (given (ids_of (filter_items d)))
+
+filters_rule : Rule
+filters_rule = optional field.Filters (form.Objects object.Filter (Some 32))
+
+on_rule : Rule
+on_rule = optional field.On (form.Objects object.Row (Some 128))
+
+fine_agent : (names : Declared) (n : ℕ) (place : Place) (d : Data) → ArePassed names (visits (suc (suc n)) object.Agent place d) → IsFineAgent names d
+unfolding filters_rule on_rule
+fine_agent names n place d p =
+    let fields = passed_fields names (suc n) object.Agent place d p in
+    let filters = passed_field names (visits (suc n)) (rules_of object.Agent) 9 no_rule place d (omega arith) fields in
+    let rows = passed_field names (visits (suc n)) (rules_of object.Agent) 12 no_rule place d (omega arith) fields in
+    let in_filters = passed_inside names (visits (suc n)) filters_rule place d filters in
+    let in_rows = passed_inside names (visits (suc n)) on_rule place d rows in
+    let new_filters = ids_new object.Filter space.Filters filters_declare n (at_key place filters_rule) 0 (filter_items d) in_filters.begins in_filters.ends in_filters.runs in
+    let new_rows = ids_new object.Row space.Rows rows_declare n (at_key place on_rule) 0 (row_items d) in_rows.begins in_rows.ends in_rows.runs in
+    record {
+      few_rows = limit_objects field.On object.Row 128 _ (get (codes "on") d) (passed_try names (visits (suc n)) on_rule place d rows).0;
+      few_filters = limit_objects field.Filters object.Filter 32 _ (get (codes "filters") d) (passed_try names (visits (suc n)) filters_rule place d filters).0;
+      rows = each_item names (HasRow names) (visits (suc n) object.Row) (fine_row names n) (at_key place on_rule) 0 (row_items d) in_rows;
+      filters = each_item names (HasFilter names) (visits (suc n) object.Filter) (fine_filter names n) (at_key place filters_rule) 0 (filter_items d) in_filters;
+      row_ids = new_rows.distinct;
+      filter_ids = new_filters.distinct;
+    }
+
+abbrev pub EntersFine : Declared → Visit → Type 0
+EntersFine names (enters object.Agent place d) = IsFineAgent names d
+EntersFine names (enters other place d) = Unit {0}
+EntersFine names (tries rule place found) = Unit {0}
+EntersFine names (leaves kind place d) = Unit {0}
 
 -- ---- all visits of a scene
 
-units_items : (names : Declared) (inside : Place → Data → List Visit) → ((place : Place) (d : Data) → AllByRecursion (EntersFine names) (inside place d)) → (place : Place) (i : ℕ) (ds : Items) → AllByRecursion (EntersFine names) (items_from inside place i ds)
-unfolding items_from
-units_items names inside h place i no_items = tt
-units_items names inside h place i (item d ds) = each-append (EntersFine names) (inside (at_item place i) d) (items_from inside place (suc i) ds) (h (at_item place i) d) (units_items names inside h place (suc i) ds)
+-- how many levels of objects stand in one of a kind, itself among them
+abbrev height : ObjectKind → ℕ
+height object.Scene = 4
+height object.Coop = 3
+height object.Agent = 2
+height other = 1
 
-items_fine : (names : Declared) (inside : Place → Data → List Visit) → ((place : Place) (d : Data) → AllByRecursion (IsFine names) (inside place d) → AllByRecursion (EntersFine names) (inside place d)) → (place : Place) (i : ℕ) (ds : Items) → AllByRecursion (IsFine names) (items_from inside place i ds) → AllByRecursion (EntersFine names) (items_from inside place i ds)
+abbrev IsBelow : ℕ → Option ObjectKind → Type 0
+IsBelow h None = Unit {0}
+IsBelow h (Some kind) = height kind < h
+
+rules_below : (kind : ObjectKind) → AllByRecursion (λ rule. IsBelow (height kind) (objects_of rule.form)) (rules_of kind)
+rules_below object.Scene = (tt, (tt, (tt, (omega arith, (tt, (tt, (tt, (omega arith, (tt, tt)))))))))
+rules_below object.Message = (tt, (tt, tt))
+rules_below object.Chain = (tt, (tt, (tt, (tt, tt))))
+rules_below object.Dispatcher = (tt, (tt, (tt, (tt, (tt, (tt, tt))))))
+rules_below object.Coop = (tt, (tt, (tt, (tt, (omega arith, tt)))))
+rules_below object.Agent = (tt, (tt, (tt, (tt, (tt, (tt, (tt, (tt, (tt, (omega arith, (tt, (tt, (omega arith, tt)))))))))))))
+rules_below object.State = (tt, (tt, (tt, (tt, (tt, (tt, (tt, tt)))))))
+rules_below object.Limit = (tt, (tt, (tt, tt)))
+rules_below object.Filter = (tt, (tt, (tt, (tt, (tt, (tt, (tt, tt)))))))
+rules_below object.Row = (tt, (tt, (tt, (tt, (tt, (tt, (tt, (tt, (tt, (tt, (tt, tt)))))))))))
+rules_below object.Thread = (tt, (tt, tt))
+
+items_fine : (names : Declared) (inside : Place → Data → List Visit) → ((place : Place) (d : Data) → ArePassed names (inside place d) → AllByRecursion (EntersFine names) (inside place d)) → (place : Place) (i : ℕ) (ds : Items) → ArePassed names (items_from inside place i ds) → AllByRecursion (EntersFine names) (items_from inside place i ds)
 unfolding items_from
-items_fine names inside h place i no_items a = tt
-items_fine names inside h place i (item d ds) a =
+items_fine names inside h place i no_items p = tt
+items_fine names inside h place i (item d ds) p =
     each-append (EntersFine names) (inside (at_item place i) d) (items_from inside place (suc i) ds)
-    (h (at_item place i) d (front (IsFine names) (inside (at_item place i) d) (items_from inside place (suc i) ds) a))
-    (items_fine names inside h place (suc i) ds (back (IsFine names) (inside (at_item place i) d) (items_from inside place (suc i) ds) a))
+    (h (at_item place i) d (passed_front names (inside (at_item place i) d) (items_from inside place (suc i) ds) p))
+    (items_fine names inside h place (suc i) ds (passed_back names (inside (at_item place i) d) (items_from inside place (suc i) ds) p))
 
-row_units : (names : Declared) (place : Place) (d : Data) → AllByRecursion (EntersFine names) (visits 1 object.Row place d)
-unfolding visits fields_of field_visits
-row_units names place d = (tt, (tt, (tt, (tt, (tt, (tt, (tt, (tt, (tt, (tt, (tt, (tt, (tt, tt)))))))))))))
+-- what holds of the visits of each object inside holds of all of them
+abbrev InsideFine : Declared → ℕ → Type 0
+InsideFine names n = (kind : ObjectKind) (place : Place) (d : Data) → height kind ≤ n → ArePassed names (visits n kind place d) → AllByRecursion (EntersFine names) (visits n kind place d)
 
-message_units : (names : Declared) (place : Place) (d : Data) → AllByRecursion (EntersFine names) (visits 3 object.Message place d)
-unfolding visits fields_of field_visits
-message_units names place d = (tt, (tt, (tt, (tt, tt))))
+objects_fine : (names : Declared) (n h : ℕ) → InsideFine names n → h ≤ suc n → (o : Option ObjectKind) → IsBelow h o → (place : Place) (found : Option Data) → ArePassed names (in_objects (visits n) o place found) → AllByRecursion (EntersFine names) (in_objects (visits n) o place found)
+objects_fine names n h inside l None b place found p = tt
+objects_fine names n h inside l (Some kind) b place found p = items_fine names (visits n kind) (λ at d q. inside kind at d (omega (arith, l, b)) q) place 0 (list_of found) p
 
--- what follows a list of objects: nothing more, and then the end of the object
-at_end : (names : Declared) (vs : List Visit) (kind : ObjectKind) (place : Place) (d : Data) → AllByRecursion (EntersFine names) vs → AllByRecursion (EntersFine names) ((vs ++ []) ++ leaves kind place d ∷ [])
-at_end names vs kind place d a = each-append (EntersFine names) (vs ++ []) (leaves kind place d ∷ []) (each-append (EntersFine names) vs [] a tt) (tt, tt)
+field_fine : (names : Declared) (n h : ℕ) → InsideFine names n → h ≤ suc n → (rule : Rule) → IsBelow h (objects_of rule.form) → (place : Place) (d : Data) → ArePassed names (field_visits (visits n) rule place d) → AllByRecursion (EntersFine names) (field_visits (visits n) rule place d)
+unfolding field_visits
+field_fine names n h inside l rule b place d p = (tt, objects_fine names n h inside l (objects_of rule.form) b (at_key place rule) (found_in rule d) (passed_inside names (visits n) rule place d p))
 
-start_of : {X : Type 0} (P : X → Type 0) (xs ys : List X) → AllByRecursion P ((xs ++ []) ++ ys) → AllByRecursion P xs
-start_of P xs ys a = front P xs [] (front P (xs ++ []) ys a)
+fields_fine : (names : Declared) (n h : ℕ) → InsideFine names n → h ≤ suc n → (rules : List Rule) → AllByRecursion (λ rule. IsBelow h (objects_of rule.form)) rules → (place : Place) (d : Data) → ArePassed names (fields_of (visits n) rules place d) → AllByRecursion (EntersFine names) (fields_of (visits n) rules place d)
+unfolding fields_of
+fields_fine names n h inside l [] b place d p = tt
+fields_fine names n h inside l (rule ∷ rules) b place d p =
+    each-append (EntersFine names) (field_visits (visits n) rule place d) (fields_of (visits n) rules place d)
+    (field_fine names n h inside l rule b.0 place d (passed_front names (field_visits (visits n) rule place d) (fields_of (visits n) rules place d) p))
+    (fields_fine names n h inside l rules b.1 place d (passed_back names (field_visits (visits n) rule place d) (fields_of (visits n) rules place d) p))
 
-agent_fine : (names : Declared) (place : Place) (d : Data) → AllByRecursion (IsFine names) (visits 2 object.Agent place d) → AllByRecursion (EntersFine names) (visits 2 object.Agent place d)
-unfolding visits fields_of field_visits
-agent_fine names place d a =
-    let on = a.1.1.1.1.1.1.1.1.1.1.1.1.1.0.0 in
-    let rows = start_of (IsFine names) (items_from (visits 1 object.Row) (place ++ Key field.On ∷ []) 0 (rows_in d)) (leaves object.Agent place d ∷ []) a.1.1.1.1.1.1.1.1.1.1.1.1.1.1 in (
-      record {
-        few = limit_field (optional field.On (form.Objects object.Row (Some 128))) object.Row 128 (place ++ Key field.On ∷ []) (get (codes "on") d) refl on;
-        rows = fine_rows names (place ++ Key field.On ∷ []) 0 (rows_in d) rows;
-      },
-      (tt, (tt, (tt, (tt, (tt, (tt, (tt, (tt, (tt, (tt, (tt, (tt, (tt, at_end names (items_from (visits 1 object.Row) (place ++ Key field.On ∷ []) 0 (rows_in d)) object.Agent place d (units_items names (visits 1 object.Row) (row_units names) (place ++ Key field.On ∷ []) 0 (rows_in d))))))))))))))),
-    )
+agent_fine : (names : Declared) (n : ℕ) (place : Place) (d : Data) → 2 ≤ suc n → ArePassed names (visits (suc n) object.Agent place d) → IsFineAgent names d
+agent_fine names zero place d l p = absurd (omega arith)
+agent_fine names (suc n) place d l p = fine_agent names n place d p
 
-coop_fine : (names : Declared) (place : Place) (d : Data) → AllByRecursion (IsFine names) (visits 3 object.Coop place d) → AllByRecursion (EntersFine names) (visits 3 object.Coop place d)
-unfolding visits fields_of field_visits
-coop_fine names place d a =
-    let agents = start_of (IsFine names) (items_from (visits 2 object.Agent) (place ++ Key field.Agents ∷ []) 0 (list_of (get (codes "agents") d))) (leaves object.Coop place d ∷ []) a.1.1.1.1.1.1 in
-    (tt, (tt, (tt, (tt, (tt, (tt, at_end names (items_from (visits 2 object.Agent) (place ++ Key field.Agents ∷ []) 0 (list_of (get (codes "agents") d))) object.Coop place d (items_fine names (visits 2 object.Agent) (agent_fine names) (place ++ Key field.Agents ∷ []) 0 (list_of (get (codes "agents") d)) agents)))))))
+enter_fine : (names : Declared) (n : ℕ) (kind : ObjectKind) (place : Place) (d : Data) → height kind ≤ suc n → ArePassed names (visits (suc n) kind place d) → EntersFine names (enters kind place d)
+enter_fine names n object.Agent place d l p = agent_fine names n place d l p
+enter_fine names n other place d l p = tt
 
-pub scene_fine : (names : Declared) (d : Data) → AllByRecursion (IsFine names) (visits 4 object.Scene [] d) → AllByRecursion (EntersFine names) (visits 4 object.Scene [] d)
-unfolding visits fields_of field_visits
-scene_fine names d a =
-    let ms = items_from (visits 3 object.Message) (Key field.Messages ∷ []) 0 (list_of (get (codes "messages") d)) in
-    let cs = items_from (visits 3 object.Coop) (Key field.Coops ∷ []) 0 (list_of (get (codes "coops") d)) in
-    let threads = tries (later field.Threads) (Key field.Threads ∷ []) (get (codes "threads") d) ∷ [] in
-    let tail = tries (later field.Mboxes) (Key field.Mboxes ∷ []) (get (codes "mboxes") d) ∷ tries (later field.Chains) (Key field.Chains ∷ []) (get (codes "chains") d) ∷ tries (later field.Dispatchers) (Key field.Dispatchers ∷ []) (get (codes "dispatchers") d) ∷ tries (optional field.Coops (form.Objects object.Coop (Some 1024))) (Key field.Coops ∷ []) (get (codes "coops") d) ∷ (cs ++ threads) in
-    let rest = back (IsFine names) ms tail (front (IsFine names) (ms ++ tail) (leaves object.Scene [] d ∷ []) a.1.1.1.1.1) in
-    let coops = front (IsFine names) cs threads rest.1.1.1.1 in (
-      tt,
-      (
-        tt,
-        (
-          tt,
-          (
-            tt,
-            (
-              tt,
-              each-append (EntersFine names) (ms ++ tail) (leaves object.Scene [] d ∷ [])
-                  (each-append (EntersFine names) ms tail (units_items names (visits 3 object.Message) (message_units names) (Key field.Messages ∷ []) 0 (list_of (get (codes "messages") d)))
-                  (tt, (tt, (tt, (tt, each-append (EntersFine names) cs threads (items_fine names (visits 3 object.Coop) (coop_fine names) (Key field.Coops ∷ []) 0 (list_of (get (codes "coops") d)) coops) (tt, tt))))))
-                  (tt, tt),
-            ),
-          ),
-        ),
-      ),
-    )
+visits_fine : (names : Declared) (n : ℕ) → InsideFine names n
+unfolding visits
+visits_fine names zero kind place d l p = tt
+visits_fine names (suc n) kind place d l p = (
+  enter_fine names n kind place d l p,
+  each-append (EntersFine names) (inner n kind place d) (leaves kind place d ∷ [])
+      (fields_fine names n (height kind) (visits_fine names n) l (rules_of kind) (rules_below kind) place d (passed_fields names n kind place d p))
+      (tt, tt),
+)
 
--- ---- how many messages there are
+pub scene_fine : (names : Declared) (d : Data) → ArePassed names (visits 4 object.Scene [] d) → AllByRecursion (EntersFine names) (visits 4 object.Scene [] d)
+scene_fine names d p = visits_fine names 4 object.Scene [] d (omega arith) p
+
+-- ---- how many messages and how many names of mboxes there are
+
+abbrev pub total : (Visit → ℕ) → List Visit → ℕ
+total m [] = 0
+total m (v ∷ vs) = m v + total m vs
+
+total-append : (m : Visit → ℕ) (vs us : List Visit) → total m (vs ++ us) ≡ total m vs + total m us
+total-append m [] us = omega arith
+total-append m (v ∷ vs) us = omega (arith, total-append m vs us)
 
 abbrev pub is_message : Visit → ℕ
 is_message (enters object.Message place d) = 1
@@ -223,67 +530,178 @@ is_message (enters other place d) = 0
 is_message (tries rule place found) = 0
 is_message (leaves kind place d) = 0
 
-abbrev pub messages_in : List Visit → ℕ
-messages_in [] = 0
-messages_in (v ∷ vs) = is_message v + messages_in vs
+abbrev pub mboxes_in_field : Form → Option Data → ℕ
+mboxes_in_field (form.Mboxes limit) found = items_len (list_of found)
+mboxes_in_field other found = 0
 
-messages-append : (vs us : List Visit) → messages_in (vs ++ us) ≡ messages_in vs + messages_in us
-messages-append [] us = omega arith
-messages-append (v ∷ vs) us = omega (arith, messages-append vs us)
+abbrev pub mboxes_named : Visit → ℕ
+mboxes_named (enters kind place d) = 0
+mboxes_named (tries rule place found) = mboxes_in_field rule.form found
+mboxes_named (leaves kind place d) = 0
 
-none_in_items : (inside : Place → Data → List Visit) → ((place : Place) (d : Data) → messages_in (inside place d) ≡ 0) → (place : Place) (i : ℕ) (ds : Items) → messages_in (items_from inside place i ds) ≡ 0
+-- a field that names no mboxes, and an object that is no scene and no message
+abbrev NamesNone : Form → Type 0
+NamesNone (form.Mboxes limit) = ⊥
+NamesNone other = Unit {0}
+
+abbrev IsQuiet : ObjectKind → Type 0
+IsQuiet object.Scene = ⊥
+IsQuiet object.Message = ⊥
+IsQuiet other = Unit {0}
+
+abbrev AreQuiet : Option ObjectKind → Type 0
+AreQuiet None = Unit {0}
+AreQuiet (Some kind) = IsQuiet kind
+
+-- what counts messages or names of mboxes
+record Counts (m : Visit → ℕ) : Type 0 where
+  entering : (kind : ObjectKind) (place : Place) (d : Data) → IsQuiet kind → m (enters kind place d) ≡ 0
+  scene : (place : Place) (d : Data) → m (enters object.Scene place d) ≡ 0
+  trying : (rule : Rule) (place : Place) (found : Option Data) → NamesNone rule.form → m (tries rule place found) ≡ 0
+  leaving : (kind : ObjectKind) (place : Place) (d : Data) → m (leaves kind place d) ≡ 0
+
+abbrev QuietRule : Rule → Type 0
+QuietRule rule = NamesNone rule.form × AreQuiet (objects_of rule.form)
+
+quiet_rules : (kind : ObjectKind) → IsQuiet kind → AllByRecursion QuietRule (rules_of kind)
+quiet_rules object.Scene q = absurd q
+quiet_rules object.Message q = absurd q
+quiet_rules object.Chain q = ((tt, tt), ((tt, tt), ((tt, tt), ((tt, tt), tt))))
+quiet_rules object.Dispatcher q = ((tt, tt), ((tt, tt), ((tt, tt), ((tt, tt), ((tt, tt), ((tt, tt), tt))))))
+quiet_rules object.Coop q = ((tt, tt), ((tt, tt), ((tt, tt), ((tt, tt), ((tt, tt), tt)))))
+quiet_rules object.Agent q = ((tt, tt), ((tt, tt), ((tt, tt), ((tt, tt), ((tt, tt), ((tt, tt), ((tt, tt), ((tt, tt), ((tt, tt), ((tt, tt), ((tt, tt), ((tt, tt), ((tt, tt), tt)))))))))))))
+quiet_rules object.State q = ((tt, tt), ((tt, tt), ((tt, tt), ((tt, tt), ((tt, tt), ((tt, tt), ((tt, tt), tt)))))))
+quiet_rules object.Limit q = ((tt, tt), ((tt, tt), ((tt, tt), tt)))
+quiet_rules object.Filter q = ((tt, tt), ((tt, tt), ((tt, tt), ((tt, tt), ((tt, tt), ((tt, tt), ((tt, tt), tt)))))))
+quiet_rules object.Row q = ((tt, tt), ((tt, tt), ((tt, tt), ((tt, tt), ((tt, tt), ((tt, tt), ((tt, tt), ((tt, tt), ((tt, tt), ((tt, tt), ((tt, tt), tt)))))))))))
+quiet_rules object.Thread q = ((tt, tt), ((tt, tt), tt))
+
+none_in_items : (m : Visit → ℕ) (inside : Place → Data → List Visit) → ((place : Place) (d : Data) → total m (inside place d) ≡ 0) → (place : Place) (i : ℕ) (ds : Items) → total m (items_from inside place i ds) ≡ 0
 unfolding items_from
-none_in_items inside h place i no_items = refl
-none_in_items inside h place i (item d ds) = omega (arith, messages-append (inside (at_item place i) d) (items_from inside place (suc i) ds), h (at_item place i) d, none_in_items inside h place (suc i) ds)
+none_in_items m inside h place i no_items = refl
+none_in_items m inside h place i (item d ds) = omega (arith, total-append m (inside (at_item place i) d) (items_from inside place (suc i) ds), h (at_item place i) d, none_in_items m inside h place (suc i) ds)
 
-one_in_items : (inside : Place → Data → List Visit) → ((place : Place) (d : Data) → messages_in (inside place d) ≡ 1) → (place : Place) (i : ℕ) (ds : Items) → messages_in (items_from inside place i ds) ≡ items_len ds
+one_in_items : (m : Visit → ℕ) (inside : Place → Data → List Visit) → ((place : Place) (d : Data) → total m (inside place d) ≡ 1) → (place : Place) (i : ℕ) (ds : Items) → total m (items_from inside place i ds) ≡ items_len ds
 unfolding items_from
-one_in_items inside h place i no_items = refl
-one_in_items inside h place i (item d ds) = omega (arith, messages-append (inside (at_item place i) d) (items_from inside place (suc i) ds), h (at_item place i) d, one_in_items inside h place (suc i) ds)
+one_in_items m inside h place i no_items = refl
+one_in_items m inside h place i (item d ds) = omega (arith, total-append m (inside (at_item place i) d) (items_from inside place (suc i) ds), h (at_item place i) d, one_in_items m inside h place (suc i) ds)
 
-one_in_message : (place : Place) (d : Data) → messages_in (visits 3 object.Message place d) ≡ 1
-unfolding visits fields_of field_visits
-one_in_message place d = refl
+abbrev NoneInside : (Visit → ℕ) → ℕ → Type 0
+NoneInside m n = (kind : ObjectKind) (place : Place) (d : Data) → IsQuiet kind → total m (visits n kind place d) ≡ 0
 
-none_in_row : (place : Place) (d : Data) → messages_in (visits 1 object.Row place d) ≡ 0
-unfolding visits fields_of field_visits
-none_in_row place d = refl
+none_in_objects : (m : Visit → ℕ) (n : ℕ) → NoneInside m n → (o : Option ObjectKind) → AreQuiet o → (place : Place) (found : Option Data) → total m (in_objects (visits n) o place found) ≡ 0
+none_in_objects m n h None q place found = refl
+none_in_objects m n h (Some kind) q place found = none_in_items m (visits n kind) (λ at d. h kind at d q) place 0 (list_of found)
 
-none_at_end : (vs : List Visit) (kind : ObjectKind) (place : Place) (d : Data) → messages_in vs ≡ 0 → messages_in ((vs ++ []) ++ leaves kind place d ∷ []) ≡ 0
-none_at_end vs kind place d e = omega (arith, e, messages-append (vs ++ []) (leaves kind place d ∷ []), messages-append vs [])
+total_field : (m : Visit → ℕ) (inside : ObjectKind → Place → Data → List Visit) (rule : Rule) (place : Place) (d : Data)
+    → total m (field_visits inside rule place d) ≡ m (tries rule (at_key place rule) (found_in rule d)) + total m (in_objects inside (objects_of rule.form) (at_key place rule) (found_in rule d))
+unfolding field_visits
+total_field m inside rule place d = refl
 
-none_in_agent : (place : Place) (d : Data) → messages_in (visits 2 object.Agent place d) ≡ 0
-unfolding visits fields_of field_visits
-none_in_agent place d =
-    let none = none_at_end (items_from (visits 1 object.Row) (place ++ Key field.On ∷ []) 0 (rows_in d)) object.Agent place d (none_in_items (visits 1 object.Row) none_in_row (place ++ Key field.On ∷ []) 0 (rows_in d)) in
-    omega (arith, none)
+total_fields : (m : Visit → ℕ) (inside : ObjectKind → Place → Data → List Visit) (rule : Rule) (rules : List Rule) (place : Place) (d : Data)
+    → total m (fields_of inside (rule ∷ rules) place d) ≡ total m (field_visits inside rule place d) + total m (fields_of inside rules place d)
+unfolding fields_of
+total_fields m inside rule rules place d = total-append m (field_visits inside rule place d) (fields_of inside rules place d)
 
-none_in_coop : (place : Place) (d : Data) → messages_in (visits 3 object.Coop place d) ≡ 0
-unfolding visits fields_of field_visits
-none_in_coop place d =
-    let agents = list_of (get (codes "agents") d) in
-    let none = none_at_end (items_from (visits 2 object.Agent) (place ++ Key field.Agents ∷ []) 0 agents) object.Coop place d (none_in_items (visits 2 object.Agent) none_in_agent (place ++ Key field.Agents ∷ []) 0 agents) in
-    omega (arith, none)
+none_in_field : (m : Visit → ℕ) → Counts m → (n : ℕ) → NoneInside m n → (rule : Rule) → QuietRule rule → (place : Place) (d : Data) → total m (field_visits (visits n) rule place d) ≡ 0
+none_in_field m c n h rule q place d =
+    omega (arith, total_field m (visits n) rule place d, c.trying rule (at_key place rule) (found_in rule d) q.0, none_in_objects m n h (objects_of rule.form) q.1 (at_key place rule) (found_in rule d))
 
-messages_of_scene : (d : Data) → messages_in (visits 4 object.Scene [] d) ≡ items_len (list_of (get (codes "messages") d))
-unfolding visits fields_of field_visits
-messages_of_scene d =
-    let ms = items_from (visits 3 object.Message) (Key field.Messages ∷ []) 0 (list_of (get (codes "messages") d)) in
-    let cs = items_from (visits 3 object.Coop) (Key field.Coops ∷ []) 0 (list_of (get (codes "coops") d)) in
-    let threads = tries (later field.Threads) (Key field.Threads ∷ []) (get (codes "threads") d) ∷ [] in
-    let tail = tries (later field.Mboxes) (Key field.Mboxes ∷ []) (get (codes "mboxes") d) ∷ tries (later field.Chains) (Key field.Chains ∷ []) (get (codes "chains") d) ∷ tries (later field.Dispatchers) (Key field.Dispatchers ∷ []) (get (codes "dispatchers") d) ∷ tries (optional field.Coops (form.Objects object.Coop (Some 1024))) (Key field.Coops ∷ []) (get (codes "coops") d) ∷ (cs ++ threads) in
+none_in_fields : (m : Visit → ℕ) → Counts m → (n : ℕ) → NoneInside m n → (rules : List Rule) → AllByRecursion QuietRule rules → (place : Place) (d : Data) → total m (fields_of (visits n) rules place d) ≡ 0
+unfolding fields_of
+none_in_fields m c n h [] q place d = refl
+none_in_fields m c n h (rule ∷ rules) q place d =
+    omega (arith, total-append m (field_visits (visits n) rule place d) (fields_of (visits n) rules place d), none_in_field m c n h rule q.0 place d, none_in_fields m c n h rules q.1 place d)
+
+total_object : (m : Visit → ℕ) → Counts m → (n : ℕ) (kind : ObjectKind) (place : Place) (d : Data) → total m (visits (suc n) kind place d) ≡ m (enters kind place d) + total m (inner n kind place d)
+unfolding visits
+total_object m c n kind place d = omega (arith, total-append m (inner n kind place d) (leaves kind place d ∷ []), c.leaving kind place d)
+
+none_at_all : (m : Visit → ℕ) (kind : ObjectKind) (place : Place) (d : Data) → total m (visits zero kind place d) ≡ 0
+unfolding visits
+none_at_all m kind place d = refl
+
+none_in_visits : (m : Visit → ℕ) → Counts m → (n : ℕ) → NoneInside m n
+none_in_visits m c zero kind place d q = none_at_all m kind place d
+none_in_visits m c (suc n) kind place d q =
+    omega (arith, total_object m c n kind place d, c.entering kind place d q, none_in_fields m c n (none_in_visits m c n) (rules_of kind) (quiet_rules kind q) place d)
+
+in_message : (m : Visit → ℕ) → Counts m → (n : ℕ) (place : Place) (d : Data) → total m (visits (suc n) object.Message place d) ≡ m (enters object.Message place d)
+in_message m c n place d = omega (arith, total_object m c n object.Message place d, none_in_fields m c n (none_in_visits m c n) (rules_of object.Message) ((tt, tt), ((tt, tt), tt)) place d)
+
+messages_rule : Rule
+messages_rule = optional field.Messages (form.Objects object.Message (Some 256))
+
+mboxes_rule : Rule
+mboxes_rule = optional field.Mboxes (form.Mboxes 256)
+
+-- the fields of a scene before its messages, and those after its mboxes
+first_rules : List Rule
+first_rules = required field.Version form.One ∷ later field.Autoshutdown ∷ later field.Reaction ∷ []
+
+last_rules : List Rule
+last_rules = later field.Chains ∷ later field.Dispatchers ∷ optional field.Coops (form.Objects object.Coop (Some 1024)) ∷ later field.Threads ∷ []
+
+total_rules : (m : Visit → ℕ) (inside : ObjectKind → Place → Data → List Visit) (rules more : List Rule) (place : Place) (d : Data) → total m (fields_of inside (rules ++ more) place d) ≡ total m (fields_of inside rules place d) + total m (fields_of inside more place d)
+unfolding fields_of
+total_rules m inside [] more place d = omega arith
+total_rules m inside (rule ∷ rules) more place d =
+    omega (arith, total-append m (field_visits inside rule place d) (fields_of inside (rules ++ more) place d), total-append m (field_visits inside rule place d) (fields_of inside rules place d), total_rules m inside rules more place d)
+
+total_scene : (m : Visit → ℕ) → Counts m → (d : Data) → total m (visits 4 object.Scene [] d) ≡ total m (items_from (visits 3 object.Message) (at_key [] messages_rule) 0 (list_of (get (codes "messages") d))) + m (tries mboxes_rule (at_key [] mboxes_rule) (get (codes "mboxes") d))
+unfolding first_rules last_rules messages_rule mboxes_rule
+total_scene m c d =
+    let quiet = none_in_visits m c 3 in
     omega (
       arith,
-      messages-append (ms ++ tail) (leaves object.Scene [] d ∷ []),
-      messages-append ms tail,
-      messages-append cs threads,
-      one_in_items (visits 3 object.Message) one_in_message (Key field.Messages ∷ []) 0 (list_of (get (codes "messages") d)),
-      none_in_items (visits 3 object.Coop) none_in_coop (Key field.Coops ∷ []) 0 (list_of (get (codes "coops") d)),
+      total_object m c 3 object.Scene [] d,
+      c.scene [] d,
+      total_rules m (visits 3) first_rules (messages_rule ∷ mboxes_rule ∷ last_rules) [] d,
+      none_in_fields m c 3 quiet first_rules ((tt, tt), ((tt, tt), ((tt, tt), tt))) [] d,
+      total_fields m (visits 3) messages_rule (mboxes_rule ∷ last_rules) [] d,
+      total_field m (visits 3) messages_rule [] d,
+      c.trying messages_rule (at_key [] messages_rule) (get (codes "messages") d) tt,
+      total_fields m (visits 3) mboxes_rule last_rules [] d,
+      total_field m (visits 3) mboxes_rule [] d,
+      none_in_fields m c 3 quiet last_rules ((tt, tt), ((tt, tt), ((tt, tt), ((tt, tt), tt)))) [] d,
     )
 
-limited_messages : (names : Declared) (d : Data) → AllByRecursion (IsFine names) (visits 4 object.Scene [] d) → items_len (list_of (get (codes "messages") d)) ≤ 256
-unfolding visits fields_of field_visits
-limited_messages names d a = limit_field (optional field.Messages (form.Objects object.Message (Some 256))) object.Message 256 (Key field.Messages ∷ []) (get (codes "messages") d) refl a.1.1.1.1.0.0
+message_quiet : (kind : ObjectKind) (place : Place) (d : Data) → IsQuiet kind → is_message (enters kind place d) ≡ 0
+message_quiet object.Message place d q = absurd q
+message_quiet other place d q = refl
 
-pub few_messages : (names : Declared) (d : Data) → AllByRecursion (IsFine names) (visits 4 object.Scene [] d) → messages_in (visits 4 object.Scene [] d) ≤ 256
-few_messages names d a = omega (arith, messages_of_scene d, limited_messages names d a)
+no_mboxes : (f : Form) (found : Option Data) → NamesNone f → mboxes_in_field f found ≡ 0
+no_mboxes (form.Mboxes limit) found q = absurd q
+no_mboxes other found q = refl
+
+counts_messages : Counts is_message
+counts_messages = record { entering = message_quiet; scene = λ place d. refl; trying = λ rule place found q. refl; leaving = λ kind place d. refl }
+
+counts_mboxes : Counts mboxes_named
+counts_mboxes = record { entering = λ kind place d q. refl; scene = λ place d. refl; trying = λ rule place found q. no_mboxes rule.form found q; leaving = λ kind place d. refl }
+
+limited_messages : (names : Declared) (d : Data) → ArePassed names (visits 4 object.Scene [] d) → items_len (list_of (get (codes "messages") d)) ≤ 256
+limited_messages names d p = limit_objects field.Messages object.Message 256 _ (get (codes "messages") d) (fine_try names 3 object.Scene 3 [] d (omega arith) p).0
+
+limited_mboxes : (names : Declared) (d : Data) → ArePassed names (visits 4 object.Scene [] d) → items_len (list_of (get (codes "mboxes") d)) ≤ 256
+limited_mboxes names d p = limit_mboxes field.Mboxes 256 _ (get (codes "mboxes") d) (fine_try names 3 object.Scene 4 [] d (omega arith) p).0
+
+pub few_messages : (names : Declared) (d : Data) → ArePassed names (visits 4 object.Scene [] d) → total is_message (visits 4 object.Scene [] d) ≤ 256
+unfolding messages_rule mboxes_rule
+few_messages names d p =
+    omega (
+      arith,
+      total_scene is_message counts_messages d,
+      one_in_items is_message (visits 3 object.Message) (in_message is_message counts_messages 2) (at_key [] messages_rule) 0 (list_of (get (codes "messages") d)),
+      limited_messages names d p,
+    )
+
+pub few_mboxes : (names : Declared) (d : Data) → ArePassed names (visits 4 object.Scene [] d) → total mboxes_named (visits 4 object.Scene [] d) ≤ 256
+unfolding messages_rule mboxes_rule
+few_mboxes names d p =
+    omega (
+      arith,
+      total_scene mboxes_named counts_mboxes d,
+      none_in_items mboxes_named (visits 3 object.Message) (in_message mboxes_named counts_mboxes 2) (at_key [] messages_rule) 0 (list_of (get (codes "messages") d)),
+      limited_mboxes names d p,
+    )

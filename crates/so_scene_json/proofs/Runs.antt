@@ -5,6 +5,9 @@ use Rattle.serde_json.specs.Data.{Data}
 use Rattle.serde_json.specs.View.{view, items_view}
 use Rattle.serde_json.specs.declared.value.Value.{Value}
 use Rattle.so_scene_json.specs.declared.table.ObjectKind.{ObjectKind}
+use Rattle.so_scene_json.specs.declared.table.ObjectKind.TheVariants as object
+use Rattle.so_scene_json.specs.Reads.{Reads}
+use Rattle.so_scene_json.specs.Scene.{fields}
 use Rattle.so_scene_json.specs.declared.table.Rule.{Rule}
 use Rattle.so_scene_json.specs.Table.{rules_of, objects_of}
 use Rattle.so_scene.specs.Faults.{spelling}
@@ -130,3 +133,14 @@ unfolding field_visits
 field_ends lack step s t inside rule place at d k found o r m a b c w x f =
     on lack _ _ r m (goes_on_at step s t _ _ (ap (step s) (same_visit rule place at d k found a b c) ∙ x))
     (on lack _ _ r m (rw (c, b, a, w)) f)
+
+-- ---- a pass that failed
+
+reads_err : {S : Type 0} (expected actual : Result S SceneFault) (lack : Type 0) (e : SceneRefusal) (n : S) → expected ≡ actual → LeavesIf lack actual (Err e) n → Reads {T = S} (Err e) expected
+reads_err expected actual lack NoMemory n q h = tt
+reads_err expected actual lack (Fault f) n q h = q ∙ h
+
+pub pass_fails : {S : Type 0} (lack : Type 0) (step : S → Visit → Result S SceneFault) (s t n : S) (place : Place) (d : Data) (e : SceneRefusal) → t ≡ s → place ≡ [] → LeavesIf lack (run step t (visits 4 object.Scene place d)) (Err e) n → Reads {T = S} (Err e) (run step s (fields d))
+pass_fails lack step s t n place d e same root h =
+    reads_err (run step s (fields d)) (run step t (visits 4 object.Scene place d)) lack e n
+    (ap (λ x. run step x (fields d)) (sym same) ∙ ap (λ p. run step t (visits 4 object.Scene p d)) (sym root)) h

@@ -1,5 +1,5 @@
--- The loops that write acts, bodies and rows.
-use Rattle.std.proofs.Common.{◌≡◌, ℕ, ◌+◌, ◌-◌, ◌<◌, ◌≤◌, suc, List, [], ◌∷◌, ◌++◌, codes, Option, length, drop, get_or, Result, Ok, sym, ap, ◌∙◌, add-one, drop-cons, arith, length-drop}
+-- The loops that write acts, bodies and rows, and the one that reads mboxes.
+use Rattle.std.proofs.Common.{◌≡◌, ℕ, ◌+◌, ◌-◌, ◌<◌, ◌≤◌, suc, List, codes, Option, length, drop, get_or, Result, Ok, sym, ap, ◌∙◌, add-one, drop-cons, arith, length-drop}
 use Rattle.std.proofs.Math.ListN.{drop_of_length-le}
 use Rattle.serde_json.proofs.Views.{items_len-items_view}
 use Rattle.serde_json.specs.Data.{Data, Items, item}
@@ -8,12 +8,13 @@ use Rattle.serde_json.specs.Find.{get}
 use Rattle.serde_json.specs.View.{view, items_view}
 use Rattle.serde_json.specs.declared.value.Value.{Value}
 use Rattle.so_scene.specs.declared.fault.SceneFault.{SceneFault}
-use Rattle.so_state.specs.declared.choice.Row.{Row as AgentRow}
 use Rattle.so_scene_json.specs.declared.declare.Declared.{Declared}
 use Rattle.so_scene_json.specs.declared.write.Writer.{Writer}
 use Rattle.so_code.specs.declared.instr.Body.TheVariants.{Row}
 use Rattle.so_scene_json.specs.Visits.{narrow}
-use Rattle.so_scene_json.specs.Build.{row_body, body_written, rows_written, rows_from, row_of}
+use Rattle.so_scene_json.specs.Values.{name_of}
+use Rattle.so_scene_json.specs.Twice.{with_mbox_read, with_mboxes}
+use Rattle.so_scene_json.specs.Build.{row_body, body_written, rows_written}
 use Rattle.so_scene_json.specs.Writer.{act_written, acts_written}
 
 abbrev pub ok : {S : Type 0} → S → Result S SceneFault
@@ -61,16 +62,23 @@ pub rows_end : (all : Writer) (names : Declared) (w : Writer) (vs : List Value) 
 unfolding rows_written
 rows_end all names w vs i h a = ap ok (a ∙ rw (drop_of_length-le vs h))
 
-row_here : (a : ℕ) (names : Declared) (rows : List AgentRow) (vs : List Value) (i : ℕ) (v : Value) → i < length vs
-    → rows_from a names rows (items_view (drop i vs)) ≡ rows_from a names (rows ++ row_of a names (view (get_or vs i v)) ∷ []) (items_view (drop (i + 1) vs))
-unfolding rows_from
-row_here a names rows vs i v h = rw (add-one, drop-cons vs i v)
+-- ---- named mboxes
 
-pub row_go : (all : List AgentRow) (a : ℕ) (names : Declared) (rows next : List AgentRow) (vs : List Value) (i : ℕ) (v x : Value) (r : AgentRow) → i < length vs → x ≡ get_or vs i v
-    → all ≡ rows_from a names rows (items_view (drop i vs)) → r ≡ row_of a names (view x) → next ≡ rows ++ r ∷ [] → all ≡ rows_from a names next (items_view (drop (i + 1) vs))
-row_go all a names rows next vs i v x r h y b f e =
-    b ∙ row_here a names rows vs i v h ∙ ap (λ q. rows_from a names q (items_view (drop (i + 1) vs))) (ap (λ q. rows ++ row_of a names (view q) ∷ []) (sym y) ∙ ap (λ q. rows ++ q ∷ []) (sym f) ∙ sym e)
+abbrev named : Declared → Result Declared SceneFault
+named s = Ok s
 
-pub row_end : (all : List AgentRow) (a : ℕ) (names : Declared) (rows : List AgentRow) (vs : List Value) (i : ℕ) → length vs ≤ i → all ≡ rows_from a names rows (items_view (drop i vs)) → rows ≡ all
-unfolding rows_from
-row_end all a names rows vs i h b = sym (b ∙ rw (drop_of_length-le vs h))
+named_same : (a b : Declared) → named a ≡ Ok b → a ≡ b
+named_same a b e = cc
+
+mboxes_here : (s : Declared) (vs : List Value) (i : ℕ) (v : Value) → i < length vs → with_mboxes (items_view (drop i vs)) s ≡ with_mboxes (items_view (drop (i + 1) vs)) (with_mbox_read (name_of (view (get_or vs i v))) s)
+unfolding with_mboxes
+mboxes_here s vs i v h = rw (add-one, drop-cons vs i v)
+
+pub mboxes_go : (all s next : Declared) (vs : List Value) (i : ℕ) (v x : Value) → i < length vs → x ≡ get_or vs i v
+    → all ≡ with_mboxes (items_view (drop i vs)) s → named (with_mbox_read (name_of (view x)) s) ≡ Ok next → all ≡ with_mboxes (items_view (drop (i + 1) vs)) next
+mboxes_go all s next vs i v x h y a e =
+    a ∙ mboxes_here s vs i v h ∙ ap (with_mboxes (items_view (drop (i + 1) vs))) (ap (λ q. with_mbox_read (name_of (view q)) s) (sym y) ∙ named_same _ _ e)
+
+pub mboxes_end : (all s : Declared) (vs : List Value) (i : ℕ) → length vs ≤ i → all ≡ with_mboxes (items_view (drop i vs)) s → named all ≡ Ok s
+unfolding with_mboxes
+mboxes_end all s vs i h a = ap named (a ∙ rw (drop_of_length-le vs h))

@@ -1,63 +1,25 @@
 -- The fourth pass: the parts of the scene, and the length of each code.
-use Rattle.std.specs.Prelude.{ℕ, suc, ℤ, pos, List, [], ◌∷◌, ◌++◌, length, map, codes, nat_lt, if◌then◌else◌, Option, Some, None, Result, Ok, Err, true, false}
-use Rattle.std.specs.List.{range_with_len}
+use Rattle.std.specs.Prelude.{ℕ, suc, List, [], ◌∷◌, ◌++◌, length, codes, nat_lt, if◌then◌else◌, Option, Result, Ok, Err}
 use Rattle.serde_json.specs.Data.{Data, Items, no_items, item}
-use Rattle.serde_json.specs.Find.{get, get_item}
-use Rattle.so_ids.specs.declared.Vars.{Vars}
+use Rattle.serde_json.specs.Find.{get}
 use Rattle.so_code.specs.declared.instr.Body.{Body}
 use Rattle.so_code.specs.declared.instr.Body.TheVariants as body
+use Rattle.so_code.specs.declared.instr.Instr.{Instr}
 use Rattle.so_code.specs.declared.instr.Instr.TheVariants as instr
 use Rattle.so_scene.specs.declared.fault.SceneFault.{SceneFault}
 use Rattle.so_scene.specs.declared.fault.SceneFault.TheVariants as fault
-use Rattle.so_scene.specs.declared.parts.MessageDef.{MessageDef}
 use Rattle.so_scene.specs.declared.parts.AgentDef.{AgentDef}
-use Rattle.so_state.specs.declared.choice.Row.{Row}
-use Rattle.so_state.specs.declared.choice.RowKind.TheVariants.{Run}
-use Rattle.so_state.specs.States.{default_state}
-use Rattle.so_scene.specs.Names.{number_in}
 use Rattle.so_scene_json.specs.declared.table.ObjectKind.{ObjectKind}
 use Rattle.so_scene_json.specs.declared.table.ObjectKind.TheVariants as object
 use Rattle.so_scene_json.specs.declared.declare.Declared.{Declared}
+use Rattle.so_scene_json.specs.declared.scope.Scope.{Scope}
 use Rattle.so_scene_json.specs.declared.write.Writer.{Writer}
 use Rattle.so_scene_json.specs.declared.build.Build.{Build}
-use Rattle.so_scene_json.specs.Values.{integer_of, string_in, name_in}
-use Rattle.so_scene_json.specs.Twice.{is_signal}
-use Rattle.so_scene_json.specs.Writer.{read_or, with_instr, acts_written}
+use Rattle.so_scene_json.specs.Values.{name_in}
+use Rattle.so_scene_json.specs.Scope.{row_items, filter_items, scope_of}
+use Rattle.so_scene_json.specs.Defs.{message_of, vars_of, rows_of, filters_of}
+use Rattle.so_scene_json.specs.Writer.{with_instr, acts_written}
 use Rattle.so_scene_json.specs.Visits.{Visit, enters, tries, leaves, Place, narrow, list_of}
-
--- ---- a message, and what an agent begins with
-
-abbrev pub message_of : Data → MessageDef
-message_of d = record { name = name_in d; signal = is_signal d }
-
--- variable k: 0 where the list has none
-abbrev pub var_at : ℕ → Items → ℤ
-var_at k ds = read_or (pos 0) integer_of (get_item k ds)
-
-abbrev pub vars_in : Items → List ℤ
-vars_in ds = map (λ k. var_at k ds) (range_with_len 0 16)
-
-abbrev pub vars_of : Data → Vars
-vars_of d = record { 0 = vars_in (list_of (get (codes "vars") d)) }
-
-abbrev pub narrow_or_zero : Option ℕ → ℕ
-narrow_or_zero None = 0
-narrow_or_zero (Some n) = narrow n
-
--- a row of the agent of a number: it subscribes to its message at the agent's own mbox
-abbrev pub row_of : ℕ → Declared → Data → Row
-row_of a names d = record {
-  mbox = record { 0 = narrow a };
-  msg = record { 0 = narrow_or_zero (number_in names.messages (string_in (codes "msg") d)) };
-  state = default_state;
-  kind = Run;
-  safe = false;
-  active = true;
-}
-
-unfoldable pub rows_from : ℕ → Declared → List Row → Items → List Row
-rows_from a names rows no_items = rows
-rows_from a names rows (item d ds) = rows_from a names (rows ++ row_of a names d ∷ []) ds
 
 -- ---- the code of an agent: start, finish, then each row, each of these a body and its end
 
@@ -76,7 +38,7 @@ abbrev pub agent_written : Declared → Writer → Data → Writer
 agent_written names w d =
     rows_written names 0
     (body_written names body.Finish (body_written names body.Start w (get (codes "start") d)) (get (codes "finish") d))
-    (list_of (get (codes "on") d))
+    (row_items d)
 
 -- ---- the pass
 
@@ -90,18 +52,27 @@ with_message d s = record s { messages = s.messages ++ message_of d ∷ [] }
 abbrev pub with_coop : Data → Build → Build
 with_coop d s = record s { coops = s.coops ++ name_in d ∷ [] }
 
--- the agent of a number
-abbrev pub agent_of : ℕ → Declared → Data → Writer → AgentDef
-agent_of a names d w = record {
+-- the agent of a number, with its ids and its code
+abbrev pub agent_with : ℕ → Declared → Data → Scope → List Instr → AgentDef
+agent_with a names d scope code = record {
   name = name_in d;
   coop = record { 0 = 0 };
   vars = vars_of d;
-  rows = rows_from a names [] (list_of (get (codes "on") d));
-  code = w.code;
+  rows = rows_of a names (row_items d);
+  row_ids = scope.rows;
+  filters = filters_of names (filter_items d);
+  code = code;
 }
 
-abbrev pub fresh : Build → Writer
-fresh s = record { texts = s.texts; code = [] }
+abbrev pub agent_of : ℕ → Declared → Data → Writer → AgentDef
+agent_of a names d w = agent_with a names d w.scope w.code
+
+-- a writer for an agent, with the texts so far
+abbrev pub fresh : List (List ℕ) → Data → Writer
+fresh texts d = record { texts = texts; code = []; scope = scope_of d }
+
+abbrev pub written : Build → Data → Writer
+written s d = agent_written s.names (fresh s.texts d) d
 
 -- an agent whose code has more than 1,024 instructions is out of range
 abbrev pub with_agent : Place → Build → Data → Writer → Result Build SceneFault
@@ -110,7 +81,7 @@ with_agent place s d w = if nat_lt 1024 (length w.code) then Err (fault.OutOfRan
 abbrev pub entered : ObjectKind → Place → Build → Data → Result Build SceneFault
 entered object.Message place s d = Ok (with_message d s)
 entered object.Coop place s d = Ok (with_coop d s)
-entered object.Agent place s d = with_agent place s d (agent_written s.names (fresh s) d)
+entered object.Agent place s d = with_agent place s d (written s d)
 entered other place s d = Ok s
 
 abbrev pub build_step : Build → Visit → Result Build SceneFault

@@ -1,5 +1,5 @@
--- The third pass: each name that is used is declared, and a signal carries no operands.
-use Rattle.std.specs.Prelude.{ℕ, List, Bool, false, slice_index_or, if◌then◌else◌, Option, Some, None, Result}
+-- The third pass: each name and id that is used is declared, and a signal carries no operands.
+use Rattle.std.specs.Prelude.{ℕ, List, Bool, false, slice_index_or, is_some, if◌then◌else◌, Option, Some, None, Result, Ok}
 use Rattle.serde_json.specs.Data.{Data, Items, no_items, item}
 use Rattle.serde_json.specs.Find.{as_str}
 use Rattle.so_scene.specs.Names.{has_name, number_in}
@@ -10,6 +10,8 @@ use Rattle.so_scene_json.specs.declared.values.Trouble.{Trouble}
 use Rattle.so_scene_json.specs.declared.values.Trouble.TheVariants.{OutOfRange, UnknownName}
 use Rattle.so_scene_json.specs.declared.declare.Declared.{Declared}
 use Rattle.so_scene_json.specs.declared.known.Known.{Known}
+use Rattle.so_scene_json.specs.declared.table.ObjectKind.{ObjectKind}
+use Rattle.so_scene_json.specs.declared.table.ObjectKind.TheVariants as object
 use Rattle.so_scene_json.specs.declared.table.Space.{Space}
 use Rattle.so_scene_json.specs.declared.table.Space.TheVariants as space
 use Rattle.so_scene_json.specs.declared.table.Form.{Form}
@@ -17,6 +19,7 @@ use Rattle.so_scene_json.specs.declared.table.Form.TheVariants as form
 use Rattle.so_scene_json.specs.Values.{◌or◌}
 use Rattle.so_scene_json.specs.Acts.{act_parts}
 use Rattle.so_scene_json.specs.Twice.{names_in}
+use Rattle.so_scene_json.specs.Scope.{number_with, scope_of, no_scope}
 use Rattle.so_scene_json.specs.Shape.{trouble_at, acts_from, unless_faulty}
 use Rattle.so_scene_json.specs.Visits.{Visit, enters, tries, leaves, Place, list_of}
 
@@ -37,42 +40,57 @@ abbrev pub signal_trouble : Declared → Option (List ℕ) → Items → Option 
 signal_trouble s name no_items = None
 signal_trouble s name (item d ds) = if has_signal s name then Some OutOfRange else None
 
--- the target is the name of an agent; the fault of the target comes before that of the type
+-- the target is the name of an agent or a named mbox; the fault of the target comes before that of the type
 abbrev pub send_trouble : Declared → Items → Option Trouble
 send_trouble s no_items = None
 send_trouble s (item target no_items) = None
 send_trouble s (item target (item message operands)) =
-    name_trouble s space.Parties (as_str target)
+    name_trouble s space.Mboxes (as_str target)
     or name_trouble s space.Messages (as_str message)
     or signal_trouble s (as_str message) operands
 
-abbrev pub word_unknown : Declared → Word → Items → Option Trouble
-word_unknown s word.Send ds = send_trouble s ds
+abbrev pub id_trouble : List (Option (List ℕ)) → Option (List ℕ) → Option Trouble
+id_trouble ids None = None
+id_trouble ids (Some name) = if is_some (number_with ids name) then None else Some UnknownName
+
+-- the first item is an id of these
+abbrev pub first_id_trouble : List (Option (List ℕ)) → Items → Option Trouble
+first_id_trouble ids no_items = None
+first_id_trouble ids (item d ds) = id_trouble ids (as_str d)
+
+abbrev pub word_unknown : Known → Word → Items → Option Trouble
+word_unknown s word.Send ds = send_trouble s.names ds
+word_unknown s word.Subscribe ds = first_id_trouble s.scope.rows ds
+word_unknown s word.Unsubscribe ds = first_id_trouble s.scope.rows ds
+word_unknown s word.SetFilter ds = first_id_trouble s.scope.filters ds
+word_unknown s word.DropFilter ds = first_id_trouble s.scope.filters ds
 word_unknown s other ds = None
 
-abbrev pub parts_unknown : Declared → Option (Word × Items) → Option Trouble
+abbrev pub parts_unknown : Known → Option (Word × Items) → Option Trouble
 parts_unknown s None = None
 parts_unknown s (Some p) = word_unknown s p.0 p.1
 
-abbrev pub act_unknown : Declared → Data → Option Trouble
+abbrev pub act_unknown : Known → Data → Option Trouble
 act_unknown s d = parts_unknown s (act_parts d)
 
-abbrev pub form_unknown : Declared → Form → Place → Data → Option SceneFault
-form_unknown s (form.NameIn space) place d = trouble_at place (name_trouble s space (as_str d))
+abbrev pub form_unknown : Known → Form → Place → Data → Option SceneFault
+form_unknown s (form.NameIn space) place d = trouble_at place (name_trouble s.names space (as_str d))
 form_unknown s form.Acts place d = acts_from (λ rest x. act_unknown s x) place 0 (list_of (Some d))
 form_unknown s other place d = None
 
-abbrev pub field_unknown : Declared → Form → Place → Option Data → Option SceneFault
+abbrev pub field_unknown : Known → Form → Place → Option Data → Option SceneFault
 field_unknown s form place None = None
 field_unknown s form place (Some d) = form_unknown s form place d
 
-abbrev pub known_fault : Declared → Visit → Option SceneFault
-known_fault s (enters kind place d) = None
-known_fault s (tries rule place found) = field_unknown s rule.form place found
-known_fault s (leaves kind place d) = None
+-- the acts of an agent name its own ids
+abbrev pub entered : ObjectKind → Data → Known → Known
+entered object.Agent d s = record s { scope = scope_of d }
+entered other d s = s
 
 abbrev pub knows : Declared → Known
-knows names = record { names = names }
+knows names = record { names = names; scope = no_scope }
 
 abbrev pub known_step : Known → Visit → Result Known SceneFault
-known_step s v = unless_faulty s (known_fault s.names v)
+known_step s (enters kind place d) = Ok (entered kind d s)
+known_step s (tries rule place found) = unless_faulty s (field_unknown s rule.form place found)
+known_step s (leaves kind place d) = Ok s

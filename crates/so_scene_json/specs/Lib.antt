@@ -2,11 +2,13 @@ pub mod Table
 pub mod ActTable
 pub mod Visits
 pub mod Values
+pub mod Scope
 pub mod Acts
 pub mod Shape
 pub mod Twice
 pub mod Known
 pub mod Writer
+pub mod Defs
 pub mod Build
 pub mod Scene
 pub mod Kept

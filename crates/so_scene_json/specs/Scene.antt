@@ -1,8 +1,9 @@
 -- The scene of bytes, or the first fault with its place.
-use Rattle.std.specs.Prelude.{ℕ, List, [], ◌∷◌, length, Bool, true, false, not, ◌&&◌, ◌||◌, nat_lt, nat_eq, is_some, if◌then◌else◌, Option, Some, None, Result, Ok, Err}
-use Rattle.std.specs.List.{list_all, list_any}
+use Rattle.std.specs.Prelude.{ℕ, List, [], ◌∷◌, length, Bool, ◌||◌, nat_lt, is_some, if◌then◌else◌, Option, Some, None, Result, Ok, Err}
 use Rattle.std.specs.Str.{is_utf8}
-use Rattle.so_lists.specs.Lists.{is_empty}
+use Rattle.so_ids.specs.declared.AgentId.{AgentId}
+use Rattle.so_ids.specs.declared.DefFault.{DefFault}
+use Rattle.so_lists.specs.Lists.{is_empty, first_below}
 use Rattle.serde_json.specs.Data.{Data}
 use Rattle.serde_json.specs.Read.{read}
 use Rattle.serde_json.specs.Find.{as_object}
@@ -11,11 +12,9 @@ use Rattle.so_scene.specs.declared.place.PlaceStep.{PlaceStep}
 use Rattle.so_scene.specs.declared.place.PlaceStep.TheVariants.{Key, At}
 use Rattle.so_scene.specs.declared.fault.SceneFault.{SceneFault}
 use Rattle.so_scene.specs.declared.fault.SceneFault.TheVariants as fault
-use Rattle.so_scene.specs.declared.parts.AgentDef.{AgentDef}
 use Rattle.so_scene.specs.declared.parts.CoopDef.{CoopDef}
-use Rattle.so_state.specs.declared.choice.Row.{Row}
 use Rattle.so_scene.specs.declared.parts.SceneParts.{SceneParts}
-use Rattle.so_scene.specs.Parts.{msg_number}
+use Rattle.so_scene.specs.Definition.{definition_fault}
 use Rattle.so_scene_json.specs.declared.build.Build.{Build}
 use Rattle.so_scene_json.specs.declared.shape.Shape.{Shape}
 use Rattle.so_scene_json.specs.declared.table.ObjectKind.TheVariants as object
@@ -29,7 +28,8 @@ use Rattle.so_scene_json.specs.Build.{build_step, no_parts}
 abbrev pub reading : List ℕ → Option Data
 reading bytes = if is_utf8 bytes then read bytes else None
 
--- the visits of a scene: objects stand in it in four levels, the scene, its cooperations, their agents and their rows
+-- the visits of a scene: objects stand in it in four levels, the scene, its cooperations,
+-- their agents, and the rows and filters of these
 abbrev pub fields : Data → List Visit
 fields d = visits 4 object.Scene [] d
 
@@ -39,27 +39,25 @@ fields d = visits 4 object.Scene [] d
 abbrev pub exceeds : Build → Bool
 exceeds s = nat_lt 4096 (length s.agents) || nat_lt 4096 (length s.texts)
 
--- a row of them subscribes to this type
-abbrev pub has_row : ℕ → List Row → Bool
-has_row msg rows = list_any (λ row. nat_eq msg (msg_number row)) rows
-
--- no two subscribe to one type
-unfoldable pub differ : List Row → Bool
-differ [] = true
-differ (row ∷ rows) = if has_row (msg_number row) rows then false else differ rows
-
-abbrev pub rows_differ : AgentDef → Bool
-rows_differ a = differ a.rows
-
--- a cooperation without agents, and one with such an agent, would be refused when it is registered
-abbrev pub is_admitted : Build → Bool
-is_admitted s = not (is_empty s.agents) && list_all rows_differ s.agents
-
 abbrev pub coop_of : List ℕ → Build → CoopDef
 coop_of name s = record { name = name; first = record { 0 = 0 }; count = narrow (length s.agents) }
 
 abbrev pub parts_of : List ℕ → Build → SceneParts
-parts_of name s = record { messages = s.messages; coops = coop_of name s ∷ []; agents = s.agents; texts = s.texts }
+parts_of name s = record { messages = s.messages; mboxes = s.names.mboxes; coops = coop_of name s ∷ []; agents = s.agents; texts = s.texts }
+
+abbrev pub agent_number : ℕ → AgentId
+agent_number k = record { 0 = k }
+
+abbrev pub fault_of : SceneParts → ℕ → Option DefFault
+fault_of s k = definition_fault s (agent_number k)
+
+-- the first definition rule that an agent breaks
+abbrev pub first_fault : SceneParts → Option DefFault
+first_fault s = first_below (fault_of s) (length s.agents)
+
+-- a cooperation without agents, and one with an agent that breaks such a rule, would be refused when it is registered
+abbrev pub is_refused : SceneParts → Bool
+is_refused s = is_empty s.agents || is_some (first_fault s)
 
 abbrev pub coops_place : List PlaceStep
 coops_place = Key Coops ∷ []
@@ -72,10 +70,14 @@ only [] = None
 only (name ∷ []) = Some name
 only (name ∷ other ∷ more) = None
 
--- a scene that hasn't exactly one cooperation, and one that would be refused, aren't built
+-- a scene whose cooperation would be refused isn't built
+abbrev pub admitted : SceneParts → Result SceneParts SceneFault
+admitted s = if is_refused s then Err (fault.NotBuilt first_coop) else Ok s
+
+-- nor is one that hasn't exactly one cooperation
 abbrev pub with_coop : Option (List ℕ) → Build → Result SceneParts SceneFault
 with_coop None s = Err (fault.NotBuilt coops_place)
-with_coop (Some name) s = if is_admitted s then Ok (parts_of name s) else Err (fault.NotBuilt first_coop)
+with_coop (Some name) s = admitted (parts_of name s)
 
 abbrev pub finished : Build → Result SceneParts SceneFault
 finished s = if exceeds s then Err (fault.OutOfRange []) else with_coop (only s.coops) s

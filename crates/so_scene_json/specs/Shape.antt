@@ -1,5 +1,5 @@
 -- The first pass: the shape of each object and field.
-use Rattle.std.specs.Prelude.{ℕ, suc, ◌+◌, ℤ, pos, negsuc, List, [], ◌∷◌, codes, Bool, true, false, not, ◌==◌, ◌||◌, nat_le, if◌then◌else◌, Option, Some, None, option_map, is_some, Result, Ok, Err, bytes_eq}
+use Rattle.std.specs.Prelude.{ℕ, suc, ◌+◌, ℤ, pos, negsuc, List, [], ◌∷◌, codes, Bool, true, false, not, ◌==◌, ◌||◌, nat_le, nat_lt, if◌then◌else◌, Option, Some, None, option_map, is_some, Result, Ok, Err, bytes_eq}
 use Rattle.serde_json.specs.Data.{Num, Data, Items, no_items, item, Members, no_members, member}
 use Rattle.serde_json.specs.Events.{items_len}
 use Rattle.serde_json.specs.Find.{as_number, as_i64, as_str, as_array, as_object, get}
@@ -16,7 +16,7 @@ use Rattle.so_scene_json.specs.declared.table.Rule.{Rule}
 use Rattle.so_scene_json.specs.declared.values.Trouble.{Trouble}
 use Rattle.so_scene_json.specs.declared.values.Trouble.TheVariants.{WrongShape, OutOfRange, UnknownName, NotBuilt}
 use Rattle.so_scene_json.specs.Table.{rules_of}
-use Rattle.so_scene_json.specs.Values.{◌or◌, trouble, name_of, integer_of}
+use Rattle.so_scene_json.specs.Values.{◌or◌, trouble, name_of, integer_of, number_of, flag_of, only_true, cmp_of}
 use Rattle.so_scene_json.specs.Acts.{act_trouble}
 use Rattle.so_scene_json.specs.Visits.{Visit, enters, tries, leaves, Place, at_item}
 
@@ -82,6 +82,9 @@ list_trouble limit f (Some ds) = if is_within limit (items_len ds) then first_of
 abbrev pub number_trouble : Data → Option Trouble
 number_trouble d = trouble (integer_of d)
 
+abbrev pub name_trouble : Data → Option Trouble
+name_trouble d = trouble (name_of d)
+
 abbrev pub object_trouble : Data → Option Trouble
 object_trouble d = if is_some (as_object d) then None else Some WrongShape
 
@@ -98,7 +101,13 @@ abbrev pub form_fault : Form → Place → Data → Option SceneFault
 form_fault form.One place d = version_fault place (as_number d)
 form_fault form.Name place d = trouble_at place (trouble (name_of d))
 form_fault (form.NameIn s) place d = trouble_at place (trouble (name_of d))
+form_fault (form.Mboxes limit) place d = trouble_at place (list_trouble (Some limit) name_trouble (as_array d))
 form_fault form.MessageKind place d = trouble_at place (kind_trouble (as_str d))
+form_fault form.Flag place d = trouble_at place (trouble (flag_of d))
+form_fault form.OnlyTrue place d = trouble_at place (trouble (only_true d))
+form_fault form.Cmp place d = trouble_at place (trouble (cmp_of d))
+form_fault form.AnyNumber place d = trouble_at place (number_trouble d)
+form_fault (form.Number low high) place d = trouble_at place (trouble (number_of low high d))
 form_fault (form.Numbers limit) place d = trouble_at place (list_trouble (Some limit) number_trouble (as_array d))
 form_fault (form.Objects kind limit) place d = trouble_at place (list_trouble limit object_trouble (as_array d))
 form_fault form.Acts place d = acts_fault place (as_array d)
@@ -113,9 +122,9 @@ field_fault rule place (Some d) = form_fault rule.form place d
 abbrev pub has : Field → Data → ℕ
 has f d = if is_some (get (spelling f) d) then 1 else 0
 
--- a row has exactly one of do, switch, transfer and suppress
+-- a row has exactly one of do, switch, transfer and suppress, and a dead-letter row has do
 abbrev pub is_breach : ObjectKind → Data → Bool
-is_breach object.Row d = not ((has field.Do d + has field.Switch d + has field.Transfer d + has field.Suppress d) == 1)
+is_breach object.Row d = not ((has field.Do d + has field.Switch d + has field.Transfer d + has field.Suppress d) == 1) || nat_lt (has field.Do d) (has field.Dead d)
 is_breach other d = false
 
 -- ---- the pass

@@ -1,5 +1,6 @@
 -- The fields of each kind of object, in their order. A field that is `later` isn't built: it is known, and refused where
--- it is given. Where an optional field is absent, a list is empty and a message's kind is `message`.
+-- it is given. Where an optional field is absent, a list is empty, a message's kind is `message`, a row's mbox is the agent's
+-- own, and what may be active is.
 use Rattle.std.specs.Prelude.{Option, Some, None, List, [], ◌∷◌, true, false}
 use Rattle.so_scene.specs.declared.place.Field.{Field}
 use Rattle.so_scene.specs.declared.place.Field.TheVariants as field
@@ -26,7 +27,7 @@ rules_of object.Scene =
     ∷ later field.Autoshutdown
     ∷ later field.Reaction
     ∷ optional field.Messages (form.Objects object.Message (Some 256))
-    ∷ later field.Mboxes
+    ∷ optional field.Mboxes (form.Mboxes 256)
     ∷ later field.Chains
     ∷ later field.Dispatchers
     ∷ optional field.Coops (form.Objects object.Coop (Some 1024))
@@ -67,7 +68,7 @@ rules_of object.Agent =
     ∷ optional field.Vars (form.Numbers 16)
     ∷ later field.States
     ∷ later field.Limits
-    ∷ later field.Filters
+    ∷ optional field.Filters (form.Objects object.Filter (Some 32))
     ∷ optional field.Start form.Acts
     ∷ optional field.Finish form.Acts
     ∷ optional field.On (form.Objects object.Row (Some 128))
@@ -87,26 +88,26 @@ rules_of object.Limit =
     ∷ later field.Over
     ∷ []
 rules_of object.Filter =
-    later field.Id
-    ∷ later field.Mbox
-    ∷ later field.Msg
-    ∷ later field.Field
-    ∷ later field.Cmp
-    ∷ later field.Value
-    ∷ later field.Active
+    optional field.Id form.Name
+    ∷ required field.Mbox (form.NameIn space.Mboxes)
+    ∷ required field.Msg (form.NameIn space.Messages)
+    ∷ required field.Field (form.Number 0 3)
+    ∷ required field.Cmp form.Cmp
+    ∷ required field.Value form.AnyNumber
+    ∷ optional field.Active form.Flag
     ∷ []
 rules_of object.Row =
-    later field.Id
+    optional field.Id form.Name
     ∷ required field.Msg (form.NameIn space.Messages)
-    ∷ later field.Mbox
+    ∷ optional field.Mbox (form.NameIn space.Mboxes)
     ∷ later field.State
     ∷ optional field.Do form.Acts
     ∷ later field.Switch
     ∷ later field.Transfer
     ∷ later field.Suppress
-    ∷ later field.Dead
+    ∷ optional field.Dead form.OnlyTrue
     ∷ later field.Safe
-    ∷ later field.Active
+    ∷ optional field.Active form.Flag
     ∷ []
 rules_of object.Thread =
     later field.Name
@@ -118,9 +119,17 @@ abbrev pub objects_of : Form → Option ObjectKind
 objects_of (form.Objects kind limit) = Some kind
 objects_of other = None
 
--- the space in which an object declares its name
+-- The space in which an object declares its name, or its id if it has one. Rows and filters have theirs in the agent's own.
 abbrev pub space_of : ObjectKind → Option Space
 space_of object.Message = Some space.Messages
 space_of object.Coop = Some space.Coops
-space_of object.Agent = Some space.Parties
+space_of object.Agent = Some space.Mboxes
+space_of object.Row = Some space.Rows
+space_of object.Filter = Some space.Filters
 space_of other = None
+
+-- the field that declares a name of a space
+abbrev pub key_of : Space → Field
+key_of space.Rows = field.Id
+key_of space.Filters = field.Id
+key_of other = field.Name

@@ -2,7 +2,7 @@
 use Rattle.std.specs.Prelude.{◌≡◌, ℕ, ◌-◌, ℤ, pos, negsuc, List, [], ◌∷◌, codes, Bool, ◌==◌, ◌&&◌, nat_lt, nat_le, if◌then◌else◌, Option, Some, None, option_map, option_and_then, Result, Ok, Err, bytes_eq}
 use denote.Bor.{Bor}
 use Rattle.serde_json.specs.Data.{Num, Data}
-use Rattle.serde_json.specs.Find.{as_number, as_i64, as_str, get}
+use Rattle.serde_json.specs.Find.{as_bool, as_number, as_i64, as_str, get}
 use Rattle.so_code.specs.declared.instr.Cmp.{Cmp}
 use Rattle.so_code.specs.declared.instr.Cmp.TheVariants as cmp
 use Rattle.so_code.specs.declared.instr.Operand.{Operand}
@@ -51,6 +51,25 @@ natural_up_to limit (negsuc n) = Err OutOfRange
 -- 0 to the number of acts that follow
 abbrev pub count_of : ℕ → Data → Result ℕ Trouble
 count_of rest d = integer_of d then natural_up_to rest
+
+abbrev pub from_low : ℕ → ℕ → Result ℕ Trouble
+from_low low n = if nat_le low n then Ok n else Err OutOfRange
+
+-- a number of a range
+abbrev pub number_of : ℕ → ℕ → Data → Result ℕ Trouble
+number_of low high d = integer_of d then natural_up_to high then from_low low
+
+-- ---- true and false
+
+abbrev pub flag_of : Data → Result Bool Trouble
+flag_of d = as_bool d else WrongShape
+
+abbrev pub if_true : Bool → Result Bool Trouble
+if_true b = if b then Ok b else Err WrongShape
+
+-- true alone
+abbrev pub only_true : Data → Result Bool Trouble
+only_true d = flag_of d then if_true
 
 -- ---- words
 
@@ -131,6 +150,10 @@ string_in key d = text_or_empty (option_and_then as_str (get key d))
 -- the name of an object, no bytes where it has none
 abbrev pub name_in : Data → List ℕ
 name_in d = text_or_empty (checked is_name (string_in (codes "name") d))
+
+-- the id of an object, if it has one
+abbrev pub id_in : Data → Option (List ℕ)
+id_in d = checked is_name (string_in (codes "id") d)
 
 -- a text that was lent
 abbrev pub Views : Result (Bor (List ℕ)) Trouble → Result (List ℕ) Trouble → Type 0

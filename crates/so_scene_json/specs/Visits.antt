@@ -41,6 +41,11 @@ list_of (Some (string s)) = no_items
 list_of (Some (array ds)) = ds
 list_of (Some (object ms)) = no_items
 
+-- the items as a list
+abbrev pub listed : Items → List Data
+listed no_items = []
+listed (item d ds) = d ∷ listed ds
+
 unfoldable pub items_from : (Place → Data → List Visit) → Place → ℕ → Items → List Visit
 items_from inside place i no_items = []
 items_from inside place i (item d ds) = inside (at_item place i) d ++ items_from inside place (suc i) ds

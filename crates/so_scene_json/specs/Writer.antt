@@ -1,9 +1,11 @@
 -- Acts as instructions, one for each, and texts by number in the order of their first appearance. A part that an earlier
 -- pass refuses stands as 0 here, and an act that one refuses as an instruction that does nothing.
-use Rattle.std.specs.Prelude.{ℕ, ◌+◌, ◌-◌, min, pos, List, [], ◌∷◌, ◌++◌, length, Option, Some, None, Result, Ok, Err, option_and_then}
+use Rattle.std.specs.Prelude.{ℕ, ◌+◌, ◌-◌, min, pos, List, [], ◌∷◌, ◌++◌, length, Option, Some, None, Result, Ok, Err, option_map, option_and_then}
 use Rattle.serde_json.specs.Data.{Data, Items, no_items, item}
 use Rattle.serde_json.specs.Events.{items_len}
 use Rattle.serde_json.specs.Find.{as_str, get_item}
+use Rattle.so_ids.specs.declared.FilterId.{FilterId}
+use Rattle.so_ids.specs.declared.RowId.{RowId}
 use Rattle.so_ids.specs.declared.Target.TheVariants.{Mbox}
 use Rattle.so_code.specs.declared.instr.Operand.{Operand}
 use Rattle.so_code.specs.declared.instr.Operand.TheVariants as operand
@@ -20,9 +22,13 @@ use Rattle.so_scene_json.specs.declared.act_table.Word.{Word}
 use Rattle.so_scene_json.specs.declared.act_table.Word.TheVariants as word
 use Rattle.so_scene_json.specs.declared.values.Trouble.{Trouble}
 use Rattle.so_scene_json.specs.declared.declare.Declared.{Declared}
+use Rattle.so_scene_json.specs.declared.scope.Scope.{Scope}
+use Rattle.so_scene_json.specs.declared.table.Space.TheVariants as space
 use Rattle.so_scene_json.specs.declared.write.Writer.{Writer}
 use Rattle.so_scene_json.specs.Values.{operand_of, dest_of, cmp_of, count_of, checked, text_or_empty}
 use Rattle.so_scene_json.specs.Acts.{act_parts}
+use Rattle.so_scene_json.specs.Scope.{number_with}
+use Rattle.so_scene_json.specs.Twice.{names_in}
 use Rattle.so_scene_json.specs.Visits.{narrow}
 
 -- ---- the parts of an act
@@ -62,28 +68,53 @@ args_from i ds = record { list = operand_at i ds ∷ operand_at (i + 1) ds ∷ o
 abbrev pub idle : Instr
 idle = instr.Skip 0
 
--- a message to the direct mbox of an agent
+-- a message to a mbox
 abbrev pub send_instr : Option ℕ → Option ℕ → Args → Instr
-send_instr (Some agent) (Some msg) args = instr.Send (Mbox (record { 0 = narrow agent })) (record { 0 = narrow msg }) args
-send_instr (Some agent) None args = idle
+send_instr (Some mbox) (Some msg) args = instr.Send (Mbox (record { 0 = narrow mbox })) (record { 0 = narrow msg }) args
+send_instr (Some mbox) None args = idle
 send_instr None msg args = idle
 
 abbrev pub send_at : Declared → Items → Instr
-send_at names ds = send_instr (number_in names.parties (string_at 0 ds)) (number_in names.messages (string_at 1 ds)) (args_from 2 ds)
+send_at names ds = send_instr (number_in (names_in space.Mboxes names) (string_at 0 ds)) (number_in names.messages (string_at 1 ds)) (args_from 2 ds)
+
+-- the row, and the filter, that an act names
+abbrev pub row_id : ℕ → RowId
+row_id k = record { 0 = narrow k }
+
+abbrev pub filter_number : ℕ → FilterId
+filter_number k = record { 0 = narrow k }
+
+abbrev pub row_at : Scope → Items → Option RowId
+row_at scope ds = option_map row_id (number_with scope.rows (string_at 0 ds))
+
+abbrev pub filter_at : Scope → Items → Option FilterId
+filter_at scope ds = option_map filter_number (number_with scope.filters (string_at 0 ds))
+
+abbrev pub or_idle : {A : Type 0} → (A → Instr) → Option A → Instr
+or_idle f None = idle
+or_idle f (Some x) = f x
+
+-- the instruction of an act that so many others follow, where it reads or computes
+abbrev pub step_instr : ℕ → Word → Items → Instr
+step_instr rest word.Set ds = instr.Set (dest_at 0 ds) (operand_at 1 ds)
+step_instr rest word.Add ds = instr.Add (dest_at 0 ds) (operand_at 1 ds) (operand_at 2 ds)
+step_instr rest word.Sub ds = instr.Sub (dest_at 0 ds) (operand_at 1 ds) (operand_at 2 ds)
+step_instr rest word.Mul ds = instr.Mul (dest_at 0 ds) (operand_at 1 ds) (operand_at 2 ds)
+step_instr rest word.If ds = instr.If (operand_at 0 ds) (cmp_at 1 ds) (operand_at 2 ds) (count_at rest 3 ds)
+step_instr rest word.Skip ds = instr.Skip (count_at rest 0 ds)
+step_instr rest word.Throw ds = instr.Throw (operand_at 0 ds)
+step_instr rest other ds = idle
 
 -- the instruction of an act that so many others follow, where a text of it has the number `text`
-abbrev pub word_instr : Declared → ℕ → ℕ → Word → Items → Instr
-word_instr names text rest word.Set ds = instr.Set (dest_at 0 ds) (operand_at 1 ds)
-word_instr names text rest word.Add ds = instr.Add (dest_at 0 ds) (operand_at 1 ds) (operand_at 2 ds)
-word_instr names text rest word.Sub ds = instr.Sub (dest_at 0 ds) (operand_at 1 ds) (operand_at 2 ds)
-word_instr names text rest word.Mul ds = instr.Mul (dest_at 0 ds) (operand_at 1 ds) (operand_at 2 ds)
-word_instr names text rest word.If ds = instr.If (operand_at 0 ds) (cmp_at 1 ds) (operand_at 2 ds) (count_at rest 3 ds)
-word_instr names text rest word.Skip ds = instr.Skip (count_at rest 0 ds)
-word_instr names text rest word.Throw ds = instr.Throw (operand_at 0 ds)
-word_instr names text rest word.Log ds = instr.Log (record { 0 = text }) (args_from 1 ds)
-word_instr names text rest word.Send ds = send_at names ds
-word_instr names text rest word.Stop ds = instr.Stop
-word_instr names text rest other ds = idle
+abbrev pub word_instr : Declared → Scope → ℕ → ℕ → Word → Items → Instr
+word_instr names scope text rest word.Log ds = instr.Log (record { 0 = text }) (args_from 1 ds)
+word_instr names scope text rest word.Send ds = send_at names ds
+word_instr names scope text rest word.Subscribe ds = or_idle instr.Subscribe (row_at scope ds)
+word_instr names scope text rest word.Unsubscribe ds = or_idle instr.Unsubscribe (row_at scope ds)
+word_instr names scope text rest word.SetFilter ds = or_idle instr.SetFilter (filter_at scope ds)
+word_instr names scope text rest word.DropFilter ds = or_idle instr.DropFilter (filter_at scope ds)
+word_instr names scope text rest word.Stop ds = instr.Stop
+word_instr names scope text rest other ds = step_instr rest other ds
 
 -- ---- texts
 
@@ -109,11 +140,11 @@ abbrev pub with_instr : Instr → Writer → Writer
 with_instr i w = record w { code = w.code ++ i ∷ [] }
 
 abbrev pub log_written : Declared → ℕ → Writer → List ℕ → Items → Writer
-log_written names rest w text ds = with_instr (word_instr names (text_number text w) rest word.Log ds) (with_text text w)
+log_written names rest w text ds = with_instr (word_instr names w.scope (text_number text w) rest word.Log ds) (with_text text w)
 
 abbrev pub word_written : Declared → ℕ → Writer → Word → Items → Writer
 word_written names rest w word.Log ds = log_written names rest w (text_at 0 ds) ds
-word_written names rest w other ds = with_instr (word_instr names 0 rest other ds) w
+word_written names rest w other ds = with_instr (word_instr names w.scope 0 rest other ds) w
 
 abbrev pub parts_written : Declared → ℕ → Writer → Option (Word × Items) → Writer
 parts_written names rest w None = with_instr idle w

@@ -74,6 +74,8 @@ static SEND: [Arg; 6] = [
     Arg::Operand,
 ];
 
+static ID: [Arg; 1] = [Arg::Name];
+
 static STOP: [Arg; 0] = [];
 
 /// The word that a text is.
@@ -119,15 +121,13 @@ pub(crate) fn args(word: Word) -> Option<&'static [Arg]>
         Word::Throw => Some(&THROW),
         Word::Log => Some(&LOG),
         Word::Send => Some(&SEND),
+        Word::Subscribe | Word::Unsubscribe => Some(&ID),
+        Word::SetFilter | Word::DropFilter => Some(&ID),
         Word::Stop => Some(&STOP),
         Word::Delayed
         | Word::Timer
         | Word::Cancel
         | Word::Switch
-        | Word::Subscribe
-        | Word::Unsubscribe
-        | Word::SetFilter
-        | Word::DropFilter
         | Word::Register
         | Word::Deregister
         | Word::Close
@@ -147,6 +147,8 @@ pub(crate) fn needed(word: Word) -> usize
         Word::Throw => 1,
         Word::Log => 1,
         Word::Send => 2,
+        Word::Subscribe | Word::Unsubscribe => 1,
+        Word::SetFilter | Word::DropFilter => 1,
         _ => 0,
     }
 }

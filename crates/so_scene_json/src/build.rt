@@ -1,116 +1,24 @@
 //! The fourth pass: the parts of the scene, and the length of each code.
 
-ghost use Rattle.std.specs.Prelude.{◌≡◌, ◌≤◌, ◌++◌, ◌∷◌, [], Ok, ℤ, codes, map, length, option_map};
-ghost use Rattle.std.specs.List.{range_with_len};
+ghost use Rattle.std.specs.Prelude.{◌≡◌, ◌≤◌, ◌++◌, ◌∷◌, [], Ok, IfOk, length, option_map};
 ghost use Rattle.serde_json.specs.View.{view, items_view};
 ghost use Rattle.so_code.specs.Shape.{IsCode};
-ghost use Rattle.so_scene_json.specs.Build.{message_of, var_at, vars_in, vars_of, narrow_or_zero, row_of, rows_from, body_written, row_body, rows_written, agent_written, no_parts, with_message, with_coop, fresh, with_agent, build_step};
+ghost use Rattle.so_scene_json.specs.Build.{body_written, row_body, rows_written, agent_written, no_parts, with_message, with_coop, fresh, written, agent_with, with_agent, build_step};
 ghost use Rattle.so_scene_json.specs.Reads.{Returns};
-ghost use Rattle.so_scene_json.specs.Values.{name_in, string_in};
-ghost use Rattle.so_scene.specs.Names.{number_in};
 ghost use Rattle.so_scene_json.specs.Visits.{list_of, Leaves};
 
-use crate::declare::{Declared, is_signal};
-use crate::table::{ObjectKind, Rule, Space};
-use crate::values::{integer, name_in, string_in};
+use crate::declare::Declared;
+use crate::defs::{filters_in, message_of, name_of, rows_in, vars_of};
+use crate::scope::Scope;
+use crate::table::{ObjectKind, Rule};
 use crate::walk::{Pass, list, position};
-use crate::write::{Writer, item};
+use crate::write::Writer;
 use serde_json::Value;
 use so_code::{Body, Code, Instr};
-use so_ids::{CoopId, MboxId, MsgId, RowId, StateId, Vars};
+use so_ids::{CoopId, RowId};
 use so_scene::{AgentDef, Items, MessageDef, Name, Names, SceneFault, ScenePlace, SceneRefusal};
-use so_state::{Row, RowKind};
 use std::alloc::Global;
 use std::mem;
-
-/// The name of an object, of no bytes where it has none.
-fn name_of(value: &Value) -> Name
-    ensures { result ≡ name_in (view value.now) }
-{
-    match Name::of(name_in(value)) {
-        Some(name) => name,
-        None => Name::none(),
-    }
-}
-
-fn message_of(value: &Value) -> MessageDef
-    ensures { result ≡ message_of (view value.now) }
-{
-    MessageDef {
-        name: name_of(value),
-        signal: is_signal(value),
-    }
-}
-
-fn var_at(list: &[Value], k: usize) -> i64
-    ensures { result ≡ var_at k (items_view list.now) }
-{
-    match item(list, k) {
-        Some(value) => match integer(value) {
-            Ok(n) => n,
-            Err(_) => 0,
-        },
-        None => 0,
-    }
-}
-
-fn vars_in(list: &[Value]) -> [i64; 16]
-    ensures { result ≡ vars_in (items_view list.now) }
-{
-    let mut vars = [0i64; 16];
-    for k in 0..16 {
-        vars[k] = var_at(list, k);
-    }
-    vars
-}
-
-fn vars_of(value: &Value) -> Vars
-    ensures { result ≡ vars_of (view value.now) }
-{
-    Vars(vars_in(list(value.get("vars"))))
-}
-
-/// The number of a row's type of messages.
-fn msg_of(names: &Declared, value: &Value) -> MsgId
-    ensures { result.0 ≡ narrow_or_zero (number_in names.now.messages (string_in (codes "msg") (view value.now))) }
-{
-    match names.number(Space::Messages, string_in(value, "msg")) {
-        Some(n) => MsgId(position(n)),
-        None => MsgId(0),
-    }
-}
-
-/// A row of the agent of this number.
-fn row_of(agent: usize, names: &Declared, value: &Value) -> Row
-    ensures { result ≡ row_of agent names.now (view value.now) }
-{
-    Row {
-        mbox: MboxId(position(agent)),
-        msg: msg_of(names, value),
-        state: StateId(0),
-        kind: RowKind::Run,
-        safe: false,
-        active: true,
-    }
-}
-
-fn rows_in(
-    alloc: Global,
-    agent: usize,
-    names: &Declared,
-    list: &[Value],
-) -> Result<Items<Row>, SceneRefusal>
-    ensures { Returns (rows_from agent names.now [] (items_view list.now)) result }
-{
-    let mut rows = Items::new(alloc);
-    for value in list {
-        match rows.push(row_of(agent, names, value)) {
-            Ok(()) => {}
-            Err(_) => return Err(SceneRefusal::NoMemory),
-        }
-    }
-    Ok(rows)
-}
 
 impl Writer {
     /// A body and its end.
@@ -143,6 +51,45 @@ impl Writer {
         self.body(names, Body::Finish, value.get("finish"))?;
         self.rows(names, list(value.get("on")))
     }
+}
+
+/// The code of an agent, with the texts so far and its own.
+fn written(names: &Declared, texts: Names, value: &Value) -> Result<Writer, SceneRefusal>
+    ensures value { Returns (agent_written names.now (fresh texts (view value.now)) (view value.now)) result }
+    ensures code { IfOk result (λ w. length w.code ≤ 1024 → IsCode w.code) }
+{
+    let alloc = texts.alloc();
+    let scope = Scope::of(alloc, value)?;
+    let mut writer = Writer {
+        texts,
+        code: Items::new(alloc),
+        scope,
+    };
+    writer.agent(names, value)?;
+    Ok(writer)
+}
+
+/// The agent of a number, with its ids and its code.
+fn agent_with(
+    alloc: Global,
+    number: usize,
+    names: &Declared,
+    value: &Value,
+    scope: Scope,
+    code: Items<Instr>,
+) -> Result<AgentDef, SceneRefusal>
+    requires { IsCode code }
+    ensures { Returns (agent_with number names.now (view value.now) scope code) result }
+{
+    Ok(AgentDef {
+        name: name_of(value),
+        coop: CoopId(0),
+        vars: vars_of(value),
+        rows: rows_in(alloc, number, names, list(value.get("on")))?,
+        row_ids: scope.rows,
+        filters: filters_in(alloc, names, list(value.get("filters")))?,
+        code: Code::new(code.into_vec()),
+    })
 }
 
 /// The parts so far.
@@ -188,27 +135,33 @@ impl Build {
         }
     }
 
-    fn agent(&mut self, place: &ScenePlace, value: &Value) -> Result<(), SceneRefusal>
-        ensures { Leaves (with_agent place.now self.old (view value.now) (agent_written self.old.names (fresh self.old) (view value.now))) result self.new }
+    /// The texts, which are taken out.
+    fn take_texts(&mut self) -> Names
+        ensures taken { result ≡ self.old.texts }
+        ensures rest { self.new ≡ record self.old { texts = [] } }
     {
         let alloc = self.texts.alloc();
-        let texts = mem::replace(&mut self.texts, Names::new(alloc));
-        let mut writer = Writer {
-            texts,
-            code: Items::new(alloc),
-        };
-        writer.agent(&self.names, value)?;
-        let Writer { texts, code } = writer;
+        mem::replace(&mut self.texts, Names::new(alloc))
+    }
+
+    /// An agent, whose code takes the texts along while it is written.
+    fn agent(&mut self, place: &ScenePlace, value: &Value) -> Result<(), SceneRefusal>
+        ensures { Leaves (with_agent place.now self.old (view value.now) (written self.old (view value.now))) result self.new }
+    {
+        let alloc = self.texts.alloc();
+        let number = self.agents.len();
+        let texts = self.take_texts();
+        let Writer { texts, code, scope } = written(&self.names, texts, value)?;
         if code.len() > 1024 {
             return Err(SceneRefusal::Fault(SceneFault::OutOfRange(place.copy())));
         }
-        let agent = AgentDef {
-            name: name_of(value),
-            coop: CoopId(0),
-            vars: vars_of(value),
-            rows: rows_in(alloc, self.agents.len(), &self.names, list(value.get("on")))?,
-            code: Code::new(code.into_vec()),
-        };
+        let agent = agent_with(alloc, number, &self.names, value, scope, code)?;
+        self.add(agent, texts)
+    }
+
+    fn add(&mut self, agent: AgentDef, texts: Names) -> Result<(), SceneRefusal>
+        ensures { Leaves (Ok (record self.old { agents = self.old.agents ++ agent ∷ []; texts = texts })) result self.new }
+    {
         self.texts = texts;
         match self.agents.push(agent) {
             Ok(()) => Ok(()),

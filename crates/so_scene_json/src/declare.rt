@@ -1,18 +1,17 @@
 //! The second pass: in each name space each name is declared once.
 
-ghost use Rattle.std.specs.Prelude.{◌≡◌, ◌<◌, ◌++◌, ◌∷◌, [], Ok, codes, length, option_map};
-ghost use Rattle.serde_json.specs.Find.{get};
-ghost use Rattle.serde_json.specs.View.{view};
+ghost use Rattle.std.specs.Prelude.{◌≡◌, ◌<◌, ◌+◌, ◌++◌, Some, Ok, length, option_map};
+ghost use Rattle.serde_json.specs.View.{view, items_view};
 ghost use Rattle.so_scene.specs.Names.{number_in};
-ghost use Rattle.so_scene_json.specs.Values.{name_in};
-ghost use Rattle.so_scene_json.specs.Twice.{is_signal, no_names, names_in, with_name, with_signal, declared_in, declared, twice_step};
+ghost use Rattle.so_scene_json.specs.Values.{name_of, name_in, id_in};
+ghost use Rattle.so_scene_json.specs.Twice.{is_signal, no_names, names_in, with_mbox, with_mbox_read, with_mboxes, entering, name_for, declared_name, declared, twice_step};
 ghost use Rattle.so_scene_json.specs.Visits.{Leaves};
 
-use crate::table::{ObjectKind, Rule, Space, declares};
-use crate::values::name_in;
-use crate::walk::Pass;
+use crate::table::{Form, ObjectKind, Rule, Space, declares, key};
+use crate::values::{name, name_in, string_in};
+use crate::walk::{Pass, list};
 use serde_json::Value;
-use so_scene::{Field, Items, Names, PlaceStep, SceneFault, ScenePlace, SceneRefusal};
+use so_scene::{Items, Names, PlaceStep, SceneFault, ScenePlace, SceneRefusal, is_name};
 use std::alloc::Global;
 
 /// Whether a message is a signal.
@@ -29,14 +28,51 @@ pub(crate) fn is_signal(value: &Value) -> bool
     }
 }
 
+/// The id of an object, if it has one.
+fn id(value: &Value) -> Option<&str>
+    ensures { option_map (λ n. n.now) result ≡ id_in (view value.now) }
+{
+    let id = string_in(value, "id");
+    if is_name(id.as_bytes()) {
+        Some(id)
+    } else {
+        None
+    }
+}
+
+/// The name that an object declares in a space.
+fn name_for(space: Space, value: &Value) -> Option<&str>
+    ensures { option_map (λ n. n.now) result ≡ name_for space (view value.now) }
+{
+    match space {
+        Space::Rows | Space::Filters => id(value),
+        _ => Some(name_in(value)),
+    }
+}
+
 /// The names so far, by number in each name space.
 #[derive(Drop)]
 pub(crate) struct Declared {
     pub(crate) messages: Names,
     pub(crate) coops: Names,
-    pub(crate) parties: Names,
+    pub(crate) agents: Names,
+    /// The named mboxes. Their numbers follow those of the agents.
+    pub(crate) mboxes: Names,
+    /// The ids of rows of the agent that is visited.
+    pub(crate) rows: Names,
+    /// The ids of its filters.
+    pub(crate) filters: Names,
     /// Whether each message is a signal.
     pub(crate) signals: Items<bool>,
+}
+
+/// The number of the second names' name `k` where their numbers follow those of the first.
+fn number_behind(first: &Names, second: &Names, k: usize) -> usize
+    requires { k < length second.now }
+    ensures { result ≡ length first.now + k }
+{
+    let _second = second.as_slice().len();
+    first.as_slice().len() + k
 }
 
 impl Declared {
@@ -46,8 +82,24 @@ impl Declared {
         Declared {
             messages: Names::new(alloc),
             coops: Names::new(alloc),
-            parties: Names::new(alloc),
+            agents: Names::new(alloc),
+            mboxes: Names::new(alloc),
+            rows: Names::new(alloc),
+            filters: Names::new(alloc),
             signals: Items::new(alloc),
+        }
+    }
+
+    /// The number of a mbox, which of an agent's own is the agent's.
+    fn mbox(&self, name: &str) -> Option<usize>
+        ensures { result ≡ number_in (self.now.agents ++ self.now.mboxes) name.now }
+    {
+        match self.agents.number(name) {
+            Some(agent) => Some(agent),
+            None => match self.mboxes.number(name) {
+                Some(k) => Some(number_behind(&self.agents, &self.mboxes, k)),
+                None => None,
+            },
         }
     }
 
@@ -58,23 +110,27 @@ impl Declared {
         match space {
             Space::Messages => self.messages.number(name),
             Space::Coops => self.coops.number(name),
-            Space::Parties => self.parties.number(name),
+            Space::Mboxes => self.mbox(name),
+            Space::Rows => self.rows.number(name),
+            Space::Filters => self.filters.number(name),
         }
     }
 
     fn declare(&mut self, place: &ScenePlace, space: Space, name: &str) -> Result<(), SceneRefusal>
         requires { length place.now < 16 }
-        ensures { Leaves (declared_in place.now space name.now self.old) result self.new }
+        ensures { Leaves (declared_name place.now space (Some name.now) self.old) result self.new }
     {
         if self.number(space, name).is_some() {
-            return Err(SceneRefusal::Fault(SceneFault::Twice(place.step(PlaceStep::Key(
-                Field::Name,
-            )))));
+            return Err(SceneRefusal::Fault(SceneFault::Twice(place.step(PlaceStep::Key(key(
+                space,
+            ))))));
         }
         let added = match space {
             Space::Messages => self.messages.add(name),
             Space::Coops => self.coops.add(name),
-            Space::Parties => self.parties.add(name),
+            Space::Mboxes => self.agents.add(name),
+            Space::Rows => self.rows.add(name),
+            Space::Filters => self.filters.add(name),
         };
         match added {
             Ok(()) => Ok(()),
@@ -82,15 +138,68 @@ impl Declared {
         }
     }
 
-    fn signal(&mut self, kind: ObjectKind, value: &Value) -> Result<(), SceneRefusal>
-        ensures { Leaves (Ok (with_signal kind (view value.now) self.old)) result self.new }
+    /// A named mbox. A repeated name is the same mbox.
+    fn add_mbox(&mut self, name: &str) -> Result<(), SceneRefusal>
+        ensures { Leaves (Ok (with_mbox name.now self.old)) result self.new }
+    {
+        if self.mbox(name).is_some() {
+            return Ok(());
+        }
+        match self.mboxes.add(name) {
+            Ok(()) => Ok(()),
+            Err(_) => Err(SceneRefusal::NoMemory),
+        }
+    }
+
+    fn read_mbox(&mut self, value: &Value) -> Result<(), SceneRefusal>
+        ensures { Leaves (Ok (with_mbox_read (name_of (view value.now)) self.old)) result self.new }
+    {
+        match name(value) {
+            Ok(name) => self.add_mbox(name),
+            Err(_) => Ok(()),
+        }
+    }
+
+    fn read_mboxes(&mut self, list: &[Value]) -> Result<(), SceneRefusal>
+        ensures { Leaves (Ok (with_mboxes (items_view list.now) self.old)) result self.new }
+    {
+        for value in list {
+            self.read_mbox(value)?;
+        }
+        Ok(())
+    }
+
+    /// What an object adds before its name.
+    fn begin(&mut self, kind: ObjectKind, value: &Value) -> Result<(), SceneRefusal>
+        ensures { Leaves (Ok (entering kind (view value.now) self.old)) result self.new }
     {
         match kind {
             ObjectKind::Message => match self.signals.push(is_signal(value)) {
                 Ok(()) => Ok(()),
                 Err(_) => Err(SceneRefusal::NoMemory),
             },
+            ObjectKind::Agent => {
+                let alloc = self.rows.alloc();
+                self.rows = Names::new(alloc);
+                self.filters = Names::new(alloc);
+                Ok(())
+            }
             _ => Ok(()),
+        }
+    }
+
+    fn declare_given(
+        &mut self,
+        place: &ScenePlace,
+        space: Space,
+        name: Option<&str>,
+    ) -> Result<(), SceneRefusal>
+        requires { length place.now < 16 }
+        ensures { Leaves (declared_name place.now space (option_map (λ n. n.now) name.entry) self.old) result self.new }
+    {
+        match name {
+            Some(name) => self.declare(place, space, name),
+            None => Ok(()),
         }
     }
 
@@ -101,10 +210,10 @@ impl Declared {
         value: &Value,
     ) -> Result<(), SceneRefusal>
         requires { length place.now < 16 }
-        ensures { Leaves (declared place.now space (name_in (view value.now)) self.old) result self.new }
+        ensures { Leaves (declared place.now space (view value.now) self.old) result self.new }
     {
         match space {
-            Some(space) => self.declare(place, space, name_in(value)),
+            Some(space) => self.declare_given(place, space, name_for(space, value)),
             None => Ok(()),
         }
     }
@@ -123,17 +232,20 @@ impl Pass for Declared {
         place: &ScenePlace,
         value: &Value,
     ) -> Result<(), SceneRefusal> {
-        self.signal(kind, value)?;
+        self.begin(kind, value)?;
         self.object(declares(kind), place, value)
     }
 
     fn field(
         &mut self,
-        _rule: Rule,
+        rule: Rule,
         _place: &ScenePlace,
-        _found: Option<&Value>,
+        found: Option<&Value>,
     ) -> Result<(), SceneRefusal> {
-        Ok(())
+        match rule.form {
+            Form::Mboxes(_) => self.read_mboxes(list(found)),
+            _ => Ok(()),
+        }
     }
 
     fn leave(

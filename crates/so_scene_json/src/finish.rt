@@ -1,22 +1,20 @@
 //! What is tried after the fourth pass, and the scene of the parts.
 
-ghost use Rattle.std.specs.Prelude.{◌≡◌, ◌<◌, ◌≤◌, ◌+◌, drop, ◌∷◌, [], map, string_bytes, length, bytes_eq, true, false, Ok};
-ghost use Rattle.std.specs.List.{All, IsDistinct, list_all};
-ghost use Rattle.so_scene.specs.Parts.{msg_number};
-ghost use Rattle.so_scene.specs.Words.{is_text};
-ghost use Rattle.so_scene_json.specs.Kept.{IsBuilt};
+ghost use Rattle.std.specs.Prelude.{◌≡◌, ◌≤◌, ◌∷◌, [], map, string_bytes, length, bytes_eq, true, false, IfOk};
+ghost use Rattle.std.specs.List.{All, IsDistinct};
+ghost use Rattle.so_scene.specs.Words.{is_name, is_text};
+ghost use Rattle.so_scene_json.specs.Kept.{IsBuilt, IsChecked};
 ghost use Rattle.so_scene_json.specs.Visits.{narrow};
 ghost use Rattle.so_scene_json.specs.Reads.{Reads, Returns};
-ghost use Rattle.so_scene_json.specs.Scene.{exceeds, has_row, differ, rows_differ, is_admitted, parts_of, coops_place, first_coop, only, with_coop, finished};
+ghost use Rattle.so_scene_json.specs.Scene.{exceeds, parts_of, coops_place, first_coop, first_fault, is_refused, admitted, only, with_coop, finished};
 
 use crate::build::Build;
 use crate::walk::position;
-use so_ids::AgentId;
+use so_ids::{AgentId, DefFault};
 use so_scene::{
-    AgentDef, CoopDef, Field, Items, Name, Names, PlaceStep, Scene, SceneFault, SceneParts,
-    ScenePlace, SceneRefusal, Text,
+    CoopDef, Field, Items, Name, Names, PlaceStep, Scene, SceneFault, SceneParts, ScenePlace,
+    SceneRefusal, Text,
 };
-use so_state::Row;
 use std::alloc::Global;
 
 /// The place of the list of cooperations.
@@ -31,49 +29,6 @@ fn first_coop() -> ScenePlace
     ensures { result ≡ first_coop }
 {
     coops_place().step(PlaceStep::At(0))
-}
-
-fn has_row(rows: &[Row], msg: u32) -> bool
-    ensures { result ≡ has_row msg rows.now }
-{
-    rows.iter().any(|row| msg == row.msg.0)
-}
-
-/// The rows behind the one at this place.
-fn after(rows: &[Row], place: usize) -> &[Row]
-    requires { place < length rows.now }
-    ensures { result.now ≡ drop (place + 1) rows.now }
-{
-    &rows[place + 1..]
-}
-
-fn rows_differ(rows: &[Row]) -> bool
-    ensures { result ≡ differ rows.now }
-{
-    for (i, row) in rows.iter().enumerate() {
-        if has_row(after(rows, i), row.msg.0) {
-            return false;
-        }
-    }
-    true
-}
-
-fn agents_differ(agents: &[AgentDef]) -> bool
-    ensures { result ≡ list_all rows_differ agents.now }
-{
-    agents
-        .iter()
-        .all(|agent| rows_differ(agent.rows.as_slice()))
-}
-
-fn is_admitted(build: &Build) -> bool
-    ensures { result ≡ is_admitted build.now }
-{
-    let agents = build.agents.as_slice();
-    if agents.is_empty() {
-        return false;
-    }
-    agents_differ(agents)
 }
 
 fn text_list(alloc: Global, names: &[String]) -> Result<Items<Text>, SceneRefusal>
@@ -102,6 +57,31 @@ fn texts_of(alloc: Global, names: &Names) -> Result<Items<Text>, SceneRefusal>
     text_list(alloc, names.as_slice())
 }
 
+fn mbox_list(alloc: Global, names: &[String]) -> Result<Items<Name>, SceneRefusal>
+    requires { All (λ name. is_name name ≡ true) (map string_bytes names.now) }
+    ensures { Returns (map string_bytes names.now) result }
+{
+    let mut mboxes = Items::new(alloc);
+    for name in names {
+        match Name::of(name.as_str()) {
+            Some(name) => match mboxes.push(name) {
+                Ok(()) => {}
+                Err(_) => return Err(SceneRefusal::NoMemory),
+            },
+            None => unreachable!(),
+        }
+    }
+    Ok(mboxes)
+}
+
+/// The names of mboxes as names of a scene.
+fn mboxes_of(alloc: Global, names: &Names) -> Result<Items<Name>, SceneRefusal>
+    requires { All (λ name. is_name name ≡ true) names.now }
+    ensures { Returns names.now result }
+{
+    mbox_list(alloc, names.as_slice())
+}
+
 fn coops_of(alloc: Global, name: Name, count: usize) -> Result<Items<CoopDef>, SceneRefusal>
     ensures coops { Returns (record { name = name; first = record { 0 = 0 }; count = narrow count } ∷ []) result }
     ensures named { length name ≤ 32 }
@@ -118,15 +98,16 @@ fn coops_of(alloc: Global, name: Name, count: usize) -> Result<Items<CoopDef>, S
     }
 }
 
-/// The scene of the one cooperation.
-fn scene_of(name: Name, build: Build) -> Result<Scene, SceneRefusal>
+/// The parts of the one cooperation.
+fn parts_of(name: Name, build: Build) -> Result<SceneParts, SceneRefusal>
     requires built { IsBuilt build }
     requires few { exceeds build ≡ false }
-    requires admitted { is_admitted build ≡ true }
-    ensures { Reads result (Ok (parts_of name build)) }
+    ensures parts { Returns (parts_of name build) result }
+    ensures checked { IfOk result IsChecked }
 {
     let alloc = build.texts.alloc();
     let coops = coops_of(alloc, name, build.agents.len())?;
+    let mboxes = mboxes_of(alloc, &build.names.mboxes)?;
     let texts = texts_of(alloc, &build.texts)?;
     let Build {
         names: _,
@@ -135,12 +116,45 @@ fn scene_of(name: Name, build: Build) -> Result<Scene, SceneRefusal>
         agents,
         texts: _,
     } = build;
-    Ok(Scene::new(SceneParts {
+    Ok(SceneParts {
         messages,
+        mboxes,
         coops,
         agents,
         texts,
-    }))
+    })
+}
+
+/// The first definition rule that an agent breaks.
+fn first_fault(parts: &SceneParts) -> Option<DefFault>
+    requires { length parts.now.agents ≤ 4096 }
+    ensures { result ≡ first_fault parts.now }
+{
+    for k in 0..parts.agents.len() {
+        let fault = parts.definition_fault(AgentId(k as u32));
+        if fault.is_some() {
+            return fault;
+        }
+    }
+    None
+}
+
+/// Tells whether the cooperation would be refused when it is registered.
+fn is_refused(parts: &SceneParts) -> bool
+    requires { length parts.now.agents ≤ 4096 }
+    ensures { result ≡ is_refused parts.now }
+{
+    parts.agents.as_slice().is_empty() || first_fault(parts).is_some()
+}
+
+fn admitted(parts: SceneParts) -> Result<Scene, SceneRefusal>
+    requires { IsChecked parts }
+    ensures { Reads result (admitted parts) }
+{
+    if is_refused(&parts) {
+        return Err(SceneRefusal::Fault(SceneFault::NotBuilt(first_coop())));
+    }
+    Ok(Scene::new(parts))
 }
 
 fn only(coops: &[Name]) -> Option<Name>
@@ -161,10 +175,7 @@ fn with_coop(coop: Option<Name>, build: Build) -> Result<Scene, SceneRefusal>
     let Some(name) = coop else {
         return Err(SceneRefusal::Fault(SceneFault::NotBuilt(coops_place())));
     };
-    if !is_admitted(&build) {
-        return Err(SceneRefusal::Fault(SceneFault::NotBuilt(first_coop())));
-    }
-    scene_of(name, build)
+    admitted(parts_of(name, build)?)
 }
 
 /// Tells whether there are too many agents or texts.

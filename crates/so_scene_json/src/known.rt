@@ -1,21 +1,22 @@
-//! The third pass: each name that is used is declared.
+//! The third pass: each name and id that is used is declared.
 
-ghost use Rattle.std.specs.Prelude.{◌≡◌, ◌<◌, length, option_map, slice_index_or, false};
+ghost use Rattle.std.specs.Prelude.{◌≡◌, ◌<◌, length, option_map, slice_index_or, false, Ok};
 ghost use Rattle.serde_json.specs.Find.{as_str};
 ghost use Rattle.serde_json.specs.View.{view, items_view};
 ghost use Rattle.so_scene_json.specs.Shape.{acts_from};
-ghost use Rattle.so_scene_json.specs.Visits.{list_of};
-ghost use Rattle.so_scene_json.specs.Known.{name_trouble, has_signal, signal_trouble, send_trouble, act_unknown, form_unknown, field_unknown};
+ghost use Rattle.so_scene_json.specs.Visits.{list_of, Leaves};
+ghost use Rattle.so_scene_json.specs.Known.{name_trouble, has_signal, signal_trouble, send_trouble, id_trouble, first_id_trouble, word_unknown, act_unknown, form_unknown, field_unknown, entered, knows, known_step};
 
 use crate::act_table::Word;
 use crate::acts::parts;
 use crate::declare::Declared;
+use crate::scope::{Scope, number_with};
 use crate::shape::{at, fault_at};
 use crate::table::{Form, ObjectKind, Rule, Space};
 use crate::values::Trouble;
 use crate::walk::{Pass, list, position};
 use serde_json::Value;
-use so_scene::{PlaceStep, SceneFault, ScenePlace, SceneRefusal};
+use so_scene::{Name, PlaceStep, SceneFault, ScenePlace, SceneRefusal};
 
 impl Declared {
     fn name(&self, space: Space, value: &Value) -> Option<Trouble>
@@ -50,7 +51,7 @@ impl Declared {
     {
         match list {
             [target, message, operands @ ..] => {
-                if let Some(trouble) = self.name(Space::Parties, target) {
+                if let Some(trouble) = self.name(Space::Mboxes, target) {
                     return Some(trouble);
                 }
                 if let Some(trouble) = self.name(Space::Messages, message) {
@@ -69,15 +70,65 @@ impl Declared {
             [] => None,
         }
     }
+}
+
+/// Whether an id is one of these.
+fn id(ids: &[Option<Name>], value: &Value) -> Option<Trouble>
+    ensures { result ≡ id_trouble ids.now (as_str (view value.now)) }
+{
+    match value.as_str() {
+        Some(name) => match number_with(ids, name) {
+            Some(_) => None,
+            None => Some(Trouble::UnknownName),
+        },
+        None => None,
+    }
+}
+
+fn first_id(ids: &[Option<Name>], list: &[Value]) -> Option<Trouble>
+    ensures { result ≡ first_id_trouble ids.now (items_view list.now) }
+{
+    match list {
+        [first, ..] => id(ids, first),
+        [] => None,
+    }
+}
+
+/// The third pass: all names, and the ids of the agent that is visited.
+#[derive(Drop)]
+pub(crate) struct Known {
+    pub(crate) names: Declared,
+    pub(crate) scope: Scope,
+}
+
+impl Known {
+    /// All names, outside of an agent.
+    pub(crate) fn new(names: Declared) -> Known
+        ensures { result ≡ knows names }
+    {
+        let alloc = names.messages.alloc();
+        Known {
+            names,
+            scope: Scope::new(alloc),
+        }
+    }
+
+    fn word(&self, word: Word, list: &[Value]) -> Option<Trouble>
+        ensures { result ≡ word_unknown self.now word (items_view list.now) }
+    {
+        match word {
+            Word::Send => self.names.send(list),
+            Word::Subscribe | Word::Unsubscribe => first_id(self.scope.rows.as_slice(), list),
+            Word::SetFilter | Word::DropFilter => first_id(self.scope.filters.as_slice(), list),
+            _ => None,
+        }
+    }
 
     fn act(&self, value: &Value) -> Option<Trouble>
         ensures { result ≡ act_unknown self.now (view value.now) }
     {
         match parts(value) {
-            Some((word, list)) => match word {
-                Word::Send => self.send(list),
-                _ => None,
-            },
+            Some((word, list)) => self.word(word, list),
             None => None,
         }
     }
@@ -103,13 +154,13 @@ impl Declared {
         ensures { result ≡ form_unknown self.now form place.now (view value.now) }
     {
         match form {
-            Form::NameIn(space) => at(place, self.name(space, value)),
+            Form::NameIn(space) => at(place, self.names.name(space, value)),
             Form::Acts => self.acts(place, list(Some(value))),
             _ => None,
         }
     }
 
-    fn field(&self, form: Form, place: &ScenePlace, found: Option<&Value>) -> Option<SceneFault>
+    fn tried(&self, form: Form, place: &ScenePlace, found: Option<&Value>) -> Option<SceneFault>
         requires { length place.now < 16 }
         ensures { result ≡ field_unknown self.now form place.now (option_map (λ v. view v.now) found.entry) }
     {
@@ -118,12 +169,20 @@ impl Declared {
             None => None,
         }
     }
-}
 
-/// The third pass, with all names.
-#[derive(Drop)]
-pub(crate) struct Known {
-    pub(crate) names: Declared,
+    /// An agent's acts name its own ids.
+    fn begin(&mut self, kind: ObjectKind, value: &Value) -> Result<(), SceneRefusal>
+        ensures { Leaves (Ok (entered kind (view value.now) self.old)) result self.new }
+    {
+        match kind {
+            ObjectKind::Agent => {
+                let alloc = self.names.messages.alloc();
+                self.scope = Scope::of(alloc, value)?;
+                Ok(())
+            }
+            _ => Ok(()),
+        }
+    }
 }
 
 impl Pass for Known {
@@ -131,15 +190,15 @@ impl Pass for Known {
 
     ghost step = { known_step };
 
-    ghost lack = { ⊥ };
+    ghost lack = { Unit {0} };
 
     fn enter(
         &mut self,
-        _kind: ObjectKind,
+        kind: ObjectKind,
         _place: &ScenePlace,
-        _value: &Value,
+        value: &Value,
     ) -> Result<(), SceneRefusal> {
-        Ok(())
+        self.begin(kind, value)
     }
 
     fn field(
@@ -148,7 +207,7 @@ impl Pass for Known {
         place: &ScenePlace,
         found: Option<&Value>,
     ) -> Result<(), SceneRefusal> {
-        match self.names.field(rule.form, place, found) {
+        match self.tried(rule.form, place, found) {
             Some(fault) => Err(SceneRefusal::Fault(fault)),
             None => Ok(()),
         }

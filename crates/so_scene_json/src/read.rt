@@ -54,7 +54,7 @@ fn names_of(alloc: Global, value: &Value) -> Result<Declared, SceneRefusal>
 fn known_of(names: Declared, value: &Value) -> Result<Known, SceneRefusal>
     ensures { Reads result (run known_step (knows names) (fields (view value.now))) }
 {
-    let mut known = Known { names };
+    let mut known = Known::new(names);
     object(&mut known, 4, ObjectKind::Scene, &ScenePlace::root(), value)?;
     Ok(known)
 }

@@ -5,11 +5,11 @@ ghost use Rattle.serde_json.specs.Find.{as_array, as_number, as_object, as_str};
 ghost use Rattle.serde_json.specs.View.{view, items_view, members_view};
 ghost use Rattle.so_scene_json.specs.Table.{rules_of};
 ghost use Rattle.so_scene_json.specs.Acts.{act_trouble};
-ghost use Rattle.so_scene_json.specs.Shape.{placed, trouble_at, is_known, has_unknown, unknown_in, version_fault, kind_trouble, first_of, is_within, list_trouble, number_trouble, object_trouble, acts_from, acts_fault, form_fault, field_fault, has, is_breach, shape_step};
+ghost use Rattle.so_scene_json.specs.Shape.{placed, trouble_at, is_known, has_unknown, unknown_in, version_fault, kind_trouble, first_of, is_within, list_trouble, number_trouble, name_trouble, object_trouble, acts_from, acts_fault, form_fault, field_fault, has, is_breach, shape_step};
 
 use crate::acts::act_fault;
 use crate::table::{Form, ObjectKind, Rule, rules};
-use crate::values::{Trouble, integer, name};
+use crate::values::{Trouble, comparison, flag, integer, name, number, only_true};
 use crate::walk::{Pass, position};
 use serde_json::{Map, Value};
 use so_scene::{Field, PlaceStep, SceneFault, ScenePlace, SceneRefusal};
@@ -92,6 +92,18 @@ fn all_numbers(list: &[Value]) -> Option<Trouble>
     None
 }
 
+fn all_names(list: &[Value]) -> Option<Trouble>
+    ensures { result ≡ first_of name_trouble (items_view list.now) }
+{
+    for value in list {
+        match name(value) {
+            Ok(_) => {}
+            Err(trouble) => return Some(trouble),
+        }
+    }
+    None
+}
+
 fn all_objects(list: &[Value]) -> Option<Trouble>
     ensures { result ≡ first_of object_trouble (items_view list.now) }
 {
@@ -127,6 +139,25 @@ fn numbers(limit: usize, value: &Value) -> Option<Trouble>
 {
     match value.as_array() {
         Some(list) => number_list(limit, list),
+        None => Some(Trouble::WrongShape),
+    }
+}
+
+fn name_list(limit: usize, list: &[Value]) -> Option<Trouble>
+    ensures { result ≡ list_trouble (Some limit) name_trouble (Some (items_view list.now)) }
+{
+    if is_within(Some(limit), list.len()) {
+        all_names(list)
+    } else {
+        Some(Trouble::OutOfRange)
+    }
+}
+
+fn names(limit: usize, value: &Value) -> Option<Trouble>
+    ensures { result ≡ list_trouble (Some limit) name_trouble (as_array (view value.now)) }
+{
+    match value.as_array() {
+        Some(list) => name_list(limit, list),
         None => Some(Trouble::WrongShape),
     }
 }
@@ -194,7 +225,13 @@ fn form(form: Form, place: &ScenePlace, value: &Value) -> Option<SceneFault>
         Form::One => version(place, value),
         Form::Name => at(place, name(value).err()),
         Form::NameIn(_) => at(place, name(value).err()),
+        Form::Mboxes(limit) => at(place, names(limit, value)),
         Form::MessageKind => at(place, message_kind(value)),
+        Form::Flag => at(place, flag(value).err()),
+        Form::OnlyTrue => at(place, only_true(value).err()),
+        Form::Cmp => at(place, comparison(value).err()),
+        Form::AnyNumber => at(place, integer(value).err()),
+        Form::Number(low, high) => at(place, number(low, high, value).err()),
         Form::Numbers(limit) => at(place, numbers(limit, value)),
         Form::Objects(_, limit) => at(place, objects(limit, value)),
         Form::Acts => acts(place, value),
@@ -244,7 +281,7 @@ fn breach(kind: ObjectKind, value: &Value) -> bool
                 + has(Field::Switch, value)
                 + has(Field::Transfer, value)
                 + has(Field::Suppress, value);
-            effects != 1
+            effects != 1 || has(Field::Dead, value) > has(Field::Do, value)
         }
         _ => false,
     }

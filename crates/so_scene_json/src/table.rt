@@ -1,7 +1,7 @@
 //! The fields of each kind of object, in their order.
 
 ghost use Rattle.std.specs.Prelude.{◌≡◌};
-ghost use Rattle.so_scene_json.specs.Table.{rules_of, objects_of, space_of, required, optional, later};
+ghost use Rattle.so_scene_json.specs.Table.{rules_of, objects_of, space_of, key_of, required, optional, later};
 
 use so_scene::Field;
 
@@ -21,12 +21,15 @@ pub(crate) enum ObjectKind {
     Thread,
 }
 
-/// The name spaces. Agents share theirs with what else may be a target.
+/// The name spaces. Each agent has its own for its rows, and for its filters.
 #[derive(Clone, Copy, Debug, PartialEq, Eq)]
 pub(crate) enum Space {
     Messages,
     Coops,
-    Parties,
+    /// The agents, each of which has a mbox of its own, and the named mboxes.
+    Mboxes,
+    Rows,
+    Filters,
 }
 
 /// What a field holds.
@@ -38,8 +41,20 @@ pub(crate) enum Form {
     Name,
     /// A name of this space.
     NameIn(Space),
+    /// A list of at most so many names of mboxes.
+    Mboxes(usize),
     /// `message` or `signal`.
     MessageKind,
+    /// `true` or `false`.
+    Flag,
+    /// `true`.
+    OnlyTrue,
+    /// A comparison.
+    Cmp,
+    /// An integer of 64 bits.
+    AnyNumber,
+    /// A number from the first to the second.
+    Number(usize, usize),
     /// A list of at most so many numbers.
     Numbers(usize),
     /// A list of objects, with its limit if it has one.
@@ -82,7 +97,7 @@ static SCENE: [Rule; 9] = [
     Rule {
         field: Field::Mboxes,
         required: false,
-        form: Form::Later,
+        form: Form::Mboxes(256),
     },
     Rule {
         field: Field::Chains,
@@ -252,7 +267,7 @@ static AGENT: [Rule; 13] = [
     Rule {
         field: Field::Filters,
         required: false,
-        form: Form::Later,
+        form: Form::Objects(ObjectKind::Filter, Some(32)),
     },
     Rule {
         field: Field::Start,
@@ -331,37 +346,37 @@ static FILTER: [Rule; 7] = [
     Rule {
         field: Field::Id,
         required: false,
-        form: Form::Later,
+        form: Form::Name,
     },
     Rule {
         field: Field::Mbox,
-        required: false,
-        form: Form::Later,
+        required: true,
+        form: Form::NameIn(Space::Mboxes),
     },
     Rule {
         field: Field::Msg,
-        required: false,
-        form: Form::Later,
+        required: true,
+        form: Form::NameIn(Space::Messages),
     },
     Rule {
         field: Field::Field,
-        required: false,
-        form: Form::Later,
+        required: true,
+        form: Form::Number(0, 3),
     },
     Rule {
         field: Field::Cmp,
-        required: false,
-        form: Form::Later,
+        required: true,
+        form: Form::Cmp,
     },
     Rule {
         field: Field::Value,
-        required: false,
-        form: Form::Later,
+        required: true,
+        form: Form::AnyNumber,
     },
     Rule {
         field: Field::Active,
         required: false,
-        form: Form::Later,
+        form: Form::Flag,
     },
 ];
 
@@ -369,7 +384,7 @@ static ROW: [Rule; 11] = [
     Rule {
         field: Field::Id,
         required: false,
-        form: Form::Later,
+        form: Form::Name,
     },
     Rule {
         field: Field::Msg,
@@ -379,7 +394,7 @@ static ROW: [Rule; 11] = [
     Rule {
         field: Field::Mbox,
         required: false,
-        form: Form::Later,
+        form: Form::NameIn(Space::Mboxes),
     },
     Rule {
         field: Field::State,
@@ -409,7 +424,7 @@ static ROW: [Rule; 11] = [
     Rule {
         field: Field::Dead,
         required: false,
-        form: Form::Later,
+        form: Form::OnlyTrue,
     },
     Rule {
         field: Field::Safe,
@@ -419,7 +434,7 @@ static ROW: [Rule; 11] = [
     Rule {
         field: Field::Active,
         required: false,
-        form: Form::Later,
+        form: Form::Flag,
     },
 ];
 
@@ -465,14 +480,26 @@ pub(crate) fn objects(form: Form) -> Option<ObjectKind>
     }
 }
 
-/// The space in which an object declares its name.
+/// The space in which an object declares its name, or its id if it has one.
 pub(crate) fn declares(kind: ObjectKind) -> Option<Space>
     ensures { result ≡ space_of kind }
 {
     match kind {
         ObjectKind::Message => Some(Space::Messages),
         ObjectKind::Coop => Some(Space::Coops),
-        ObjectKind::Agent => Some(Space::Parties),
+        ObjectKind::Agent => Some(Space::Mboxes),
+        ObjectKind::Row => Some(Space::Rows),
+        ObjectKind::Filter => Some(Space::Filters),
         _ => None,
+    }
+}
+
+/// The field that declares a name of a space.
+pub(crate) fn key(space: Space) -> Field
+    ensures { result ≡ key_of space }
+{
+    match space {
+        Space::Rows | Space::Filters => Field::Id,
+        _ => Field::Name,
     }
 }

@@ -1,15 +1,16 @@
 //! Faulty scenes with the fault that each has, and scenes that are read.
 use crate::read_scene;
 use so_code::{Args, Body, Cmp, Dest, Instr, Operand};
-use so_ids::{AgentId, CoopId, MboxId, MsgId, RowId, Target, TextId};
+use so_ids::{AgentId, CoopId, FilterId, MboxId, MsgId, RowId, Target, TextId};
 use so_lines::LineBuf;
-use so_scene::{Scene, SceneFault, SceneRefusal, direct_mbox, put_fault};
+use so_scene::{Name, Scene, SceneFault, SceneRefusal, direct_mbox, is_twice, put_fault};
+use so_state::RowKind;
 use std::alloc::Global;
 use std::process::Abort;
 use std::test::*;
 
 /// Each scene, and how its fault is printed.
-static FAULTS: [(&str, &str); 71] = [
+static FAULTS: [(&str, &str); 76] = [
     ("", "not_json"),
     (
         "{\"version\":1,\"coops\":[{\"name\":\"main\",\"ag",
@@ -40,8 +41,25 @@ static FAULTS: [(&str, &str); 71] = [
         "{\"version\":1,\"autoshutdown\":true}",
         "not_built at /autoshutdown",
     ),
-    ("{\"version\":1,\"mboxes\":7}", "not_built at /mboxes"),
-    ("{\"version\":1,\"mboxes\":7,\"y\":0}", "wrong_shape at /"),
+    ("{\"version\":1,\"chains\":7}", "not_built at /chains"),
+    ("{\"version\":1,\"chains\":7,\"y\":0}", "wrong_shape at /"),
+    ("{\"version\":1,\"mboxes\":7}", "wrong_shape at /mboxes"),
+    (
+        "{\"version\":1,\"mboxes\":[\"m\",5]}",
+        "wrong_shape at /mboxes",
+    ),
+    (
+        "{\"version\":1,\"mboxes\":[\"a-b\"]}",
+        "wrong_shape at /mboxes",
+    ),
+    (
+        "{\"version\":1,\"mboxes\":[\"m\",\"m\"]}",
+        "not_built at /coops",
+    ),
+    (
+        "{\"version\":1,\"mboxes\":[\"m\"],\"coops\":[{\"name\":\"m\",\"agents\":[{\"name\":\"a\"},{\"name\":\"m\"}]}]}",
+        "twice at /coops/0/agents/1/name",
+    ),
     (
         "{\"version\":1,\"threads\":[],\"messages\":0}",
         "wrong_shape at /messages",
@@ -282,6 +300,228 @@ fn each_faulty_scene_has_its_fault(rt: HostRuntime) {
     }
 }
 
+/// What a scene has before and after the fields of its first agent, which come behind the name.
+static BEFORE: &str =
+    "{\"version\":1,\"mboxes\":[\"box\"],\"messages\":[{\"name\":\"x\"},{\"name\":\"s\",\"kind\":\"signal\"}],\"coops\":[{\"name\":\"c\",\"agents\":[{\"name\":\"a\",";
+
+static AFTER: &str = "},{\"name\":\"b\",\"on\":[{\"id\":\"theirs\",\"msg\":\"x\",\"do\":[]}]}]}]}";
+
+/// Fields of that agent, and how the fault of the scene is printed.
+static AGENT_FAULTS: [(&str, &str); 44] = [
+    (
+        "\"on\":[{\"id\":\"r\",\"msg\":\"x\",\"do\":[]},{\"id\":\"r\",\"msg\":\"s\",\"do\":[]}]",
+        "twice at /coops/0/agents/0/on/1/id",
+    ),
+    (
+        "\"filters\":[{\"mbox\":\"box\",\"msg\":\"x\",\"field\":0,\"cmp\":\"==\",\"value\":1,\"id\":\"f\"},{\"mbox\":\"box\",\"msg\":\"s\",\"field\":0,\"cmp\":\"==\",\"value\":1,\"id\":\"f\"}]",
+        "twice at /coops/0/agents/0/filters/1/id",
+    ),
+    (
+        "\"on\":[{\"id\":\"a-b\",\"msg\":\"x\",\"do\":[]}]",
+        "wrong_shape at /coops/0/agents/0/on/0/id",
+    ),
+    (
+        "\"on\":[{\"id\":7,\"msg\":\"x\",\"do\":[]}]",
+        "wrong_shape at /coops/0/agents/0/on/0/id",
+    ),
+    (
+        "\"on\":[{\"msg\":\"x\",\"mbox\":\"post\",\"do\":[]}]",
+        "unknown_name at /coops/0/agents/0/on/0/mbox",
+    ),
+    (
+        "\"on\":[{\"msg\":\"x\",\"mbox\":\"\",\"do\":[]}]",
+        "wrong_shape at /coops/0/agents/0/on/0/mbox",
+    ),
+    (
+        "\"on\":[{\"msg\":\"x\",\"mbox\":\"b\",\"do\":[]}]",
+        "not_built at /coops/0",
+    ),
+    (
+        "\"on\":[{\"msg\":\"x\",\"dead\":true}]",
+        "wrong_shape at /coops/0/agents/0/on/0",
+    ),
+    (
+        "\"on\":[{\"msg\":\"x\",\"dead\":false,\"do\":[]}]",
+        "wrong_shape at /coops/0/agents/0/on/0/dead",
+    ),
+    (
+        "\"on\":[{\"msg\":\"x\",\"dead\":1,\"do\":[]}]",
+        "wrong_shape at /coops/0/agents/0/on/0/dead",
+    ),
+    (
+        "\"on\":[{\"msg\":\"x\",\"active\":1,\"do\":[]}]",
+        "wrong_shape at /coops/0/agents/0/on/0/active",
+    ),
+    (
+        "\"on\":[{\"msg\":\"x\",\"state\":\"default\",\"do\":[]}]",
+        "not_built at /coops/0/agents/0/on/0/state",
+    ),
+    (
+        "\"on\":[{\"msg\":\"x\",\"safe\":false,\"do\":[]}]",
+        "not_built at /coops/0/agents/0/on/0/safe",
+    ),
+    (
+        "\"on\":[{\"msg\":\"x\",\"do\":[]},{\"msg\":\"x\",\"mbox\":\"a\",\"do\":[]}]",
+        "not_built at /coops/0",
+    ),
+    (
+        "\"on\":[{\"msg\":\"x\",\"mbox\":\"box\",\"dead\":true,\"do\":[]},{\"msg\":\"x\",\"mbox\":\"box\",\"dead\":true,\"do\":[]}]",
+        "not_built at /coops/0",
+    ),
+    ("\"filters\":7", "wrong_shape at /coops/0/agents/0/filters"),
+    (
+        "\"filters\":[7]",
+        "wrong_shape at /coops/0/agents/0/filters",
+    ),
+    (
+        "\"filters\":[{\"mbox\":\"box\",\"msg\":\"x\",\"field\":0,\"cmp\":\"==\",\"value\":1,\"when\":0}]",
+        "wrong_shape at /coops/0/agents/0/filters/0",
+    ),
+    (
+        "\"filters\":[{\"msg\":\"x\",\"field\":0,\"cmp\":\"==\",\"value\":1}]",
+        "missing at /coops/0/agents/0/filters/0/mbox",
+    ),
+    (
+        "\"filters\":[{\"mbox\":\"box\",\"msg\":\"x\",\"field\":0,\"cmp\":\"==\"}]",
+        "missing at /coops/0/agents/0/filters/0/value",
+    ),
+    (
+        "\"filters\":[{\"mbox\":\"post\",\"msg\":\"x\",\"field\":0,\"cmp\":\"==\",\"value\":1}]",
+        "unknown_name at /coops/0/agents/0/filters/0/mbox",
+    ),
+    (
+        "\"filters\":[{\"mbox\":\"box\",\"msg\":\"y\",\"field\":0,\"cmp\":\"==\",\"value\":1}]",
+        "unknown_name at /coops/0/agents/0/filters/0/msg",
+    ),
+    (
+        "\"filters\":[{\"mbox\":\"box\",\"msg\":\"x\",\"field\":4,\"cmp\":\"==\",\"value\":1}]",
+        "out_of_range at /coops/0/agents/0/filters/0/field",
+    ),
+    (
+        "\"filters\":[{\"mbox\":\"box\",\"msg\":\"x\",\"field\":-1,\"cmp\":\"==\",\"value\":1}]",
+        "out_of_range at /coops/0/agents/0/filters/0/field",
+    ),
+    (
+        "\"filters\":[{\"mbox\":\"box\",\"msg\":\"x\",\"field\":\"m0\",\"cmp\":\"==\",\"value\":1}]",
+        "wrong_shape at /coops/0/agents/0/filters/0/field",
+    ),
+    (
+        "\"filters\":[{\"mbox\":\"box\",\"msg\":\"x\",\"field\":0,\"cmp\":\"=\",\"value\":1}]",
+        "wrong_shape at /coops/0/agents/0/filters/0/cmp",
+    ),
+    (
+        "\"filters\":[{\"mbox\":\"box\",\"msg\":\"x\",\"field\":0,\"cmp\":\"==\",\"value\":1.5}]",
+        "out_of_range at /coops/0/agents/0/filters/0/value",
+    ),
+    (
+        "\"filters\":[{\"mbox\":\"box\",\"msg\":\"x\",\"field\":0,\"cmp\":\"==\",\"value\":\"v0\"}]",
+        "wrong_shape at /coops/0/agents/0/filters/0/value",
+    ),
+    (
+        "\"filters\":[{\"mbox\":\"box\",\"msg\":\"x\",\"field\":0,\"cmp\":\"==\",\"value\":1,\"active\":null}]",
+        "wrong_shape at /coops/0/agents/0/filters/0/active",
+    ),
+    (
+        "\"filters\":[{\"mbox\":\"a\",\"msg\":\"x\",\"field\":0,\"cmp\":\"==\",\"value\":1}]",
+        "not_built at /coops/0",
+    ),
+    (
+        "\"filters\":[{\"mbox\":\"box\",\"msg\":\"s\",\"field\":0,\"cmp\":\"==\",\"value\":1}]",
+        "not_built at /coops/0",
+    ),
+    (
+        "\"filters\":[{\"mbox\":\"post\",\"msg\":\"x\",\"field\":0,\"cmp\":\"==\",\"value\":1}],\"start\":[[\"subscribe\",\"q\"]]",
+        "unknown_name at /coops/0/agents/0/filters/0/mbox",
+    ),
+    (
+        "\"start\":[[\"subscribe\"]]",
+        "wrong_shape at /coops/0/agents/0/start/0",
+    ),
+    (
+        "\"start\":[[\"unsubscribe\",\"q\",\"q\"]]",
+        "wrong_shape at /coops/0/agents/0/start/0",
+    ),
+    (
+        "\"start\":[[\"set_filter\",0]]",
+        "wrong_shape at /coops/0/agents/0/start/0",
+    ),
+    (
+        "\"start\":[[\"stop\"],[\"subscribe\",\"q\"]]",
+        "unknown_name at /coops/0/agents/0/start/1",
+    ),
+    (
+        "\"start\":[[\"unsubscribe\",\"q\"]]",
+        "unknown_name at /coops/0/agents/0/start/0",
+    ),
+    (
+        "\"start\":[[\"set_filter\",\"q\"]]",
+        "unknown_name at /coops/0/agents/0/start/0",
+    ),
+    (
+        "\"start\":[[\"drop_filter\",\"q\"]]",
+        "unknown_name at /coops/0/agents/0/start/0",
+    ),
+    (
+        "\"start\":[[\"subscribe\",\"theirs\"]]",
+        "unknown_name at /coops/0/agents/0/start/0",
+    ),
+    (
+        "\"filters\":[{\"mbox\":\"box\",\"msg\":\"x\",\"field\":0,\"cmp\":\"==\",\"value\":1,\"id\":\"f\"}],\"start\":[[\"subscribe\",\"f\"]]",
+        "unknown_name at /coops/0/agents/0/start/0",
+    ),
+    (
+        "\"on\":[{\"id\":\"r\",\"msg\":\"x\",\"do\":[[\"drop_filter\",\"r\"]]}]",
+        "unknown_name at /coops/0/agents/0/on/0/do/0",
+    ),
+    (
+        "\"start\":[[\"send\",\"post\",\"x\"]]",
+        "unknown_name at /coops/0/agents/0/start/0",
+    ),
+    (
+        "\"start\":[[\"send\",\"box\",\"s\",1]]",
+        "out_of_range at /coops/0/agents/0/start/0",
+    ),
+];
+
+/// Fields of that agent with which the scene is read.
+static AGENTS: [&str; 8] = [
+    "\"on\":[{\"msg\":\"x\",\"do\":[]},{\"msg\":\"x\",\"active\":false,\"do\":[]}]",
+    "\"on\":[{\"msg\":\"x\",\"active\":false,\"do\":[]},{\"msg\":\"x\",\"do\":[]}]",
+    "\"on\":[{\"msg\":\"x\",\"do\":[]},{\"msg\":\"x\",\"mbox\":\"box\",\"do\":[]}]",
+    "\"on\":[{\"msg\":\"x\",\"do\":[]},{\"msg\":\"x\",\"dead\":true,\"do\":[]}]",
+    "\"on\":[{\"id\":\"theirs\",\"msg\":\"x\",\"mbox\":\"a\",\"do\":[[\"subscribe\",\"theirs\"]]}]",
+    "\"filters\":[{\"mbox\":\"box\",\"msg\":\"x\",\"field\":0,\"cmp\":\"==\",\"value\":1},{\"mbox\":\"box\",\"msg\":\"x\",\"field\":0,\"cmp\":\"==\",\"value\":1}]",
+    "\"filters\":[{\"mbox\":\"box\",\"msg\":\"x\",\"field\":3,\"cmp\":\"==\",\"value\":-9223372036854775808,\"active\":false}]",
+    "\"filters\":[{\"mbox\":\"box\",\"msg\":\"x\",\"field\":0,\"cmp\":\"==\",\"value\":1,\"id\":\"f\"}],\"on\":[{\"id\":\"f\",\"msg\":\"x\",\"do\":[]}]",
+];
+
+/// The scene whose first agent has these fields.
+fn with_agent(alloc: Global, fields: &str) -> Result<String, Fail> {
+    let mut text = String::new(alloc);
+    text.push_str(BEFORE)?;
+    text.push_str(fields)?;
+    text.push_str(AFTER)?;
+    Ok(text)
+}
+
+#[test]
+fn rows_and_filters_have_their_faults(rt: HostRuntime) -> Result<(), Fail> {
+    for (fields, line) in AGENT_FAULTS.iter() {
+        let text = with_agent(rt.alloc(), fields)?;
+        assert!(rt; has_fault(rt.alloc(), text.as_bytes(), line));
+    }
+    Ok(())
+}
+
+#[test]
+fn rows_that_differ_and_filters_are_read(rt: HostRuntime) -> Result<(), Fail> {
+    for fields in AGENTS.iter() {
+        let text = with_agent(rt.alloc(), fields)?;
+        assert!(rt; read_scene(rt.alloc(), text.as_bytes()).is_ok());
+    }
+    Ok(())
+}
+
 /// A text with so many equal items between its head and its tail.
 fn repeated(
     alloc: Global,
@@ -321,6 +561,28 @@ fn a_list_over_its_limit_is_out_of_range(rt: HostRuntime) -> Result<(), Fail> {
             rt.alloc(),
             acts.as_bytes(),
             "out_of_range at /coops/0/agents/0/start"
+        )
+    );
+    let mboxes = repeated(
+        rt.alloc(),
+        "{\"version\":1,\"mboxes\":[",
+        "\"m\",",
+        256,
+        "\"m\"]}",
+    )?;
+    assert!(rt; has_fault(rt.alloc(), mboxes.as_bytes(), "out_of_range at /mboxes"));
+    let filters = repeated(
+        rt.alloc(),
+        "{\"version\":1,\"coops\":[{\"name\":\"c\",\"agents\":[{\"name\":\"a\",\"filters\":[",
+        "{},",
+        32,
+        "{}]}]}]}",
+    )?;
+    assert!(rt;
+        has_fault(
+            rt.alloc(),
+            filters.as_bytes(),
+            "out_of_range at /coops/0/agents/0/filters"
         )
     );
     let rows = repeated(
@@ -505,6 +767,141 @@ fn parts_are_found_by_number(rt: HostRuntime) {
         assert!(rt; rows.iter().map(|row| row.msg.0).eq([2, 1]));
         assert!(rt; scene.agent(AgentId(1)).rows.as_slice().is_empty());
         assert!(rt; scene.agent(AgentId(1)).name.bytes() == b"b".as_slice());
+    } else {
+        assert!(rt; false);
+    }
+}
+
+/// Two agents, two named mboxes, four rows and two filters of the first agent.
+static MBOXES: &str =
+    "{\"version\":1,\"mboxes\":[\"news\",\"jobs\",\"news\"],\"messages\":[{\"name\":\"x\"},{\"name\":\"s\",\"kind\":\"signal\"}],\"coops\":[{\"name\":\"c\",\"agents\":[{\"name\":\"a\",\"filters\":[{\"id\":\"low\",\"mbox\":\"jobs\",\"msg\":\"x\",\"field\":3,\"cmp\":\"<\",\"value\":-5},{\"mbox\":\"news\",\"msg\":\"x\",\"field\":0,\"cmp\":\">=\",\"value\":7,\"active\":false}],\"start\":[[\"subscribe\",\"r\"],[\"unsubscribe\",\"r\"],[\"set_filter\",\"low\"],[\"drop_filter\",\"low\"],[\"send\",\"jobs\",\"x\",1],[\"send\",\"b\",\"s\"]],\"on\":[{\"msg\":\"x\",\"do\":[]},{\"id\":\"low\",\"msg\":\"s\",\"mbox\":\"news\",\"do\":[]},{\"id\":\"r\",\"msg\":\"x\",\"mbox\":\"jobs\",\"active\":false,\"do\":[]},{\"msg\":\"s\",\"dead\":true,\"do\":[]}]},{\"name\":\"b\"}]}]}";
+
+/// The mbox, type and kind of each of these rows, whether it is active, and its id.
+static ROWS: [(u32, u32, RowKind, bool, &str); 4] = [
+    (0, 0, RowKind::Run, true, ""),
+    (2, 1, RowKind::Run, true, "low"),
+    (3, 0, RowKind::Run, false, "r"),
+    (0, 1, RowKind::Dead, true, ""),
+];
+
+/// Tells whether it is this id, where an empty one stands for none.
+fn is_id(id: &Option<Name>, text: &str) -> bool {
+    match id {
+        Some(id) => id.bytes() == text.as_bytes(),
+        None => text.is_empty(),
+    }
+}
+
+#[test]
+fn rows_have_their_mbox_their_kind_and_their_id(rt: HostRuntime) {
+    let scene = scene(&rt, rt.alloc(), MBOXES);
+    if scene.agents() == 2 {
+        let agent = scene.agent(AgentId(0));
+        let rows = agent.rows.as_slice();
+        let ids = agent.row_ids.as_slice();
+        assert!(rt; rows.len() == 4 && ids.len() == 4);
+        for ((row, id), want) in rows.iter().zip(ids).zip(ROWS.iter()) {
+            assert!(rt; row.mbox.0 == want.0 && row.msg.0 == want.1);
+            assert!(rt; row.kind == want.2 && row.active == want.3 && !row.safe);
+            assert!(rt; is_id(id, want.4));
+        }
+    } else {
+        assert!(rt; false);
+    }
+}
+
+#[test]
+fn filters_have_what_they_test(rt: HostRuntime) {
+    let scene = scene(&rt, rt.alloc(), MBOXES);
+    if scene.agents() == 2 {
+        let filters = scene.agent(AgentId(0)).filters.as_slice();
+        match filters {
+            [low, other] => {
+                assert!(rt; is_id(&low.id, "low") && is_id(&other.id, ""));
+                assert!(rt; low.mbox.0 == 3 && low.msg.0 == 0 && low.field == 3);
+                assert!(rt; low.cmp == Cmp::Lt && low.value == -5 && low.active);
+                assert!(rt; other.mbox.0 == 2 && other.msg.0 == 0 && other.field == 0);
+                assert!(rt; other.cmp == Cmp::Ge && other.value == 7 && !other.active);
+            }
+            _ => assert!(rt; false),
+        }
+    } else {
+        assert!(rt; false);
+    }
+}
+
+#[test]
+fn named_mboxes_follow_those_of_agents(rt: HostRuntime) {
+    let scene = scene(&rt, rt.alloc(), MBOXES);
+    assert_eq!(rt; scene.mboxes(), 4);
+    for (k, name) in ["a", "b", "news", "jobs"].iter().enumerate() {
+        if (k as u32) < scene.mboxes() {
+            assert!(rt; scene.mbox(MboxId(k as u32)).bytes() == name.as_bytes());
+        }
+    }
+}
+
+#[test]
+fn acts_name_rows_filters_and_mboxes(rt: HostRuntime) {
+    let scene = scene(&rt, rt.alloc(), MBOXES);
+    let none = args([ZERO, ZERO, ZERO, ZERO], 0);
+    let start = [
+        Instr::Subscribe { row: RowId(2) },
+        Instr::Unsubscribe { row: RowId(2) },
+        Instr::SetFilter {
+            filter: FilterId(0),
+        },
+        Instr::DropFilter {
+            filter: FilterId(0),
+        },
+        Instr::Send {
+            target: Target::Mbox(MboxId(3)),
+            msg: MsgId(0),
+            args: args([Operand::Num(1), ZERO, ZERO, ZERO], 1),
+        },
+        Instr::Send {
+            target: Target::Mbox(MboxId(1)),
+            msg: MsgId(1),
+            args: none,
+        },
+        Instr::End { body: Body::Start },
+    ];
+    if scene.agents() == 2 {
+        let code = scene.agent(AgentId(0)).code.instrs();
+        assert!(rt;
+            code.iter()
+                .zip(start.iter())
+                .all(|(have, want)| have == want)
+        );
+        assert_eq!(rt; code.len(), 12);
+    } else {
+        assert!(rt; false);
+    }
+}
+
+/// Of the first agent's rows, whether an active one is for the same events as the row of this number, where
+/// these are active.
+static TWICE: [([bool; 4], usize, bool); 5] = [
+    ([true, true, true, true], 0, true),
+    ([false, true, true, true], 0, false),
+    ([false, true, false, true], 2, false),
+    ([false, false, true, false], 2, true),
+    ([false, true, false, true], 3, true),
+];
+
+#[test]
+fn a_scene_breaks_no_definition_rule(rt: HostRuntime) {
+    let scene = scene(&rt, rt.alloc(), MBOXES);
+    if scene.agents() == 2 {
+        assert!(rt; scene.definition_fault(AgentId(0)).is_none());
+        assert!(rt; scene.definition_fault(AgentId(1)).is_none());
+        let rows = scene.agent(AgentId(0)).rows.as_slice();
+        for (active, k, want) in TWICE.iter() {
+            match rows.get(*k) {
+                Some(row) => assert!(rt; is_twice(rows, active.as_slice(), row) == *want),
+                None => assert!(rt; false),
+            }
+        }
     } else {
         assert!(rt; false);
     }

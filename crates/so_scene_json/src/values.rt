@@ -1,12 +1,12 @@
 //! What a value stands for, or what is wrong with it.
 
-ghost use Rattle.std.specs.Prelude.{◌≡◌};
+ghost use Rattle.std.specs.Prelude.{◌≡◌, ◌≤◌, IfOk};
 ghost use Rattle.serde_json.specs.View.{view};
-ghost use Rattle.so_scene_json.specs.Values.{integer_of, small_number, numbered, operand_named, operand_of, dest_named, dest_of, cmp_named, cmp_of, name_of, text_of, count_of, string_in, name_in, Views};
+ghost use Rattle.so_scene_json.specs.Values.{integer_of, small_number, numbered, operand_named, operand_of, dest_named, dest_of, cmp_named, cmp_of, name_of, text_of, count_of, number_of, flag_of, only_true, string_in, name_in, id_in, Views};
 
 use serde_json::Value;
 use so_code::{Cmp, Dest, Operand};
-use so_scene::{is_name, is_text};
+use so_scene::{Name, is_name, is_text};
 
 /// What is wrong with a value whose place is known elsewhere.
 #[derive(Clone, Copy, Debug, PartialEq, Eq)]
@@ -182,6 +182,37 @@ pub(crate) fn count(rest: usize, value: &Value) -> Result<usize, Trouble>
     }
 }
 
+/// A number from `low` to `high`.
+pub(crate) fn number(low: usize, high: usize, value: &Value) -> Result<usize, Trouble>
+    ensures value { result ≡ number_of low high (view value.now) }
+    ensures range { IfOk result (λ n. n ≤ high) }
+{
+    let number = count(high, value)?;
+    if number < low {
+        Err(Trouble::OutOfRange)
+    } else {
+        Ok(number)
+    }
+}
+
+/// `true` or `false`.
+pub(crate) fn flag(value: &Value) -> Result<bool, Trouble>
+    ensures { result ≡ flag_of (view value.now) }
+{
+    value.as_bool().ok_or(Trouble::WrongShape)
+}
+
+/// `true`.
+pub(crate) fn only_true(value: &Value) -> Result<bool, Trouble>
+    ensures { result ≡ only_true (view value.now) }
+{
+    if flag(value)? {
+        Ok(true)
+    } else {
+        Err(Trouble::WrongShape)
+    }
+}
+
 /// The string of a field, empty where it has none.
 pub(crate) fn string_in<'v>(value: &'v Value, key: &str) -> &'v str
     ensures { result.now ≡ string_in key.now (view value.now) }
@@ -201,4 +232,11 @@ pub(crate) fn name_in(value: &Value) -> &str
 {
     let text = string_in(value, "name");
     if is_name(text.as_bytes()) { text } else { "" }
+}
+
+/// The id of an object, if it has one.
+pub(crate) fn id_in(value: &Value) -> Option<Name>
+    ensures { result ≡ id_in (view value.now) }
+{
+    Name::of(string_in(value, "id"))
 }

@@ -4,29 +4,32 @@ ghost use Rattle.std.specs.Prelude.{◌≡◌, ◌≤◌, ◌+◌, ◌-◌, ◌�
 ghost use Rattle.serde_json.specs.Events.{items_len};
 ghost use Rattle.serde_json.specs.Find.{get_item};
 ghost use Rattle.serde_json.specs.View.{view, items_view};
+ghost use Rattle.so_code.specs.declared.instr.Instr.TheVariants as instr;
 ghost use Rattle.so_scene.specs.Names.{number_in};
 ghost use Rattle.so_scene.specs.Words.{is_text};
 ghost use Rattle.so_scene_json.specs.Twice.{names_in};
 ghost use Rattle.so_scene_json.specs.Visits.{narrow, Leaves};
-ghost use Rattle.so_scene_json.specs.Writer.{operand_at, dest_at, cmp_at, count_at, string_at, text_at, args_from, send_instr, send_at, word_instr, with_text, text_number, with_instr, word_written, act_written, acts_written};
+ghost use Rattle.so_scene_json.specs.Writer.{operand_at, dest_at, cmp_at, count_at, string_at, text_at, args_from, send_instr, send_at, row_at, filter_at, or_idle, step_instr, word_instr, with_text, text_number, with_instr, word_written, act_written, acts_written};
 ghost use Rattle.so_scene_json.specs.Reads.{LeavesWith};
 
 use crate::act_table::Word;
 use crate::acts::parts;
 use crate::declare::Declared;
+use crate::scope::{Scope, number_with};
 use crate::table::Space;
 use crate::values::{comparison, count, dest, operand};
 use crate::walk::position;
 use serde_json::Value;
 use so_code::{Args, Cmp, Dest, Instr, Operand};
-use so_ids::{MboxId, MsgId, Target, TextId};
+use so_ids::{FilterId, MboxId, MsgId, RowId, Target, TextId};
 use so_scene::{Items, Names, SceneRefusal, is_text};
 
-/// The texts so far, and the instructions of an agent so far.
+/// The texts so far, and the instructions of an agent so far with the ids that they may name.
 #[derive(Drop)]
 pub(crate) struct Writer {
     pub(crate) texts: Names,
     pub(crate) code: Items<Instr>,
+    pub(crate) scope: Scope,
 }
 
 pub(crate) fn item(list: &[Value], i: usize) -> Option<&Value>
@@ -127,13 +130,13 @@ fn args_in(list: &[Value], i: usize) -> Args
     }
 }
 
-fn send_to(agent: Option<usize>, msg: Option<usize>, args: Args) -> Instr
-    ensures { result ≡ send_instr agent msg args }
+fn send_to(mbox: Option<usize>, msg: Option<usize>, args: Args) -> Instr
+    ensures { result ≡ send_instr mbox msg args }
 {
-    match agent {
-        Some(agent) => match msg {
+    match mbox {
+        Some(mbox) => match msg {
             Some(msg) => Instr::Send {
-                target: Target::Mbox(MboxId(position(agent))),
+                target: Target::Mbox(MboxId(position(mbox))),
                 msg: MsgId(position(msg)),
                 args,
             },
@@ -147,15 +150,71 @@ fn send(names: &Declared, list: &[Value]) -> Instr
     ensures { result ≡ send_at names.now (items_view list.now) }
 {
     send_to(
-        names.number(Space::Parties, string_in(list, 0)),
+        names.number(Space::Mboxes, string_in(list, 0)),
         names.number(Space::Messages, string_in(list, 1)),
         args_in(list, 2),
     )
 }
 
-/// The instruction of an act that so many others follow.
-fn instr(names: &Declared, text: u32, rest: usize, word: Word, list: &[Value]) -> Instr
-    ensures { result ≡ word_instr names.now text rest word (items_view list.now) }
+/// The row that an act names.
+fn row(scope: &Scope, list: &[Value]) -> Option<RowId>
+    ensures { result ≡ row_at scope.now (items_view list.now) }
+{
+    match number_with(scope.rows.as_slice(), string_in(list, 0)) {
+        Some(k) => Some(RowId(position(k))),
+        None => None,
+    }
+}
+
+/// The filter that an act names.
+fn filter(scope: &Scope, list: &[Value]) -> Option<FilterId>
+    ensures { result ≡ filter_at scope.now (items_view list.now) }
+{
+    match number_with(scope.filters.as_slice(), string_in(list, 0)) {
+        Some(k) => Some(FilterId(position(k))),
+        None => None,
+    }
+}
+
+fn subscribe(row: Option<RowId>) -> Instr
+    ensures { result ≡ or_idle instr.Subscribe row }
+{
+    match row {
+        Some(row) => Instr::Subscribe { row },
+        None => Instr::Skip { count: 0 },
+    }
+}
+
+fn unsubscribe(row: Option<RowId>) -> Instr
+    ensures { result ≡ or_idle instr.Unsubscribe row }
+{
+    match row {
+        Some(row) => Instr::Unsubscribe { row },
+        None => Instr::Skip { count: 0 },
+    }
+}
+
+fn set_filter(filter: Option<FilterId>) -> Instr
+    ensures { result ≡ or_idle instr.SetFilter filter }
+{
+    match filter {
+        Some(filter) => Instr::SetFilter { filter },
+        None => Instr::Skip { count: 0 },
+    }
+}
+
+fn drop_filter(filter: Option<FilterId>) -> Instr
+    ensures { result ≡ or_idle instr.DropFilter filter }
+{
+    match filter {
+        Some(filter) => Instr::DropFilter { filter },
+        None => Instr::Skip { count: 0 },
+    }
+}
+
+/// The instruction of an act that so many others follow, where it reads or computes.
+fn step(rest: usize, word: Word, list: &[Value]) -> Instr
+    ensures { result ≡ step_instr rest word (items_view list.now) }
 {
     match word {
         Word::Set => Instr::Set {
@@ -189,13 +248,33 @@ fn instr(names: &Declared, text: u32, rest: usize, word: Word, list: &[Value]) -
         Word::Throw => Instr::Throw {
             a: operand_in(list, 0),
         },
+        _ => Instr::Skip { count: 0 },
+    }
+}
+
+/// The instruction of an act that so many others follow.
+fn instr(
+    names: &Declared,
+    scope: &Scope,
+    text: u32,
+    rest: usize,
+    word: Word,
+    list: &[Value],
+) -> Instr
+    ensures { result ≡ word_instr names.now scope.now text rest word (items_view list.now) }
+{
+    match word {
         Word::Log => Instr::Log {
             text: TextId(text),
             args: args_in(list, 1),
         },
         Word::Send => send(names, list),
+        Word::Subscribe => subscribe(row(scope, list)),
+        Word::Unsubscribe => unsubscribe(row(scope, list)),
+        Word::SetFilter => set_filter(filter(scope, list)),
+        Word::DropFilter => drop_filter(filter(scope, list)),
         Word::Stop => Instr::Stop,
-        _ => Instr::Skip { count: 0 },
+        _ => step(rest, word, list),
     }
 }
 
@@ -226,6 +305,13 @@ impl Writer {
         }
     }
 
+    /// The instruction of an act with the ids of this agent.
+    fn instr(&self, names: &Declared, text: u32, rest: usize, word: Word, list: &[Value]) -> Instr
+        ensures { result ≡ word_instr names.now self.now.scope text rest word (items_view list.now) }
+    {
+        instr(names, &self.scope, text, rest, word, list)
+    }
+
     fn word(
         &mut self,
         names: &Declared,
@@ -238,9 +324,13 @@ impl Writer {
         match word {
             Word::Log => {
                 let text = self.text(text_in(list, 0))?;
-                self.push(instr(names, text, rest, Word::Log, list))
+                let instr = self.instr(names, text, rest, Word::Log, list);
+                self.push(instr)
             }
-            _ => self.push(instr(names, 0, rest, word, list)),
+            _ => {
+                let instr = self.instr(names, 0, rest, word, list);
+                self.push(instr)
+            }
         }
     }
 

@@ -1,26 +1,29 @@
 -- When each cause comes, from what the answer follows.
-use Rattle.std.proofs.Common.{◌≡◌, ◌⊎◌, inl, inr, ℕ, ◌<◌, ◌≤◌, List, length, Bool, true, false, Option, Some, None, Result, Ok, Err, sym, ◌∙◌, ap, subst, arith, refl}
+use Rattle.std.proofs.Common.{◌≡◌, ◌⊎◌, inl, inr, ℕ, ◌<◌, ◌≤◌, List, length, Bool, true, false, Option, Some, None, Result, Ok, Err, sym, ◌∙◌, ap, subst, arith, refl, if◌then◌else◌}
 use Rattle.std.specs.Prelude.{IfSome}
 use Rattle.std.proofs.lemmas.Bool.{cases_Bool}
 use Rattle.so_io.specs.Count.{Rose}
 use Rattle.so_scene.specs.declared.parts.SceneParts.{SceneParts}
 use Rattle.so_scene.specs.declared.fault.SceneFault.{SceneFault}
-use Rattle.so_history.specs.declared.lines.Mode.TheVariants.{Plain}
+use Rattle.so_history.specs.declared.lines.Mode.{Mode}
 use Rattle.so_history.specs.Kept.{Kept}
 use Rattle.so_history.specs.Steps.{finished, is_over}
 use Rattle.so_history.specs.Text.{text}
-use Rattle.so_history.specs.Facts.{HasFacts}
 use Rattle.so_history.proofs.FactLaws.{has_facts}
 use Rattle.so_env.specs.declared.outcome.Cause.{Cause}
 use Rattle.so_history.specs.Coops.{aborted}
 use Rattle.so_env.specs.declared.outcome.Cause.TheVariants.{Done, Usage, Limit, Aborted, Scene, Read, Long, Write, Memory}
 use Rattle.so_env.specs.Prints.{Printed, HasRisen, IsSimulated, cause_of}
-use Rattle.sorun.specs.Answers.{all_units, most_bytes, IsRefused, IsRun, RunAnswers, SceneAnswers, FileAnswers, could_not_read, too_long, wanting, was_read, WordsAnswers}
-use Rattle.sorun.specs.Exact.{IsWhole, IsFileExact, IsExact, FactsOf, RunHasFacts}
+use Rattle.sorun.specs.Answers.{most_bytes, IsRefused, RunAnswers, JobAnswers, SceneAnswers, FileAnswers, could_not_read, too_long, wanting, was_read, WordsAnswers}
+use Rattle.sorun.specs.Exact.{IsWhole, RunsNothing, IsFileExact, IsExact, FactsOf, RunHasFacts}
 use Rattle.so_scene_json.specs.Scene.{scene_of}
+use Rattle.sorun.specs.Commands.{Command}
+use Rattle.sorun.specs.Summary.{summary_line}
+use Rattle.sorun.specs.declared.commands.Job.{Job}
+use Rattle.sorun.specs.declared.commands.Job.TheVariants.{Check, Sim}
 use Rattle.sorun.specs.declared.report.Report.{Report}
 
-module _ (r : Report) (fx fy : ℕ) (a b : Option (List ℕ)) (x y : ℕ) where
+module _ (job : Job) (r : Report) (fx fy : ℕ) (a b : Option (List ℕ)) (x y : ℕ) where
   -- the bytes are those that are told
   abbrev pub IsToldBytes : Option (List ℕ) → List ℕ → Type 0
   IsToldBytes told bytes = IfSome told (λ all. (bytes ≡ all) × (length all ≤ most_bytes))
@@ -32,40 +35,54 @@ module _ (r : Report) (fx fy : ℕ) (a b : Option (List ℕ)) (x y : ℕ) where
     poor : r.cause ≡ Memory → r.history ≡ None → IfSome told (λ all. length all ≤ most_bytes) → Fate told
     bad : (bytes : List ℕ) (f : SceneFault) → IsToldBytes told bytes → scene_of bytes ≡ Err f → r.cause ≡ Scene f → Fate told
     cut_off : (bytes : List ℕ) (s : SceneParts) → IsToldBytes told bytes → scene_of bytes ≡ Ok s → r.cause ≡ Write → Rose x y → Fate told
-    finishes : (bytes : List ℕ) (s : SceneParts) → IsToldBytes told bytes → scene_of bytes ≡ Ok s → r.cause ≡ Done → IsWhole s r a b → Fate told
-    stops : (bytes : List ℕ) (s : SceneParts) → IsToldBytes told bytes → scene_of bytes ≡ Ok s → r.cause ≡ Limit → IsWhole s r a b → Fate told
-    breaks : (bytes : List ℕ) (s : SceneParts) → IsToldBytes told bytes → scene_of bytes ≡ Ok s → r.cause ≡ Aborted → IsWhole s r a b → Fate told
+    finishes : (bytes : List ℕ) (s : SceneParts) → IsToldBytes told bytes → scene_of bytes ≡ Ok s → r.cause ≡ Done → IsWhole job s r a b → Fate told
+    stops : (bytes : List ℕ) (s : SceneParts) → IsToldBytes told bytes → scene_of bytes ≡ Ok s → r.cause ≡ Limit → IsWhole job s r a b → Fate told
+    breaks : (bytes : List ℕ) (s : SceneParts) → IsToldBytes told bytes → scene_of bytes ≡ Ok s → r.cause ≡ Aborted → IsWhole job s r a b → Fate told
 
   in_bounds : (told : Option (List ℕ)) (bytes : List ℕ) → IsToldBytes told bytes → IfSome told (λ all. length all ≤ most_bytes)
   in_bounds None bytes is = tt
   in_bounds (Some all) bytes is = is.1
 
-  simulated : (told : Option (List ℕ)) (bytes : List ℕ) (s : SceneParts) (h : Kept) → IsToldBytes told bytes → scene_of bytes ≡ Ok s → r.history ≡ Some h → (run : IsSimulated s all_units Plain h.entries r.cause r.pieces a b x y) →
-      (failed : Bool) → r.cause ≡ cause_of s h.entries failed → Printed failed a b (text s Plain h.entries) → HasRisen failed x y → Fate told
-  simulated told bytes s h is given has run true cause printed risen = cut_off bytes s is given cause (risen.rose refl)
-  simulated told bytes s h is given has run false cause printed risen = elim (cases_Bool (finished s h.entries)) [
-    | inl over ↦ (let done : r.cause ≡ Done = cause ∙ rw over refl in
-        finishes bytes s is given done record { kept = h; has = has; chain = run.chain; legal = run.legal; facts = has_facts s h.entries run.legal; printed = printed; cause = inl (done, over) })
-    | inr going ↦ elim (cases_Bool (aborted h.entries)) [
-      | inl broken ↦ (let is_aborted : r.cause ≡ Aborted = cause ∙ rw (going, broken) refl in
-          breaks bytes s is given is_aborted record { kept = h; has = has; chain = run.chain; legal = run.legal; facts = has_facts s h.entries run.legal; printed = printed; cause = inr (inl (is_aborted, going, broken)) })
-      | inr unbroken ↦ (let limit : r.cause ≡ Limit = cause ∙ rw (going, unbroken) refl in
-          let open_end : is_over s h.entries ≡ false = rw (going, unbroken) refl in
-          stops bytes s is given limit record { kept = h; has = has; chain = run.chain; legal = run.legal; facts = has_facts s h.entries run.legal; printed = printed; cause = inr (inr (limit, open_end, run.at_limit open_end)) })
+  checked : (told : Option (List ℕ)) (bytes : List ℕ) (s : SceneParts) → job ≡ Check → IsToldBytes told bytes → scene_of bytes ≡ Ok s → r.history ≡ None →
+      (failed : Bool) → r.cause ≡ (if failed then Write else Done) → Printed failed a b (summary_line s) → HasRisen failed x y → Fate told
+  checked told bytes s asked is given none true cause printed risen = cut_off bytes s is given cause (risen.rose refl)
+  checked told bytes s asked is given none false cause printed risen =
+      finishes bytes s is given cause (subst (λ (j : Job). IsWhole j s r a b) (sym asked) (record { no_history = none; printed = printed; cause = cause }))
+
+  module _ (mode : Mode) (units : ℕ) (asked : job ≡ Sim mode units) where
+    whole : (s : SceneParts) → IsWhole (Sim mode units) s r a b → IsWhole job s r a b
+    whole s run = subst (λ (j : Job). IsWhole j s r a b) (sym asked) run
+
+    simulated : (told : Option (List ℕ)) (bytes : List ℕ) (s : SceneParts) (h : Kept) → IsToldBytes told bytes → scene_of bytes ≡ Ok s → r.history ≡ Some h → (run : IsSimulated s units mode h.entries r.cause r.pieces a b x y) →
+        (failed : Bool) → r.cause ≡ cause_of s h.entries failed → Printed failed a b (text s mode h.entries) → HasRisen failed x y → Fate told
+    simulated told bytes s h is given has run true cause printed risen = cut_off bytes s is given cause (risen.rose refl)
+    simulated told bytes s h is given has run false cause printed risen = elim (cases_Bool (finished s h.entries)) [
+      | inl over ↦ (let done : r.cause ≡ Done = cause ∙ rw over refl in
+          finishes bytes s is given done (whole s record { kept = h; has = has; chain = run.chain; legal = run.legal; facts = has_facts s h.entries run.legal; printed = printed; cause = inl (done, over) }))
+      | inr going ↦ elim (cases_Bool (aborted h.entries)) [
+        | inl broken ↦ (let is_aborted : r.cause ≡ Aborted = cause ∙ rw (going, broken) refl in
+            breaks bytes s is given is_aborted (whole s record { kept = h; has = has; chain = run.chain; legal = run.legal; facts = has_facts s h.entries run.legal; printed = printed; cause = inr (inl (is_aborted, going, broken)) }))
+        | inr unbroken ↦ (let limit : r.cause ≡ Limit = cause ∙ rw (going, unbroken) refl in
+            let open_end : is_over s h.entries ≡ false = rw (going, unbroken) refl in
+            stops bytes s is given limit (whole s record { kept = h; has = has; chain = run.chain; legal = run.legal; facts = has_facts s h.entries run.legal; printed = printed; cause = inr (inr (limit, open_end, run.at_limit open_end)) }))
+      ]
     ]
-  ]
 
-  run_fate : (told : Option (List ℕ)) (bytes : List ℕ) (s : SceneParts) → IsToldBytes told bytes → scene_of bytes ≡ Ok s → (h : Option Kept) → r.history ≡ h → RunAnswers h s r.cause r.pieces a b x y → Fate told
-  run_fate told bytes s is given None has run = poor run.0 has (in_bounds told bytes is)
-  run_fate told bytes s is given (Some h) has run = simulated told bytes s h is given has run run.failed run.is run.printed run.risen
+    run_fate : (told : Option (List ℕ)) (bytes : List ℕ) (s : SceneParts) → IsToldBytes told bytes → scene_of bytes ≡ Ok s → (h : Option Kept) → r.history ≡ h → RunAnswers h mode units s r.cause r.pieces a b x y → Fate told
+    run_fate told bytes s is given None has run = poor run.0 has (in_bounds told bytes is)
+    run_fate told bytes s is given (Some h) has run = simulated told bytes s h is given has run run.failed run.is run.printed run.risen
 
-  scene_fate : (told : Option (List ℕ)) (bytes : List ℕ) → IsToldBytes told bytes → (given : Result SceneParts SceneFault) → scene_of bytes ≡ given → SceneAnswers given r a b x y → Fate told
+  job_fate : (told : Option (List ℕ)) (bytes : List ℕ) (s : SceneParts) → IsToldBytes told bytes → scene_of bytes ≡ Ok s → (j : Job) → job ≡ j → JobAnswers j s r a b x y → Fate told
+  job_fate told bytes s is given Check asked does = checked told bytes s asked is given does.no_history does.failed does.is does.printed does.risen
+  job_fate told bytes s is given (Sim mode units) asked does = run_fate mode units asked told bytes s is given r.history refl does.run
+
+  scene_fate : (told : Option (List ℕ)) (bytes : List ℕ) → IsToldBytes told bytes → (given : Result SceneParts SceneFault) → scene_of bytes ≡ given → SceneAnswers job given r a b x y → Fate told
   scene_fate told bytes is (Err f) given (inl refused) = bad bytes f is given refused.is
   scene_fate told bytes is (Err f) given (inr refused) = poor refused.is refused.no_history (in_bounds told bytes is)
-  scene_fate told bytes is (Ok s) given (inl run) = run_fate told bytes s is given r.history refl run.run
+  scene_fate told bytes is (Ok s) given (inl does) = job_fate told bytes s is given job refl does
   scene_fate told bytes is (Ok s) given (inr refused) = poor refused.is refused.no_history (in_bounds told bytes is)
 
-  file_fate : (told : Option (List ℕ)) → FileAnswers told r fx fy a b x y → Fate told
+  file_fate : (told : Option (List ℕ)) → FileAnswers job told r fx fy a b x y → Fate told
   file_fate told (could_not_read refused rose fits) = no_file refused.is rose fits
   file_fate told (too_long refused more) = big refused.is more
   file_fate told (wanting refused fits) = poor refused.is refused.no_history fits
@@ -158,10 +175,10 @@ module _ (r : Report) (fx fy : ℕ) (a b : Option (List ℕ)) (x y : ℕ) where
     is_faulty (stops bytes s told given c run) fault few faulty = absurd (ok_no_err s fault (same_scene bytes _ _ told.0 given faulty))
     is_faulty (breaks bytes s told given c run) fault few faulty = absurd (ok_no_err s fault (same_scene bytes _ _ told.0 given faulty))
 
-    of_scene : (bytes : List ℕ) (s s2 : SceneParts) → bytes ≡ all → scene_of bytes ≡ Ok s → scene_of all ≡ Ok s2 → IsWhole s r a b → IsWhole s2 r a b
-    of_scene bytes s s2 is one two run = subst (λ (z : SceneParts). IsWhole z r a b) (same_ok s s2 (same_scene bytes _ _ is one two)) run
+    of_scene : (bytes : List ℕ) (s s2 : SceneParts) → bytes ≡ all → scene_of bytes ≡ Ok s → scene_of all ≡ Ok s2 → IsWhole job s r a b → IsWhole job s2 r a b
+    of_scene bytes s s2 is one two run = subst (λ (z : SceneParts). IsWhole job z r a b) (same_ok s s2 (same_scene bytes _ _ is one two)) run
 
-    is_done : Fate (Some all) → (s : SceneParts) → scene_of all ≡ Ok s → r.cause ≡ Done → IsWhole s r a b
+    is_done : Fate (Some all) → (s : SceneParts) → scene_of all ≡ Ok s → r.cause ≡ Done → IsWhole job s r a b
     is_done (no_file c rose fits) s gives is = absurd cc
     is_done (big c more) s gives is = absurd cc
     is_done (poor c none fits) s gives is = absurd cc
@@ -171,7 +188,7 @@ module _ (r : Report) (fx fy : ℕ) (a b : Option (List ℕ)) (x y : ℕ) where
     is_done (stops bytes s1 told given c run) s gives is = of_scene bytes s1 s told.0 given gives run
     is_done (breaks bytes s1 told given c run) s gives is = of_scene bytes s1 s told.0 given gives run
 
-    is_limit : Fate (Some all) → (s : SceneParts) → scene_of all ≡ Ok s → r.cause ≡ Limit → IsWhole s r a b
+    is_limit : Fate (Some all) → (s : SceneParts) → scene_of all ≡ Ok s → r.cause ≡ Limit → IsWhole job s r a b
     is_limit (no_file c rose fits) s gives is = absurd cc
     is_limit (big c more) s gives is = absurd cc
     is_limit (poor c none fits) s gives is = absurd cc
@@ -181,7 +198,7 @@ module _ (r : Report) (fx fy : ℕ) (a b : Option (List ℕ)) (x y : ℕ) where
     is_limit (stops bytes s1 told given c run) s gives is = of_scene bytes s1 s told.0 given gives run
     is_limit (breaks bytes s1 told given c run) s gives is = of_scene bytes s1 s told.0 given gives run
 
-    is_abort : Fate (Some all) → (s : SceneParts) → scene_of all ≡ Ok s → r.cause ≡ Aborted → IsWhole s r a b
+    is_abort : Fate (Some all) → (s : SceneParts) → scene_of all ≡ Ok s → r.cause ≡ Aborted → IsWhole job s r a b
     is_abort (no_file c rose fits) s gives is = absurd cc
     is_abort (big c more) s gives is = absurd cc
     is_abort (poor c none fits) s gives is = absurd cc
@@ -191,7 +208,7 @@ module _ (r : Report) (fx fy : ℕ) (a b : Option (List ℕ)) (x y : ℕ) where
     is_abort (stops bytes s1 told given c run) s gives is = of_scene bytes s1 s told.0 given gives run
     is_abort (breaks bytes s1 told given c run) s gives is = of_scene bytes s1 s told.0 given gives run
 
-    is_complete : Fate (Some all) → (s : SceneParts) → length all ≤ most_bytes → scene_of all ≡ Ok s → (Rose fx fy → ⊥) → (Rose x y → ⊥) → ((r.cause ≡ Memory) × (r.history ≡ None)) ⊎ IsWhole s r a b
+    is_complete : Fate (Some all) → (s : SceneParts) → length all ≤ most_bytes → scene_of all ≡ Ok s → (Rose fx fy → ⊥) → (Rose x y → ⊥) → ((r.cause ≡ Memory) × (r.history ≡ None)) ⊎ IsWhole job s r a b
     is_complete (no_file c rose fits) s few gives no_fault no_write = absurd (no_fault rose)
     is_complete (big c more) s few gives no_fault no_write = absurd (too_many more few)
     is_complete (poor c none fits) s few gives no_fault no_write = inl (c, none)
@@ -201,7 +218,7 @@ module _ (r : Report) (fx fy : ℕ) (a b : Option (List ℕ)) (x y : ℕ) where
     is_complete (stops bytes s1 told given c run) s few gives no_fault no_write = inr (of_scene bytes s1 s told.0 given gives run)
     is_complete (breaks bytes s1 told given c run) s few gives no_fault no_write = inr (of_scene bytes s1 s told.0 given gives run)
 
-    file_exact : Fate (Some all) → IsFileExact all r fx fy a b x y
+    file_exact : Fate (Some all) → IsFileExact job all r fx fy a b x y
     file_exact fate = record {
       long = (only_long fate, is_long fate);
       scene = only_scene fate;
@@ -212,33 +229,70 @@ module _ (r : Report) (fx fy : ℕ) (a b : Option (List ℕ)) (x y : ℕ) where
       complete = is_complete fate;
     }
 
+-- `check` runs nothing
+refused_nothing : (cause : Cause) (r : Report) (a b : Option (List ℕ)) → IsRefused cause r a b → (cause ≡ Limit → ⊥) → (cause ≡ Aborted → ⊥) → RunsNothing r
+refused_nothing cause r a b refused no_limit no_abort = record { no_history = refused.no_history; no_limit = λ is. no_limit (sym refused.is ∙ is); no_abort = λ is. no_abort (sym refused.is ∙ is) }
+
+checked_nothing : (r : Report) (failed : Bool) → r.cause ≡ (if failed then Write else Done) → r.history ≡ None → RunsNothing r
+checked_nothing r true is none = record { no_history = none; no_limit = λ limit. absurd cc; no_abort = λ abort. absurd cc }
+checked_nothing r false is none = record { no_history = none; no_limit = λ limit. absurd cc; no_abort = λ abort. absurd cc }
+
+scene_nothing : (given : Result SceneParts SceneFault) (r : Report) (a b : Option (List ℕ)) (x y : ℕ) → SceneAnswers Check given r a b x y → RunsNothing r
+scene_nothing (Err f) r a b x y (inl refused) = refused_nothing (Scene f) r a b refused (λ is. cc) (λ is. cc)
+scene_nothing (Err f) r a b x y (inr refused) = refused_nothing Memory r a b refused (λ is. cc) (λ is. cc)
+scene_nothing (Ok s) r a b x y (inl does) = checked_nothing r does.failed does.is does.no_history
+scene_nothing (Ok s) r a b x y (inr refused) = refused_nothing Memory r a b refused (λ is. cc) (λ is. cc)
+
+file_nothing : (told : Option (List ℕ)) (r : Report) (fx fy : ℕ) (a b : Option (List ℕ)) (x y : ℕ) → FileAnswers Check told r fx fy a b x y → RunsNothing r
+file_nothing told r fx fy a b x y (could_not_read refused rose fits) = refused_nothing Read r a b refused (λ is. cc) (λ is. cc)
+file_nothing told r fx fy a b x y (too_long refused more) = refused_nothing Long r a b refused (λ is. cc) (λ is. cc)
+file_nothing told r fx fy a b x y (wanting refused fits) = refused_nothing Memory r a b refused (λ is. cc) (λ is. cc)
+file_nothing told r fx fy a b x y (was_read bytes is answers) = scene_nothing (scene_of bytes) r a b x y answers
+
+module _ (r : Report) (fx fy : ℕ) (a b : Option (List ℕ)) (x y : ℕ) where
   only_usage : (n k : ℕ) → r.cause ≡ Usage n → r.cause ≡ Usage k → n ≡ k
   only_usage n k c is = cc
 
-  place_is : (n k : ℕ) → ◌≡◌ {A = Result (List ℕ) ℕ} (Err n) (Err k) → n ≡ k
+  place_is : (n k : ℕ) → ◌≡◌ {A = Result Command ℕ} (Err n) (Err k) → n ≡ k
   place_is n k is = cc
 
-  pub exact : (words : Result (List ℕ) ℕ) (told : List ℕ → Option (List ℕ)) → WordsAnswers words told r fx fy a b x y → IsExact words told r fx fy a b x y
+  command_is : (c d : Command) → ◌≡◌ {A = Result Command ℕ} (Ok c) (Ok d) → c ≡ d
+  command_is c d is = cc
+
+  ok_is_no_err : (c : Command) (k : ℕ) → ◌≡◌ {A = Result Command ℕ} (Ok c) (Err k) → ⊥
+  ok_is_no_err c k is = cc
+
+  check_exact : (c d : Command) (told : List ℕ → Option (List ℕ)) → FileAnswers c.job (told c.file) r fx fy a b x y → c ≡ d → d.job ≡ Check → RunsNothing r
+  check_exact c d told answers same is =
+      file_nothing (told c.file) r fx fy a b x y (subst (λ (j : Job). FileAnswers j (told c.file) r fx fy a b x y) (ap (λ (e : Command). e.job) same ∙ is) answers)
+
+  command_exact : (c d : Command) (bytes : List ℕ) (told : List ℕ → Option (List ℕ)) → FileAnswers c.job (told c.file) r fx fy a b x y → c ≡ d → told d.file ≡ Some bytes → IsFileExact d.job bytes r fx fy a b x y
+  command_exact c d bytes told answers same tells =
+      let answers_d : FileAnswers d.job (told d.file) r fx fy a b x y = subst (λ (e : Command). FileAnswers e.job (told e.file) r fx fy a b x y) same answers in
+      file_exact d.job r fx fy a b x y bytes (subst (Fate d.job r fx fy a b x y) tells (file_fate d.job r fx fy a b x y (told d.file) answers_d))
+
+  pub exact : (words : Result Command ℕ) (told : List ℕ → Option (List ℕ)) → WordsAnswers words told r fx fy a b x y → IsExact words told r fx fy a b x y
   exact (Err n) told refused = record {
     usage = λ k. (λ is. ap Err (only_usage n k refused.is is), λ is. refused.is ∙ ap Usage (place_is n k is));
     read = λ is. (let c : r.cause ≡ Usage n = refused.is in absurd cc);
     write = λ is. (let c : r.cause ≡ Usage n = refused.is in absurd cc);
-    file = λ file bytes is. absurd cc;
+    check = λ c is. absurd (ok_is_no_err c n (sym is));
+    file = λ c bytes is. absurd (ok_is_no_err c n (sym is));
   }
-  exact (Ok file) told answers = record {
-    usage = λ k. (λ is. absurd (not_usage (told file) k (file_fate (told file) answers) is), λ is. absurd cc);
-    read = read_rose (told file) (file_fate (told file) answers);
-    write = write_rose (told file) (file_fate (told file) answers);
-    file = λ file2 bytes is tells.
-        let same : file ≡ file2 = cc in
-        let told_is : told file ≡ Some bytes = ap told same ∙ tells in
-        file_exact bytes (subst Fate told_is (file_fate (told file) answers));
-  }
+  exact (Ok c) told answers =
+      let fate : Fate c.job r fx fy a b x y (told c.file) = file_fate c.job r fx fy a b x y (told c.file) answers in
+      record {
+        usage = λ k. (λ is. absurd (not_usage c.job r fx fy a b x y (told c.file) k fate is), λ is. absurd (ok_is_no_err c k is));
+        read = read_rose c.job r fx fy a b x y (told c.file) fate;
+        write = write_rose c.job r fx fy a b x y (told c.file) fate;
+        check = λ d is. check_exact c d told answers (command_is c d is);
+        file = λ d bytes is. command_exact c d bytes told answers (command_is c d is);
+      }
 
 -- what is run has the facts
-facts_of : (s : SceneParts) (cause : Cause) (n : ℕ) (h : Option Kept) (a b : Option (List ℕ)) (x y : ℕ) → RunAnswers h s cause n a b x y → FactsOf (Some s) h
-facts_of s cause n None a b x y run = tt
-facts_of s cause n (Some h) a b x y run = has_facts s h.entries run.legal
+facts_of : (mode : Mode) (units : ℕ) (s : SceneParts) (cause : Cause) (n : ℕ) (h : Option Kept) (a b : Option (List ℕ)) (x y : ℕ) → RunAnswers h mode units s cause n a b x y → FactsOf (Some s) h
+facts_of mode units s cause n None a b x y run = tt
+facts_of mode units s cause n (Some h) a b x y run = has_facts s h.entries run.legal
 
 no_facts : (scene : Option SceneParts) (h : Option Kept) → h ≡ None → FactsOf scene h
 no_facts None None is = tt
@@ -246,21 +300,23 @@ no_facts (Some s) None is = tt
 no_facts None (Some h) is = tt
 no_facts (Some s) (Some h) is = absurd cc
 
-run_facts : (s : SceneParts) (r : Report) (a b : Option (List ℕ)) (x y : ℕ) → IsRun s r a b x y → RunHasFacts r
-run_facts s r a b x y run = subst (λ (z : Option SceneParts). FactsOf z r.history) (sym run.scene) (facts_of s r.cause r.pieces r.history a b x y run.run)
+job_facts : (job : Job) (s : SceneParts) (r : Report) (a b : Option (List ℕ)) (x y : ℕ) → JobAnswers job s r a b x y → RunHasFacts r
+job_facts Check s r a b x y does = no_facts r.scene r.history does.no_history
+job_facts (Sim mode units) s r a b x y run =
+    subst (λ (z : Option SceneParts). FactsOf z r.history) (sym run.scene) (facts_of mode units s r.cause r.pieces r.history a b x y run.run)
 
-scene_facts : (given : Result SceneParts SceneFault) (r : Report) (a b : Option (List ℕ)) (x y : ℕ) → SceneAnswers given r a b x y → RunHasFacts r
-scene_facts (Err f) r a b x y (inl refused) = no_facts r.scene r.history refused.no_history
-scene_facts (Err f) r a b x y (inr refused) = no_facts r.scene r.history refused.no_history
-scene_facts (Ok s) r a b x y (inl run) = run_facts s r a b x y run
-scene_facts (Ok s) r a b x y (inr refused) = no_facts r.scene r.history refused.no_history
+scene_facts : (job : Job) (given : Result SceneParts SceneFault) (r : Report) (a b : Option (List ℕ)) (x y : ℕ) → SceneAnswers job given r a b x y → RunHasFacts r
+scene_facts job (Err f) r a b x y (inl refused) = no_facts r.scene r.history refused.no_history
+scene_facts job (Err f) r a b x y (inr refused) = no_facts r.scene r.history refused.no_history
+scene_facts job (Ok s) r a b x y (inl does) = job_facts job s r a b x y does
+scene_facts job (Ok s) r a b x y (inr refused) = no_facts r.scene r.history refused.no_history
 
-file_facts : (told : Option (List ℕ)) (r : Report) (fx fy : ℕ) (a b : Option (List ℕ)) (x y : ℕ) → FileAnswers told r fx fy a b x y → RunHasFacts r
-file_facts told r fx fy a b x y (could_not_read refused rose fits) = no_facts r.scene r.history refused.no_history
-file_facts told r fx fy a b x y (too_long refused more) = no_facts r.scene r.history refused.no_history
-file_facts told r fx fy a b x y (wanting refused fits) = no_facts r.scene r.history refused.no_history
-file_facts told r fx fy a b x y (was_read bytes is answers) = scene_facts (scene_of bytes) r a b x y answers
+file_facts : (job : Job) (told : Option (List ℕ)) (r : Report) (fx fy : ℕ) (a b : Option (List ℕ)) (x y : ℕ) → FileAnswers job told r fx fy a b x y → RunHasFacts r
+file_facts job told r fx fy a b x y (could_not_read refused rose fits) = no_facts r.scene r.history refused.no_history
+file_facts job told r fx fy a b x y (too_long refused more) = no_facts r.scene r.history refused.no_history
+file_facts job told r fx fy a b x y (wanting refused fits) = no_facts r.scene r.history refused.no_history
+file_facts job told r fx fy a b x y (was_read bytes is answers) = scene_facts job (scene_of bytes) r a b x y answers
 
-pub facts : (words : Result (List ℕ) ℕ) (told : List ℕ → Option (List ℕ)) (r : Report) (fx fy : ℕ) (a b : Option (List ℕ)) (x y : ℕ) → WordsAnswers words told r fx fy a b x y → RunHasFacts r
+pub facts : (words : Result Command ℕ) (told : List ℕ → Option (List ℕ)) (r : Report) (fx fy : ℕ) (a b : Option (List ℕ)) (x y : ℕ) → WordsAnswers words told r fx fy a b x y → RunHasFacts r
 facts (Err k) told r fx fy a b x y refused = no_facts r.scene r.history refused.no_history
-facts (Ok file) told r fx fy a b x y answers = file_facts (told file) r fx fy a b x y answers
+facts (Ok c) told r fx fy a b x y answers = file_facts c.job (told c.file) r fx fy a b x y answers

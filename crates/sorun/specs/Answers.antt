@@ -1,10 +1,10 @@
 -- What the program answers: it follows the words, the file, the bytes and the scene.
-use Rattle.std.specs.Prelude.{◌≡◌, ◌⊎◌, ℕ, ◌<◌, ◌≤◌, List, [], ◌++◌, length, Bool, Option, Some, None, Result, Ok, Err, codes, decimal, IfSome}
+use Rattle.std.specs.Prelude.{◌≡◌, ◌⊎◌, ℕ, ◌<◌, ◌≤◌, List, [], ◌++◌, length, Bool, Option, Some, None, Result, Ok, Err, codes, decimal, IfSome, if◌then◌else◌}
 use Rattle.so_io.specs.Count.{Rose}
 use Rattle.so_scene.specs.declared.parts.SceneParts.{SceneParts}
 use Rattle.so_scene.specs.declared.fault.SceneFault.{SceneFault}
 use Rattle.so_scene.specs.Faults.{fault_words}
-use Rattle.so_history.specs.declared.lines.Mode.TheVariants.{Plain}
+use Rattle.so_history.specs.declared.lines.Mode.{Mode}
 use Rattle.so_history.specs.Kept.{Kept}
 use Rattle.so_env.specs.declared.outcome.Cause.{Cause}
 use Rattle.so_env.specs.declared.outcome.Cause.TheVariants.{Done, Usage, Limit, Aborted, Scene, Read, Long, Write, Memory}
@@ -12,13 +12,14 @@ use Rattle.so_env.specs.Prints.{Printed, HasRisen, IsSimulated}
 use Rattle.so_scene_json.specs.Scene.{scene_of}
 use Rattle.so_scene.specs.declared.fault.SceneRefusal.{SceneRefusal}
 use Rattle.so_scene.specs.declared.fault.SceneRefusal.TheVariants.{Fault, NoMemory}
+use Rattle.sorun.specs.Commands.{Command}
+use Rattle.sorun.specs.Summary.{summary_line}
+use Rattle.sorun.specs.declared.commands.Job.{Job}
+use Rattle.sorun.specs.declared.commands.Job.TheVariants.{Check, Sim}
 use Rattle.sorun.specs.declared.report.Report.{Report}
 
 abbrev pub most_bytes : ℕ
 most_bytes = 4194304
-
-abbrev pub all_units : ℕ
-all_units = 100000
 
 -- the status of a cause
 abbrev pub status_of : Cause → ℕ
@@ -58,38 +59,54 @@ abbrev pub entries_of : Option Kept → ℕ
 entries_of None = 0
 entries_of (Some h) = length h.entries
 
--- nothing was run, and `out` has what it had
+-- nothing was done with a scene, and `out` has what it had
 pub record IsRefused (cause : Cause) (r : Report) (a b : Option (List ℕ)) : Type 0 where
   pub is : r.cause ≡ cause
   pub no_scene : r.scene ≡ None
   pub no_history : r.history ≡ None
+  pub no_pieces : r.pieces ≡ 0
   pub same : b ≡ a
 
--- a run, with its history and what `out` got, or want of memory
-abbrev pub RunAnswers : Option Kept → SceneParts → Cause → ℕ → Option (List ℕ) → Option (List ℕ) → ℕ → ℕ → Type 0
-RunAnswers None s cause n a b x y = (cause ≡ Memory) × (b ≡ a)
-RunAnswers (Some h) s cause n a b x y = IsSimulated s all_units Plain h.entries cause n a b x y
-
-pub record IsRun (s : SceneParts) (r : Report) (a b : Option (List ℕ)) (x y : ℕ) : Type 0 where
+-- a scene that was checked: its line was handed to `out` as one piece
+pub record IsChecked (s : SceneParts) (r : Report) (a b : Option (List ℕ)) (x y : ℕ) : Type 0 where
   pub scene : r.scene ≡ Some s
-  pub run : RunAnswers r.history s r.cause r.pieces a b x y
+  pub no_history : r.history ≡ None
+  pub one_piece : r.pieces ≡ 1
+  pub failed : Bool
+  pub is : r.cause ≡ (if failed then Write else Done)
+  pub printed : Printed failed a b (summary_line s)
+  pub risen : HasRisen failed x y
 
--- the answer to bytes: their fault, or a run of their scene, or want of memory
-abbrev pub SceneAnswers : Result SceneParts SceneFault → Report → Option (List ℕ) → Option (List ℕ) → ℕ → ℕ → Type 0
-SceneAnswers (Err fault) r a b x y = IsRefused (Scene fault) r a b ⊎ IsRefused Memory r a b
-SceneAnswers (Ok s) r a b x y = IsRun s r a b x y ⊎ IsRefused Memory r a b
+-- a run, with its history and what `out` got, or want of memory
+abbrev pub RunAnswers : Option Kept → Mode → ℕ → SceneParts → Cause → ℕ → Option (List ℕ) → Option (List ℕ) → ℕ → ℕ → Type 0
+RunAnswers None mode units s cause n a b x y = (cause ≡ Memory) × (n ≡ 0) × (b ≡ a)
+RunAnswers (Some h) mode units s cause n a b x y = IsSimulated s units mode h.entries cause n a b x y
+
+pub record IsRun (mode : Mode) (units : ℕ) (s : SceneParts) (r : Report) (a b : Option (List ℕ)) (x y : ℕ) : Type 0 where
+  pub scene : r.scene ≡ Some s
+  pub run : RunAnswers r.history mode units s r.cause r.pieces a b x y
+
+-- the answer to a scene, by what is asked of it
+abbrev pub JobAnswers : Job → SceneParts → Report → Option (List ℕ) → Option (List ℕ) → ℕ → ℕ → Type 0
+JobAnswers Check s r a b x y = IsChecked s r a b x y
+JobAnswers (Sim mode units) s r a b x y = IsRun mode units s r a b x y
+
+-- the answer to bytes: their fault, or what is asked of their scene, or want of memory
+abbrev pub SceneAnswers : Job → Result SceneParts SceneFault → Report → Option (List ℕ) → Option (List ℕ) → ℕ → ℕ → Type 0
+SceneAnswers job (Err fault) r a b x y = IsRefused (Scene fault) r a b ⊎ IsRefused Memory r a b
+SceneAnswers job (Ok s) r a b x y = JobAnswers job s r a b x y ⊎ IsRefused Memory r a b
 
 -- how the reading of a file went
-pub data FileAnswers (told : Option (List ℕ)) (r : Report) (fx fy : ℕ) (a b : Option (List ℕ)) (x y : ℕ) : Type 0 where
-  could_not_read : IsRefused Read r a b → Rose fx fy → IfSome told (λ bytes. length bytes ≤ most_bytes) → FileAnswers told r fx fy a b x y
-  too_long : IsRefused Long r a b → IfSome told (λ bytes. most_bytes < length bytes) → FileAnswers told r fx fy a b x y
-  wanting : IsRefused Memory r a b → IfSome told (λ bytes. length bytes ≤ most_bytes) → FileAnswers told r fx fy a b x y
-  was_read : (bytes : List ℕ) → IfSome told (λ all. (bytes ≡ all) × (length all ≤ most_bytes)) → SceneAnswers (scene_of bytes) r a b x y → FileAnswers told r fx fy a b x y
+pub data FileAnswers (job : Job) (told : Option (List ℕ)) (r : Report) (fx fy : ℕ) (a b : Option (List ℕ)) (x y : ℕ) : Type 0 where
+  could_not_read : IsRefused Read r a b → Rose fx fy → IfSome told (λ bytes. length bytes ≤ most_bytes) → FileAnswers job told r fx fy a b x y
+  too_long : IsRefused Long r a b → IfSome told (λ bytes. most_bytes < length bytes) → FileAnswers job told r fx fy a b x y
+  wanting : IsRefused Memory r a b → IfSome told (λ bytes. length bytes ≤ most_bytes) → FileAnswers job told r fx fy a b x y
+  was_read : (bytes : List ℕ) → IfSome told (λ all. (bytes ≡ all) × (length all ≤ most_bytes)) → SceneAnswers job (scene_of bytes) r a b x y → FileAnswers job told r fx fy a b x y
 
 -- the answer to words, where the files tell what they hold
-abbrev pub WordsAnswers : Result (List ℕ) ℕ → (List ℕ → Option (List ℕ)) → Report → ℕ → ℕ → Option (List ℕ) → Option (List ℕ) → ℕ → ℕ → Type 0
+abbrev pub WordsAnswers : Result Command ℕ → (List ℕ → Option (List ℕ)) → Report → ℕ → ℕ → Option (List ℕ) → Option (List ℕ) → ℕ → ℕ → Type 0
 WordsAnswers (Err k) told r fx fy a b x y = IsRefused (Usage k) r a b
-WordsAnswers (Ok file) told r fx fy a b x y = FileAnswers (told file) r fx fy a b x y
+WordsAnswers (Ok c) told r fx fy a b x y = FileAnswers c.job (told c.file) r fx fy a b x y
 
 -- `err` got the line of the cause, or a part of it where its count rose
 pub record IsTold (line : List ℕ) (a b : Option (List ℕ)) (x y : ℕ) : Type 0 where

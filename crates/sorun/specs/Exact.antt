@@ -4,7 +4,7 @@ use Rattle.std.specs.Io.KnownBytes.{Appends}
 use Rattle.so_io.specs.Count.{Rose}
 use Rattle.so_scene.specs.declared.parts.SceneParts.{SceneParts}
 use Rattle.so_scene.specs.declared.fault.SceneFault.{SceneFault}
-use Rattle.so_history.specs.declared.lines.Mode.TheVariants.{Plain}
+use Rattle.so_history.specs.declared.lines.Mode.{Mode}
 use Rattle.so_history.specs.Kept.{Kept}
 use Rattle.so_history.specs.Steps.{finished, is_over, Legal}
 use Rattle.so_history.specs.Coops.{aborted}
@@ -13,38 +13,60 @@ use Rattle.so_history.specs.Facts.{HasFacts}
 use Rattle.so_history.specs.Text.{text}
 use Rattle.so_env.specs.declared.outcome.Cause.TheVariants.{Done, Usage, Limit, Aborted, Scene, Read, Long, Write, Memory}
 use Rattle.so_history.specs.Chain.{StopsAtLimit}
-use Rattle.sorun.specs.Answers.{all_units, most_bytes}
+use Rattle.sorun.specs.Commands.{Command}
+use Rattle.sorun.specs.Summary.{summary_line}
+use Rattle.sorun.specs.Answers.{most_bytes}
 use Rattle.so_scene_json.specs.Scene.{scene_of}
+use Rattle.sorun.specs.declared.commands.Job.{Job}
+use Rattle.sorun.specs.declared.commands.Job.TheVariants.{Check, Sim}
 use Rattle.sorun.specs.declared.report.Report.{Report}
 
+-- a scene that was checked, and its line printed whole
+pub record IsCheckedWhole (s : SceneParts) (r : Report) (a b : Option (List ℕ)) : Type 0 where
+  pub no_history : r.history ≡ None
+  pub printed : Appends a b (summary_line s)
+  pub cause : r.cause ≡ Done
+
 -- a run that was printed whole
-pub record IsWhole (s : SceneParts) (r : Report) (a b : Option (List ℕ)) : Type 0 where
+pub record IsRunWhole (mode : Mode) (units : ℕ) (s : SceneParts) (r : Report) (a b : Option (List ℕ)) : Type 0 where
   pub kept : Kept
   pub has : r.history ≡ Some kept
-  pub chain : IsChain s all_units kept.entries
+  pub chain : IsChain s units kept.entries
   pub legal : Legal s kept.entries
   pub facts : HasFacts s kept.entries
-  pub printed : Appends a b (text s Plain kept.entries)
+  pub printed : Appends a b (text s mode kept.entries)
   pub cause :
       ((r.cause ≡ Done) × (finished s kept.entries ≡ true))
       ⊎ (((r.cause ≡ Aborted) × (finished s kept.entries ≡ false) × (aborted kept.entries ≡ true))
-      ⊎ ((r.cause ≡ Limit) × (is_over s kept.entries ≡ false) × StopsAtLimit s all_units kept.entries))
+      ⊎ ((r.cause ≡ Limit) × (is_over s kept.entries ≡ false) × StopsAtLimit s units kept.entries))
+
+-- what was asked of a scene was done whole
+abbrev pub IsWhole : Job → SceneParts → Report → Option (List ℕ) → Option (List ℕ) → Type 0
+IsWhole Check s r a b = IsCheckedWhole s r a b
+IsWhole (Sim mode units) s r a b = IsRunWhole mode units s r a b
+
+-- `check` runs nothing, so that nothing stops it
+pub record RunsNothing (r : Report) : Type 0 where
+  pub no_history : r.history ≡ None
+  pub no_limit : r.cause ≡ Limit → ⊥
+  pub no_abort : r.cause ≡ Aborted → ⊥
 
 -- the cause where the file's bytes are told
-pub record IsFileExact (bytes : List ℕ) (r : Report) (fx fy : ℕ) (a b : Option (List ℕ)) (x y : ℕ) : Type 0 where
+pub record IsFileExact (job : Job) (bytes : List ℕ) (r : Report) (fx fy : ℕ) (a b : Option (List ℕ)) (x y : ℕ) : Type 0 where
   pub long : (r.cause ≡ Long) ↔ (most_bytes < length bytes)
   pub scene : (fault : SceneFault) → r.cause ≡ Scene fault → scene_of bytes ≡ Err fault
   pub faulty : (fault : SceneFault) → length bytes ≤ most_bytes → scene_of bytes ≡ Err fault → (r.cause ≡ Scene fault) ⊎ ((r.cause ≡ Read) ⊎ (r.cause ≡ Memory))
-  pub done : (s : SceneParts) → scene_of bytes ≡ Ok s → r.cause ≡ Done → IsWhole s r a b
-  pub limit : (s : SceneParts) → scene_of bytes ≡ Ok s → r.cause ≡ Limit → IsWhole s r a b
-  pub abort : (s : SceneParts) → scene_of bytes ≡ Ok s → r.cause ≡ Aborted → IsWhole s r a b
-  pub complete : (s : SceneParts) → length bytes ≤ most_bytes → scene_of bytes ≡ Ok s → (Rose fx fy → ⊥) → (Rose x y → ⊥) → ((r.cause ≡ Memory) × (r.history ≡ None)) ⊎ IsWhole s r a b
+  pub done : (s : SceneParts) → scene_of bytes ≡ Ok s → r.cause ≡ Done → IsWhole job s r a b
+  pub limit : (s : SceneParts) → scene_of bytes ≡ Ok s → r.cause ≡ Limit → IsWhole job s r a b
+  pub abort : (s : SceneParts) → scene_of bytes ≡ Ok s → r.cause ≡ Aborted → IsWhole job s r a b
+  pub complete : (s : SceneParts) → length bytes ≤ most_bytes → scene_of bytes ≡ Ok s → (Rose fx fy → ⊥) → (Rose x y → ⊥) → ((r.cause ≡ Memory) × (r.history ≡ None)) ⊎ IsWhole job s r a b
 
-pub record IsExact (words : Result (List ℕ) ℕ) (told : List ℕ → Option (List ℕ)) (r : Report) (fx fy : ℕ) (a b : Option (List ℕ)) (x y : ℕ) : Type 0 where
+pub record IsExact (words : Result Command ℕ) (told : List ℕ → Option (List ℕ)) (r : Report) (fx fy : ℕ) (a b : Option (List ℕ)) (x y : ℕ) : Type 0 where
   pub usage : (k : ℕ) → (r.cause ≡ Usage k) ↔ (words ≡ Err k)
   pub read : r.cause ≡ Read → Rose fx fy
   pub write : r.cause ≡ Write → Rose x y
-  pub file : (file bytes : List ℕ) → words ≡ Ok file → told file ≡ Some bytes → IsFileExact bytes r fx fy a b x y
+  pub check : (c : Command) → words ≡ Ok c → c.job ≡ Check → RunsNothing r
+  pub file : (c : Command) (bytes : List ℕ) → words ≡ Ok c → told c.file ≡ Some bytes → IsFileExact c.job bytes r fx fy a b x y
 
 -- the history of a scene's run has the six facts
 abbrev pub FactsOf : Option SceneParts → Option Kept → Type 0

@@ -1,4 +1,7 @@
 pub mod Words
+pub mod Options
+pub mod Commands
+pub mod Sentences
+pub mod Summary
 pub mod Answers
 pub mod Exact
-pub mod Usage

@@ -1,24 +1,25 @@
-//! The answer to the words: it follows the words, the file, the bytes and the scene.
+//! The answer to the words: it follows the command, the file, the bytes and the scene.
 
 ghost use Rattle.std.specs.Prelude.{◌≡◌, ◌≤◌, ℕ, List};
 ghost use Rattle.so_scene_json.specs.Scene.{scene_of};
-ghost use Rattle.sorun.specs.Words.{texts, file_of_words};
-ghost use Rattle.sorun.specs.Answers.{status_of, refusal_cause, IsRun, SceneAnswers, FileAnswers, WordsAnswers};
+ghost use Rattle.sorun.specs.Words.{texts};
+ghost use Rattle.sorun.specs.Options.{most_units};
+ghost use Rattle.sorun.specs.Commands.{IsWithin, command_of};
+ghost use Rattle.sorun.specs.Answers.{status_of, refusal_cause, IsChecked, IsRun, JobAnswers, SceneAnswers, FileAnswers, WordsAnswers};
 
+use crate::commands::{Job, command_of};
 use crate::report::{Report, refused, status_of};
-use crate::words::file_of_words;
+use crate::summary::put_summary;
 use so_env::{Cause, Outcome, simulate};
 use so_history::Mode;
-use so_io::{Files, ReadFail, Sink};
+use so_io::{Files, ReadFail, Sink, put_all};
+use so_lines::LineBuf;
 use so_scene::{Scene, SceneRefusal};
 use so_scene_json::read_scene;
 use std::alloc::Global;
 
 /// The greatest length of a scene file, in bytes.
 const MOST_BYTES: usize = 4_194_304;
-
-/// The units that a simulation may spend.
-const UNITS: u32 = 100_000;
 
 /// The answer to words.
 pub(crate) fn answer<F: Files, K: Sink>(
@@ -28,21 +29,28 @@ pub(crate) fn answer<F: Files, K: Sink>(
     out: &mut K,
 ) -> Report
     ensures status { result.status ≡ status_of result.cause }
-    ensures words { WordsAnswers (file_of_words (texts words.now)) (F.content files.old) result (F.faults files.old) (F.faults files.new)
+    ensures words { WordsAnswers (command_of (texts words.now)) (F.content files.old) result (F.faults files.old) (F.faults files.new)
         (K.content out.old) (K.content out.new) (K.faults out.old) (K.faults out.new) }
     ensures kept { (name : List ℕ) → F.content files.new name ≡ F.content files.old name }
     ensures later { F.faults files.old ≤ F.faults files.new }
 {
-    match file_of_words(words) {
+    match command_of(words) {
         Err(place) => refused(Cause::Usage(place)),
-        Ok(file) => answer_file(alloc, file, files, out),
+        Ok(command) => answer_file(alloc, command.file, command.job, files, out),
     }
 }
 
-/// The answer to a file.
-fn answer_file<F: Files, K: Sink>(alloc: Global, file: &str, files: &mut F, out: &mut K) -> Report
+/// The answer to what is asked of a file.
+fn answer_file<F: Files, K: Sink>(
+    alloc: Global,
+    file: &str,
+    job: Job,
+    files: &mut F,
+    out: &mut K,
+) -> Report
+    requires { IsWithin job }
     ensures status { result.status ≡ status_of result.cause }
-    ensures file { FileAnswers (F.content files.old file.now) result (F.faults files.old) (F.faults files.new)
+    ensures file { FileAnswers job (F.content files.old file.now) result (F.faults files.old) (F.faults files.new)
         (K.content out.old) (K.content out.new) (K.faults out.old) (K.faults out.new) }
     ensures kept { (name : List ℕ) → F.content files.new name ≡ F.content files.old name }
     ensures later { F.faults files.old ≤ F.faults files.new }
@@ -51,18 +59,19 @@ fn answer_file<F: Files, K: Sink>(alloc: Global, file: &str, files: &mut F, out:
         Err(ReadFail::Failed) => refused(Cause::Read),
         Err(ReadFail::TooLong) => refused(Cause::Long),
         Err(ReadFail::NoMemory) => refused(Cause::Memory),
-        Ok(bytes) => answer_bytes(alloc, &bytes, out),
+        Ok(bytes) => answer_bytes(alloc, job, &bytes, out),
     }
 }
 
 /// The answer to the bytes of a file.
-fn answer_bytes<K: Sink>(alloc: Global, bytes: &[u8], out: &mut K) -> Report
+fn answer_bytes<K: Sink>(alloc: Global, job: Job, bytes: &[u8], out: &mut K) -> Report
+    requires { IsWithin job }
     ensures status { result.status ≡ status_of result.cause }
-    ensures scene { SceneAnswers (scene_of bytes.now) result (K.content out.old) (K.content out.new) (K.faults out.old) (K.faults out.new) }
+    ensures scene { SceneAnswers job (scene_of bytes.now) result (K.content out.old) (K.content out.new) (K.faults out.old) (K.faults out.new) }
 {
     match read_scene(alloc, bytes) {
         Err(why) => refused(refusal_cause(why)),
-        Ok(scene) => answer_scene(alloc, scene, out),
+        Ok(scene) => answer_job(alloc, job, scene, out),
     }
 }
 
@@ -76,16 +85,49 @@ fn refusal_cause(why: SceneRefusal) -> Cause
     }
 }
 
-/// The answer to a scene.
-fn answer_scene<K: Sink>(alloc: Global, scene: Scene, out: &mut K) -> Report
+/// The answer to a scene, by what is asked of it.
+fn answer_job<K: Sink>(alloc: Global, job: Job, scene: Scene, out: &mut K) -> Report
+    requires { IsWithin job }
     ensures status { result.status ≡ status_of result.cause }
-    ensures run { IsRun scene result (K.content out.old) (K.content out.new) (K.faults out.old) (K.faults out.new) }
+    ensures job { JobAnswers job scene result (K.content out.old) (K.content out.new) (K.faults out.old) (K.faults out.new) }
+{
+    match job {
+        Job::Check => answer_check(scene, out),
+        Job::Sim { mode, units } => answer_sim(alloc, mode, units, scene, out),
+    }
+}
+
+/// The answer to `check`: a line on the scene, in one piece.
+fn answer_check<K: Sink>(scene: Scene, out: &mut K) -> Report
+    ensures status { result.status ≡ status_of result.cause }
+    ensures checked { IsChecked scene result (K.content out.old) (K.content out.new) (K.faults out.old) (K.faults out.new) }
+{
+    let mut line = LineBuf::new();
+    put_summary(&mut line, &scene);
+    let cause = match put_all(out, line.as_slice()) {
+        Ok(()) => Cause::Done,
+        Err(_) => Cause::Write,
+    };
+    Report {
+        status: status_of(&cause),
+        cause,
+        scene: Some(scene),
+        history: None,
+        pieces: 1,
+    }
+}
+
+/// The answer to `sim`: a simulation, and its text as it goes.
+fn answer_sim<K: Sink>(alloc: Global, mode: Mode, units: u32, scene: Scene, out: &mut K) -> Report
+    requires { units ≤ most_units }
+    ensures status { result.status ≡ status_of result.cause }
+    ensures run { IsRun mode units scene result (K.content out.old) (K.content out.new) (K.faults out.old) (K.faults out.new) }
 {
     let Outcome {
         history,
         cause,
         pieces,
-    } = simulate(alloc, &scene, UNITS, Mode::Plain, out);
+    } = simulate(alloc, &scene, units, mode, out);
     Report {
         status: status_of(&cause),
         cause,

@@ -2,10 +2,12 @@
 #![tactic(auto)]
 
 mod answer;
+mod commands;
 mod message;
+mod options;
 mod report;
+mod summary;
 mod top;
-mod words;
 
 pub use report::Report;
 pub use top::quiet;

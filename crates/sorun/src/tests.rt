@@ -7,6 +7,7 @@ use so_history::Mode;
 use so_io::{MemFiles, MemSink};
 use so_scene_json::read_scene;
 use std::alloc::Global;
+use std::process::Abort;
 use std::test::Fail;
 
 /// One agent that logs one text.
@@ -25,9 +26,29 @@ const NUMBERS: &str =
 const PING: &str =
     "{\"version\":1,\"messages\":[{\"name\":\"ping\"}],\"coops\":[{\"name\":\"main\",\"agents\":[{\"name\":\"a\",\"start\":[[\"send\",\"b\",\"ping\",7]]},{\"name\":\"b\",\"on\":[{\"msg\":\"ping\",\"do\":[[\"log\",\"got\",\"m0\"],[\"stop\"]]}]}]}]}";
 
+/// Two agents that send each other ten messages.
+const TEN: &str =
+    "{\"version\":1,\"messages\":[{\"name\":\"ping\"},{\"name\":\"pong\"}],\"coops\":[{\"name\":\"main\",\"agents\":[{\"name\":\"a\",\"start\":[[\"send\",\"b\",\"ping\",1]],\"on\":[{\"msg\":\"pong\",\"do\":[[\"if\",\"m0\",\"<\",10,3],[\"add\",\"t0\",\"m0\",1],[\"send\",\"b\",\"ping\",\"t0\"],[\"skip\",1],[\"stop\"]]}]},{\"name\":\"b\",\"on\":[{\"msg\":\"ping\",\"do\":[[\"log\",\"ping\",\"m0\"],[\"send\",\"a\",\"pong\",\"m0\"]]}]}]}]}";
+
+/// What the ten messages print.
+const TEN_LINES: &str =
+    "b: ping 1\nb: ping 2\nb: ping 3\nb: ping 4\nb: ping 5\nb: ping 6\nb: ping 7\nb: ping 8\nb: ping 9\nb: ping 10\n";
+
+/// The trace of one agent that logs one text.
+const HELLO_TRACE: &str =
+    "0 p0 register 0\n1 p1 begin 0 0.0 start\n2 p1 act 1 log 0 = ok\n3 p1 end 1\n4 p0 stop idle\n5 p0 leaving 0 shutdown\n6 p1 begin 0 5.0 finish\n7 p1 end 6\n8 p0 left 0\n";
+
+/// The same without its last entry.
+const HELLO_CUT: &str =
+    "0 p0 register 0\n1 p1 begin 0 0.0 start\n2 p1 act 1 log 0 = ok\n3 p1 end 1\n4 p0 stop idle\n5 p0 leaving 0 shutdown\n6 p1 begin 0 5.0 finish\n7 p1 end 6\n";
+
 /// An exception.
 const THROW: &str =
     "{\"version\":1,\"coops\":[{\"name\":\"main\",\"agents\":[{\"name\":\"a\",\"start\":[[\"throw\",3]]}]}]}";
+
+/// Numbers through a mbox, and a filter that takes the place of another.
+const NUMBERED: &str =
+    "{\"version\":1,\"messages\":[{\"name\":\"num\"},{\"name\":\"swap\",\"kind\":\"signal\"},{\"name\":\"more\",\"kind\":\"signal\"}],\"mboxes\":[\"board\"],\"coops\":[{\"name\":\"main\",\"agents\":[{\"name\":\"r\",\"filters\":[{\"id\":\"f0\",\"mbox\":\"board\",\"msg\":\"num\",\"field\":0,\"cmp\":\">=\",\"value\":0},{\"id\":\"f1\",\"mbox\":\"board\",\"msg\":\"num\",\"field\":0,\"cmp\":\">=\",\"value\":10,\"active\":false}],\"on\":[{\"msg\":\"num\",\"mbox\":\"board\",\"do\":[[\"log\",\"num\",\"m0\"]]},{\"msg\":\"swap\",\"do\":[[\"set_filter\",\"f1\"],[\"send\",\"s\",\"more\"]]}]},{\"name\":\"s\",\"start\":[[\"send\",\"board\",\"num\",-1],[\"send\",\"board\",\"num\",5],[\"send\",\"r\",\"swap\"],[\"send\",\"board\",\"num\",7]],\"on\":[{\"msg\":\"more\",\"do\":[[\"send\",\"board\",\"num\",9],[\"send\",\"board\",\"num\",12]]}]}]}]}";
 
 /// A message to an agent that isn't there.
 const STRANGER: &str =
@@ -52,7 +73,7 @@ struct Written {
     err: MemSink,
 }
 
-fn words(alloc: Global, texts: &[&str]) -> Result<Vec<String>, Fail> {
+pub(crate) fn words(alloc: Global, texts: &[&str]) -> Result<Vec<String>, Fail> {
     let mut words = Vec::new(alloc);
     for text in texts {
         words.push(String::from_str(alloc, text)?)?;
@@ -81,9 +102,16 @@ fn run(alloc: Global, texts: &[&str], bytes: &[u8], failing: &[u64]) -> Result<W
     Ok(Written { report, out, err })
 }
 
-fn cases() -> [Case<'static>; 16] {
+fn cases() -> [Case<'static>; 12] {
     [
         told(&["sim", "s.json"], PING, 0, "b: got 7\n", ""),
+        told(
+            &["sim", "s.json"],
+            NUMBERED,
+            0,
+            "r: num 5\nr: num 7\nr: num 12\n",
+            "",
+        ),
         told(
             &["sim", "s.json"],
             THROW,
@@ -142,29 +170,6 @@ fn cases() -> [Case<'static>; 16] {
             "",
             "sorun: scene: missing at /version\n",
         ),
-        told(&[], HELLO, 2, "", "sorun: usage error at word 0\n"),
-        told(
-            &["sum", "s.json"],
-            HELLO,
-            2,
-            "",
-            "sorun: usage error at word 0\n",
-        ),
-        told(&["sim"], HELLO, 2, "", "sorun: usage error at word 1\n"),
-        told(
-            &["sim", "--fast", "s.json"],
-            HELLO,
-            2,
-            "",
-            "sorun: usage error at word 1\n",
-        ),
-        told(
-            &["sim", "s.json", "s.json"],
-            HELLO,
-            2,
-            "",
-            "sorun: usage error at word 2\n",
-        ),
     ]
 }
 
@@ -185,14 +190,170 @@ fn told(
     }
 }
 
-#[test]
-fn a_scene_is_printed_or_a_line_says_why_not(rt: HostRuntime) -> Result<(), Fail> {
-    for (number, case) in cases().iter().enumerate() {
+/// What `check` says of a scene, and why it doesn't.
+fn checks() -> [Case<'static>; 7] {
+    [
+        checked(HELLO, "ok: 1 agents, 1 cooperations, 1 lanes\n"),
+        checked(TWO, "ok: 2 agents, 1 cooperations, 1 lanes\n"),
+        checked(THROW, "ok: 1 agents, 1 cooperations, 1 lanes\n"),
+        Case {
+            failing: &[0],
+            ..told(&["check", "s.json"], HELLO, 74, "", "sorun: write failed\n")
+        },
+        told(
+            &["check", "t.json"],
+            HELLO,
+            66,
+            "",
+            "sorun: cannot read file\n",
+        ),
+        told(
+            &["check", "s.json"],
+            "{\"version\":9}",
+            65,
+            "",
+            "sorun: scene: bad_version at /version\n",
+        ),
+        told(
+            &["check", "s.json"],
+            STRANGER,
+            65,
+            "",
+            "sorun: scene: unknown_name at /coops/0/agents/0/start/0\n",
+        ),
+    ]
+}
+
+fn checked(file: &'static str, out: &'static str) -> Case<'static> {
+    told(&["check", "s.json"], file, 0, out, "")
+}
+
+/// Simulations with options.
+fn runs() -> [Case<'static>; 9] {
+    [
+        told(&["sim", "--trace", "s.json"], HELLO, 0, HELLO_TRACE, ""),
+        told(
+            &["sim", "--limit=11", "s.json"],
+            HELLO,
+            0,
+            "hello: hello\n",
+            "",
+        ),
+        stopped(
+            &["sim", "--limit=10", "s.json"],
+            HELLO,
+            "hello: hello\n",
+            "sorun: limit reached after 8 entries\n",
+        ),
+        stopped(
+            &["sim", "--limit=0", "s.json"],
+            HELLO,
+            "",
+            "sorun: limit reached after 0 entries\n",
+        ),
+        stopped(
+            &["sim", "--trace", "--limit=10", "s.json"],
+            HELLO,
+            HELLO_CUT,
+            "sorun: limit reached after 8 entries\n",
+        ),
+        stopped(
+            &["sim", "--limit=10", "--trace", "s.json"],
+            HELLO,
+            HELLO_CUT,
+            "sorun: limit reached after 8 entries\n",
+        ),
+        told(&["sim", "s.json"], TEN, 0, TEN_LINES, ""),
+        told(&["sim", "--limit=107", "s.json"], TEN, 0, TEN_LINES, ""),
+        stopped(
+            &["sim", "--limit=106", "s.json"],
+            TEN,
+            TEN_LINES,
+            "sorun: limit reached after 82 entries\n",
+        ),
+    ]
+}
+
+fn stopped(
+    words: &'static [&'static str],
+    file: &'static str,
+    out: &'static str,
+    err: &'static str,
+) -> Case<'static> {
+    told(words, file, 3, out, err)
+}
+
+/// Words that are no sentence, and the line that says where.
+fn usages() -> [Case<'static>; 9] {
+    [
+        unsaid(&[], "sorun: usage error at word 0\n"),
+        unsaid(&["sum", "s.json"], "sorun: usage error at word 0\n"),
+        unsaid(&["sim"], "sorun: usage error at word 1\n"),
+        unsaid(&["check"], "sorun: usage error at word 1\n"),
+        unsaid(
+            &["sim", "--fast", "s.json"],
+            "sorun: usage error at word 1\n",
+        ),
+        unsaid(
+            &["check", "--trace", "s.json"],
+            "sorun: usage error at word 1\n",
+        ),
+        unsaid(
+            &["sim", "--trace", "--trace", "s.json"],
+            "sorun: usage error at word 2\n",
+        ),
+        unsaid(
+            &["check", "s.json", "s.json"],
+            "sorun: usage error at word 2\n",
+        ),
+        unsaid(
+            &["sim", "--trace", "--limit=1"],
+            "sorun: usage error at word 3\n",
+        ),
+    ]
+}
+
+fn unsaid(words: &'static [&'static str], err: &'static str) -> Case<'static> {
+    told(words, HELLO, 2, "", err)
+}
+
+/// Fails where a case gives another status, or writes something else.
+fn compare<R: Abort + AllocGlobal>(rt: &R, cases: &[Case<'static>]) -> Result<(), Fail> {
+    for (number, case) in cases.iter().enumerate() {
         let written = run(rt.alloc(), case.words, case.file.as_bytes(), case.failing)?;
         assert_eq!(rt; written.report.status, case.status, "case {number}");
         assert_eq!(rt; written.out.bytes(), case.out.as_bytes(), "case {number}");
         assert_eq!(rt; written.err.bytes(), case.err.as_bytes(), "case {number}");
     }
+    Ok(())
+}
+
+#[test]
+fn a_scene_is_printed_or_a_line_says_why_not(rt: HostRuntime) -> Result<(), Fail> {
+    compare(&rt, &cases())
+}
+
+#[test]
+fn a_scene_is_checked_without_a_run(rt: HostRuntime) -> Result<(), Fail> {
+    compare(&rt, &checks())
+}
+
+#[test]
+fn a_trace_and_a_limit_may_be_asked_for(rt: HostRuntime) -> Result<(), Fail> {
+    compare(&rt, &runs())
+}
+
+#[test]
+fn other_words_are_told_by_their_place(rt: HostRuntime) -> Result<(), Fail> {
+    compare(&rt, &usages())
+}
+
+#[test]
+fn a_check_has_a_scene_and_no_history(rt: HostRuntime) -> Result<(), Fail> {
+    let written = run(rt.alloc(), &["check", "s.json"], TWO.as_bytes(), &[])?;
+    assert!(rt; written.report.scene.is_some());
+    assert!(rt; written.report.history.is_none());
+    assert_eq!(rt; written.report.pieces, 1);
     Ok(())
 }
 

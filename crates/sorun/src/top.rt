@@ -1,8 +1,9 @@
 //! The top call.
 
-ghost use Rattle.std.specs.Prelude.{◌≡◌, ◌≤◌, ℕ, List};
-ghost use Rattle.sorun.specs.Words.{texts, file_of_words};
-ghost use Rattle.sorun.specs.Usage.{IsFaultAt};
+ghost use Rattle.std.specs.Prelude.{◌≡◌, ◌↔◌, ◌≤◌, ℕ, List};
+ghost use Rattle.sorun.specs.Words.{texts};
+ghost use Rattle.sorun.specs.Commands.{command_of};
+ghost use Rattle.sorun.specs.Sentences.{IsFaultAt, AreRead};
 ghost use Rattle.sorun.specs.Answers.{status_of, cause_line, entries_of, WordsAnswers, IsTold};
 ghost use Rattle.sorun.specs.Exact.{IsExact, RunHasFacts};
 
@@ -13,7 +14,8 @@ use so_env::Cause;
 use so_io::{Files, Sink};
 use std::alloc::Global;
 
-/// Does what the words say: `sim FILE` simulates the scene of a file. It always returns.
+/// Does what the words say: `check FILE` says how large the scene of a file is, and `sim`, its
+/// options and FILE simulate it. It always returns.
 pub fn quiet<F: Files, K: Sink, E: Sink>(
     alloc: Global,
     words: &[String],
@@ -23,9 +25,10 @@ pub fn quiet<F: Files, K: Sink, E: Sink>(
 ) -> Report
     ensures status { result.status ≡ status_of result.cause }
 
-    // The answer follows the words, the file, the bytes and the scene: where the scene is run, the
-    // history is the chain of its first legal steps, legal, and `out` got its text.
-    ensures answer { WordsAnswers (file_of_words (texts words.now)) (F.content files.old) result (F.faults files.old) (F.faults files.new)
+    // The answer follows the command, the file, the bytes and the scene: where the scene is run, the
+    // history is the chain of its first legal steps within the units, legal, and `out` got its text
+    // in the mode; where it is checked, `out` got its line.
+    ensures answer { WordsAnswers (command_of (texts words.now)) (F.content files.old) result (F.faults files.old) (F.faults files.new)
         (K.content out.old) (K.content out.new) (K.faults out.old) (K.faults out.new) }
 
     // No two turns of a queue overlap; each demand is taken at most once, in its queue's order, and
@@ -34,11 +37,13 @@ pub fn quiet<F: Files, K: Sink, E: Sink>(
     ensures facts { RunHasFacts result }
 
     // Each cause comes exactly where it should, and nothing else can come.
-    ensures exact { IsExact (file_of_words (texts words.now)) (F.content files.old) result (F.faults files.old) (F.faults files.new)
+    ensures exact { IsExact (command_of (texts words.now)) (F.content files.old) result (F.faults files.old) (F.faults files.new)
         (K.content out.old) (K.content out.new) (K.faults out.old) (K.faults out.new) }
 
-    // A fault of the words is at the first word with which they begin no sentence.
-    ensures usage { (k : ℕ) → result.cause ≡ Cause.Usage k → IsFaultAt k (texts words.now) }
+    // A fault of the words comes exactly where it is: at the first word with which they begin no
+    // sentence. And exactly the sentences have a command, the one that they say.
+    ensures usage { (k : ℕ) → (result.cause ≡ Cause.Usage k) ↔ IsFaultAt k (texts words.now) }
+    ensures sentences { AreRead (texts words.now) }
 
     // `err` got the line of the cause.
     ensures told { IsTold (cause_line result.cause (entries_of result.history)) (E.content err.old) (E.content err.new) (E.faults err.old) (E.faults err.new) }

@@ -1,4 +1,4 @@
-use Rattle.std.proofs.Common.{◌≡◌, ◌<◌, length, arith, refl, sym, ap, ◌∙◌, get_or}
+use Rattle.std.proofs.Common.{◌≡◌, ◌<◌, length, arith, sym, ap, ◌∙◌, get_or}
 use Rattle.std.proofs.lemmas.List.{length_push}
 use Rattle.so_ids.specs.declared.AgentId.{AgentId}
 use Rattle.so_deliver.proofs.PlanLaws.{event_for, goes-queued, goes-lost, goes-on}

@@ -1,5 +1,6 @@
-use Rattle.so_scene_json.proofs.Ends.{no_other_text}
+use Rattle.so_scene.specs.Words.{is_text}
+use Rattle.so_scene_json.proofs.Ends.{no_other}
 use Rattle.so_scene_json.proofs.finish.text_list.Goals as goal
 
 pub unreachable-requires : goal.unreachable-requires
-unreachable-requires c = no_other_text _ _ _ _ _ c.requires c.loop-name-test.true c.name-item.is c.as_str.ensures.value c.in-None.ensures.none
+unreachable-requires c = no_other is_text _ _ _ _ _ c.requires c.loop-name-test.true c.name-item.is c.as_str.ensures.value c.in-None.ensures.none

@@ -1,4 +1,4 @@
-use Rattle.std.proofs.Common.{◌≡◌, ◌+◌, drop}
+use Rattle.std.proofs.Common.{◌≡◌, drop}
 use Rattle.std.specs.Prelude.{slice_get}
 use Rattle.so_scene.specs.Delivery.{receivers_among}
 use Rattle.so_mbox.specs.Table.{receivers, active_rows}

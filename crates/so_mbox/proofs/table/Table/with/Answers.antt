@@ -1,4 +1,4 @@
-use Rattle.std.proofs.Common.{◌≡◌, length, arith, ap, ◌∙◌}
+use Rattle.std.proofs.Common.{◌≡◌, length, arith}
 use Rattle.so_mbox.proofs.TableLaws.{kept-nobody}
 use Rattle.so_mbox.proofs.table.Table.with.Goals as goal
 

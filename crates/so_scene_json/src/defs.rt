@@ -1,0 +1,223 @@
+//! The parts of a scene that one value stands for: a message, and an agent's variables, rows and filters.
+
+ghost use Rattle.std.specs.Prelude.{◌≡◌, ◌++◌, ◌∷◌, [], ℤ, map, length, option_map};
+ghost use Rattle.std.specs.List.{range_with_len};
+ghost use Rattle.serde_json.specs.View.{view, items_view};
+ghost use Rattle.so_scene_json.specs.Defs.{message_of, var_at, vars_in, vars_of, number_named, msg_in, mbox_in, row_mbox, kind_of, row_of, rows_of, field_in, cmp_in, value_in, filter_of, filters_of};
+ghost use Rattle.so_scene_json.specs.Reads.{Returns};
+ghost use Rattle.so_scene_json.specs.Values.{name_in, flag_of};
+ghost use Rattle.so_scene_json.specs.Writer.{read_or};
+
+use crate::declare::{Declared, is_signal};
+use crate::table::Space;
+use crate::values::{comparison, flag, id_in, integer, name_in, number, string_in};
+use crate::walk::{list, position};
+use crate::write::item;
+use serde_json::Value;
+use so_code::Cmp;
+use so_ids::{MboxId, MsgId, StateId, Vars};
+use so_scene::{FilterDef, Items, MessageDef, Name, SceneRefusal};
+use so_state::{Row, RowKind};
+use std::alloc::Global;
+
+/// The name of an object, of no bytes where it has none.
+pub(crate) fn name_of(value: &Value) -> Name
+    ensures { result ≡ name_in (view value.now) }
+{
+    match Name::of(name_in(value)) {
+        Some(name) => name,
+        None => Name::none(),
+    }
+}
+
+pub(crate) fn message_of(value: &Value) -> MessageDef
+    ensures { result ≡ message_of (view value.now) }
+{
+    MessageDef {
+        name: name_of(value),
+        signal: is_signal(value),
+    }
+}
+
+/// Variable `k`, which is 0 where the list has none.
+fn var_at(list: &[Value], k: usize) -> i64
+    ensures { result ≡ var_at k (items_view list.now) }
+{
+    match item(list, k) {
+        Some(value) => match integer(value) {
+            Ok(n) => n,
+            Err(_) => 0,
+        },
+        None => 0,
+    }
+}
+
+fn vars_in(list: &[Value]) -> [i64; 16]
+    ensures { result ≡ vars_in (items_view list.now) }
+{
+    let mut vars = [0i64; 16];
+    for k in 0..16 {
+        vars[k] = var_at(list, k);
+    }
+    vars
+}
+
+pub(crate) fn vars_of(value: &Value) -> Vars
+    ensures { result ≡ vars_of (view value.now) }
+{
+    Vars(vars_in(list(value.get("vars"))))
+}
+
+/// The number of the name in a field.
+fn number_named(names: &Declared, space: Space, key: &str, value: &Value) -> u32
+    ensures { result ≡ number_named names.now space key.now (view value.now) }
+{
+    match names.number(space, string_in(value, key)) {
+        Some(n) => position(n),
+        None => 0,
+    }
+}
+
+fn msg_in(names: &Declared, value: &Value) -> MsgId
+    ensures { result ≡ msg_in names.now (view value.now) }
+{
+    MsgId(number_named(names, Space::Messages, "msg", value))
+}
+
+fn mbox_in(names: &Declared, value: &Value) -> MboxId
+    ensures { result ≡ mbox_in names.now (view value.now) }
+{
+    MboxId(number_named(names, Space::Mboxes, "mbox", value))
+}
+
+/// The mbox of a row of the agent of this number.
+fn row_mbox(agent: usize, names: &Declared, value: &Value) -> MboxId
+    ensures { result ≡ row_mbox agent names.now (view value.now) }
+{
+    if value.get("mbox").is_some() {
+        mbox_in(names, value)
+    } else {
+        MboxId(position(agent))
+    }
+}
+
+/// The flag of a field, this one where it has none.
+fn flag_or(default: bool, found: Option<&Value>) -> bool
+    ensures { result ≡ read_or default flag_of (option_map (λ v. view v.now) found.entry) }
+{
+    match found {
+        Some(value) => match flag(value) {
+            Ok(flag) => flag,
+            Err(_) => default,
+        },
+        None => default,
+    }
+}
+
+fn kind_of(dead: bool) -> RowKind
+    ensures { result ≡ kind_of dead }
+{
+    if dead { RowKind::Dead } else { RowKind::Run }
+}
+
+/// A row of the agent of this number.
+fn row_of(agent: usize, names: &Declared, value: &Value) -> Row
+    ensures { result ≡ row_of agent names.now (view value.now) }
+{
+    Row {
+        mbox: row_mbox(agent, names, value),
+        msg: msg_in(names, value),
+        state: StateId(0),
+        kind: kind_of(flag_or(false, value.get("dead"))),
+        safe: false,
+        active: flag_or(true, value.get("active")),
+    }
+}
+
+/// The rows of the agent of this number.
+pub(crate) fn rows_in(
+    alloc: Global,
+    agent: usize,
+    names: &Declared,
+    list: &[Value],
+) -> Result<Items<Row>, SceneRefusal>
+    ensures { Returns (rows_of agent names.now (items_view list.now)) result }
+{
+    let mut rows = Items::new(alloc);
+    for value in list {
+        match rows.push(row_of(agent, names, value)) {
+            Ok(()) => {}
+            Err(_) => return Err(SceneRefusal::NoMemory),
+        }
+    }
+    Ok(rows)
+}
+
+/// The field of a message that a filter tests.
+fn tested(value: &Value) -> u8
+    ensures { result ≡ field_in (view value.now) }
+{
+    match value.get("field") {
+        Some(field) => match number(0, 3, field) {
+            Ok(n) => n as u8,
+            Err(_) => 0,
+        },
+        None => 0,
+    }
+}
+
+fn cmp_in(value: &Value) -> Cmp
+    ensures { result ≡ cmp_in (view value.now) }
+{
+    match value.get("cmp") {
+        Some(cmp) => match comparison(cmp) {
+            Ok(cmp) => cmp,
+            Err(_) => Cmp::Eq,
+        },
+        None => Cmp::Eq,
+    }
+}
+
+fn value_in(value: &Value) -> i64
+    ensures { result ≡ value_in (view value.now) }
+{
+    match value.get("value") {
+        Some(value) => match integer(value) {
+            Ok(n) => n,
+            Err(_) => 0,
+        },
+        None => 0,
+    }
+}
+
+fn filter_of(names: &Declared, value: &Value) -> FilterDef
+    ensures { result ≡ filter_of names.now (view value.now) }
+{
+    FilterDef {
+        id: id_in(value),
+        mbox: mbox_in(names, value),
+        msg: msg_in(names, value),
+        field: tested(value),
+        cmp: cmp_in(value),
+        value: value_in(value),
+        active: flag_or(true, value.get("active")),
+    }
+}
+
+/// The filters of an agent.
+pub(crate) fn filters_in(
+    alloc: Global,
+    names: &Declared,
+    list: &[Value],
+) -> Result<Items<FilterDef>, SceneRefusal>
+    ensures { Returns (filters_of names.now (items_view list.now)) result }
+{
+    let mut filters = Items::new(alloc);
+    for value in list {
+        match filters.push(filter_of(names, value)) {
+            Ok(()) => {}
+            Err(_) => return Err(SceneRefusal::NoMemory),
+        }
+    }
+    Ok(filters)
+}

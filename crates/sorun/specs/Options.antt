@@ -1,0 +1,52 @@
+-- The options of a command, and which ones words give: `--trace` and `--limit=N`.
+use Rattle.std.specs.Prelude.{ℕ, ◌+◌, List, [], ◌∷◌, length, drop, ◌++◌, nat_le, ◌&&◌, Option, Some, None, is_some, unwrap_or, if◌then◌else◌, codes, decimal}
+use Rattle.std.specs.Str.{bytes_eq}
+use Rattle.std.specs.Str.Parse.{digits_value}
+use Rattle.so_history.specs.declared.lines.Mode.TheVariants.{Plain, Trace}
+use Rattle.sorun.specs.declared.options.Options.{Options}
+
+-- the greatest limit, in units, and the one where none is given
+abbrev pub most_units : ℕ
+most_units = 1000000
+
+abbrev pub usual_units : ℕ
+usual_units = 100000
+
+-- the number n of `most` or less, where the word is these bytes and then the decimal digits of n
+abbrev pub number_after : List ℕ → ℕ → List ℕ → Option ℕ
+number_after front most word =
+    let n = digits_value 10 (drop (length front) word) in
+    if nat_le n most && bytes_eq word (front ++ decimal n) then Some n else None
+
+-- the limit that the word `--limit=N` gives
+unfoldable pub limit_of : List ℕ → Option ℕ
+limit_of word = number_after (codes "--limit=") most_units word
+
+abbrev pub no_options : Options
+no_options = record { mode = Plain; limit = None }
+
+-- these options and the trace, where it wasn't asked for before
+abbrev pub with_trace : Options → Option Options
+with_trace options = elim options.mode [ Plain ↦ Some (record options { mode = Trace }) | Trace ↦ None ]
+
+-- these options and a limit, where none was given before
+abbrev pub with_limit : Options → Option ℕ → Option Options
+with_limit options None = None
+with_limit options (Some n) = if is_some options.limit then None else Some (record options { limit = Some n })
+
+-- these options and a word's, none where the word is no option, or one that was given
+unfoldable pub with_option : Options → List ℕ → Option Options
+with_option options word = if bytes_eq word (codes "--trace") then with_trace options else with_limit options (limit_of word)
+
+-- the options that stand before the file, and the words from there on
+unfoldable pub options_of : Options → List (List ℕ) → Options × List (List ℕ)
+options_of options [] = (options, [])
+options_of options (w ∷ ws) = elim (with_option options w) [ None ↦ (options, w ∷ ws) | Some more ↦ options_of more ws ]
+
+-- how many options there are
+abbrev pub count_of : Options → ℕ
+count_of options = elim options.mode [ Plain ↦ 0 | Trace ↦ 1 ] + (if is_some options.limit then 1 else 0)
+
+-- the units that a run may spend
+abbrev pub units_of : Options → ℕ
+units_of options = unwrap_or options.limit usual_units
