@@ -30,7 +30,7 @@ abbrev pub field_test : ℕ → ℕ → Cmp → ℤ → Bool → FilterDef
 field_test mbox msg cmp value active = record { id = None; mbox = record { 0 = mbox }; msg = record { 0 = msg }; field = 0; cmp = cmp; value = value; active = active }
 
 abbrev pub agent : List ℕ → List Row → List FilterDef → AgentDef
-agent name rows filters = record { name = name; coop = record { 0 = 0 }; vars = record { 0 = replicate 16 (pos 0) }; rows = rows; row_ids = None ∷ None ∷ []; filters = filters; code = idle_code }
+agent name rows filters = record { name = name; coop = record { 0 = 0 }; vars = record { 0 = replicate 16 (pos 0) }; state_names = []; tree = []; rows = rows; row_ids = None ∷ None ∷ []; filters = filters; code = idle_code }
 
 abbrev pub the_coop : CoopDef
 the_coop = record { name = 109 ∷ []; first = record { 0 = 0 }; count = 3 }

@@ -7,7 +7,7 @@ ghost use Rattle.so_deliver.specs.Board.{idle_code, message, row, field_test, ag
 use so_code::{Body, Cmp, Code, Instr};
 use so_ids::{AgentId, CoopId, MboxId, MsgId, RowId, StateId, Vars};
 use so_scene::{AgentDef, CoopDef, FilterDef, Items, MessageDef, Name, Scene, SceneParts};
-use so_state::{Row, RowKind};
+use so_state::{Row, RowKind, Tree};
 use std::alloc::{AllocError, Global};
 
 /// The mboxes that have a name.
@@ -109,6 +109,8 @@ fn agent(
         name: name(text),
         coop: CoopId(0),
         vars: Vars([0; 16]),
+        state_names: Items::from_vec(Vec::new(alloc)),
+        tree: Tree::flat(alloc),
         rows: Items::from_vec(Vec::from_array(alloc, rows)?),
         row_ids: Items::from_vec(Vec::from_array(alloc, [None, None])?),
         filters: Items::from_vec(Vec::from_array(alloc, filters)?),

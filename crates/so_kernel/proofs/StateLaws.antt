@@ -9,6 +9,10 @@ use Rattle.so_ids.specs.declared.StateId.{StateId}
 use Rattle.so_code.specs.declared.effect.Effect.{Effect}
 use Rattle.so_code.specs.declared.effect.Effect.TheVariants as effect
 use Rattle.so_state.specs.declared.states.State.{State}
+use Rattle.so_state.specs.declared.choice.Row.{Row}
+use Rattle.so_state.specs.Choice.{chosen}
+use Rattle.so_ids.specs.declared.MboxId.{MboxId}
+use Rattle.so_ids.specs.declared.MsgId.{MsgId}
 use Rattle.so_scene.specs.declared.parts.SceneParts.{SceneParts}
 use Rattle.so_scene.specs.Parts.{no_agent, agent_of, states_of}
 use Rattle.so_scene.specs.Checked.{IsScene}
@@ -92,3 +96,12 @@ stands_registered s h e coop xs scene is one all =
 pub stands_fresh : (s : SceneParts) (xs : List Standing) → AllStand s none_entered xs → AllStand s (leaves s []) xs
 unfolding leaves
 stands_fresh s xs all = stands_as s none_entered (leaves s []) xs (λ a known. refl) all
+
+-- ---- a choice by equal parts
+
+pub chosen_same : {t u : List State} {r q : List Row} {f g : List Bool} {l m : StateId} (mbox : MboxId) (msg : MsgId) → t ≡ u → r ≡ q → f ≡ g → l ≡ m → chosen t r f l mbox msg ≡ chosen u q g m mbox msg
+chosen_same {t} {u} {r} {q} {f} {g} {l} {m} mbox msg tree rows active leaf =
+    ap (λ x. chosen x r f l mbox msg) tree
+    ∙ (ap (λ x. chosen u x f l mbox msg) rows
+    ∙ (ap (λ x. chosen u q x l mbox msg) active
+    ∙ ap (λ x. chosen u q g x mbox msg) leaf))

@@ -5,6 +5,7 @@ use Rattle.so_scene.specs.declared.parts.AgentDef.{AgentDef}
 use Rattle.so_history.specs.Delivery.{active_rows, chosen_for as its_choice}
 use Rattle.so_scene.specs.Parts.{rows_of, states_of}
 use Rattle.so_kernel.proofs.MboxLaws.{rows_known}
+use Rattle.so_kernel.proofs.StateLaws.{chosen_same}
 use Rattle.so_kernel.proofs.kernel.Kernel.chosen_for.Goals as goal
 
 pub returns : goal.returns
@@ -15,5 +16,6 @@ returns c =
     let tree : c.agent-def.result.now.tree ≡ states_of c.self.inside.scene.now c.args.agent = ap (λ (d : AgentDef). d.tree) c.agent-def.ensures.value in
     let rows : c.as_slice.result.now ≡ rows_of c.self.inside.scene.now c.args.agent = c.as_slice.ensures ∙ ap (λ (d : AgentDef). d.rows) c.agent-def.ensures.value in
     let active : c.active-active.result.now ≡ active_rows c.self.inside.scene.now c.self.inside.history.entries c.args.agent = rw (c.active-active.ensures.value, c.self.invariant.0.tables) (rows_known c.self.inside.scene.now c.self.inside.history.entries c.args.agent known) in
-    let it : c.choose.result ≡ its_choice c.self.inside.scene.now c.self.inside.history.entries c.args.agent c.args.mbox c.args.msg = c.choose.ensures ∙ rw (tree, rows, active, leaf) refl in
-    rw (← c.self.view_is) it
+    let it : c.choose.result ≡ its_choice c.self.inside.scene.now c.self.inside.history.entries c.args.agent c.args.mbox c.args.msg = c.choose.ensures ∙ chosen_same c.args.mbox c.args.msg tree rows active leaf in
+    let P : Core → Type 0 = λ k. c.choose.result ≡ its_choice k.scene k.history c.args.agent c.args.mbox c.args.msg in
+    subst P c.self.view_is it
