@@ -1,7 +1,9 @@
--- The acts, and what stands in each behind its word.
-use Rattle.std.specs.Prelude.{ℕ, List, [], ◌∷◌, codes, if◌then◌else◌, Option, Some, None, bytes_eq}
+-- The acts, what stands in each behind its word, and which may stand where.
+use Rattle.std.specs.Prelude.{ℕ, List, [], ◌∷◌, codes, if◌then◌else◌, Bool, true, false, Option, Some, None, bytes_eq}
 use Rattle.so_scene_json.specs.declared.act_table.Word.{Word}
 use Rattle.so_scene_json.specs.declared.act_table.Word.TheVariants as word
+use Rattle.so_scene_json.specs.declared.act_table.Allowed.{Allowed}
+use Rattle.so_scene_json.specs.declared.act_table.Allowed.TheVariants.{AnyAct, NoSwitch}
 use Rattle.so_scene_json.specs.declared.act_table.Arg.{Arg}
 use Rattle.so_scene_json.specs.declared.act_table.Arg.TheVariants.{Text, Name, Dest, Operand, Cmp, Count}
 
@@ -48,7 +50,7 @@ args_of word.Send = Some (Name ∷ Name ∷ four_operands)
 args_of word.Delayed = None
 args_of word.Timer = None
 args_of word.Cancel = None
-args_of word.Switch = None
+args_of word.Switch = Some (Name ∷ [])
 args_of word.Subscribe = Some (Name ∷ [])
 args_of word.Unsubscribe = Some (Name ∷ [])
 args_of word.SetFilter = Some (Name ∷ [])
@@ -70,8 +72,14 @@ needed_of word.Skip = 1
 needed_of word.Throw = 1
 needed_of word.Log = 1
 needed_of word.Send = 2
+needed_of word.Switch = 1
 needed_of word.Subscribe = 1
 needed_of word.Unsubscribe = 1
 needed_of word.SetFilter = 1
 needed_of word.DropFilter = 1
 needed_of other = 0
+
+-- a state's enter and exit make no switch
+abbrev pub is_allowed : Allowed → Word → Bool
+is_allowed NoSwitch word.Switch = false
+is_allowed allowed other = true

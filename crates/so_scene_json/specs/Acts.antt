@@ -3,12 +3,13 @@ use Rattle.std.specs.Prelude.{ℕ, List, [], ◌∷◌, length, Bool, ◌&&◌, 
 use Rattle.serde_json.specs.Data.{Data, Items, no_items, item}
 use Rattle.serde_json.specs.Events.{items_len}
 use Rattle.serde_json.specs.Find.{as_str, as_array}
+use Rattle.so_scene_json.specs.declared.act_table.Allowed.{Allowed}
 use Rattle.so_scene_json.specs.declared.act_table.Word.{Word}
 use Rattle.so_scene_json.specs.declared.act_table.Arg.{Arg}
 use Rattle.so_scene_json.specs.declared.act_table.Arg.TheVariants as arg
 use Rattle.so_scene_json.specs.declared.values.Trouble.{Trouble}
 use Rattle.so_scene_json.specs.declared.values.Trouble.TheVariants.{WrongShape, NotBuilt}
-use Rattle.so_scene_json.specs.ActTable.{word_named, args_of, needed_of}
+use Rattle.so_scene_json.specs.ActTable.{word_named, args_of, needed_of, is_allowed}
 use Rattle.so_scene_json.specs.Values.{◌or◌, trouble, operand_of, dest_of, cmp_of, name_of, text_of, count_of}
 
 -- what is wrong with an item of an act that so many others follow
@@ -42,15 +43,15 @@ act_parts d = parts_in (as_array d)
 abbrev pub fits : ℕ → List Arg → Items → Bool
 fits needed args ds = nat_le needed (items_len ds) && nat_le (items_len ds) (length args)
 
-abbrev pub built_trouble : ℕ → ℕ → Items → Option (List Arg) → Option Trouble
-built_trouble rest needed ds None = Some NotBuilt
-built_trouble rest needed ds (Some args) = if fits needed args ds then args_trouble args rest ds else Some WrongShape
+abbrev pub built_trouble : Bool → ℕ → ℕ → Items → Option (List Arg) → Option Trouble
+built_trouble may rest needed ds None = Some NotBuilt
+built_trouble may rest needed ds (Some args) = if may && fits needed args ds then args_trouble args rest ds else Some WrongShape
 
-abbrev pub parts_trouble : ℕ → Option (Word × Items) → Option Trouble
-parts_trouble rest None = Some WrongShape
-parts_trouble rest (Some p) = built_trouble rest (needed_of p.0) p.1 (args_of p.0)
+abbrev pub parts_trouble : Allowed → ℕ → Option (Word × Items) → Option Trouble
+parts_trouble allowed rest None = Some WrongShape
+parts_trouble allowed rest (Some p) = built_trouble (is_allowed allowed p.0) rest (needed_of p.0) p.1 (args_of p.0)
 
--- What is wrong with an act that so many others follow: it is no list that begins with a word, it isn't built, it has
--- too few or too many items, or the first item with a trouble.
-abbrev pub act_trouble : ℕ → Data → Option Trouble
-act_trouble rest d = parts_trouble rest (act_parts d)
+-- What is wrong with an act that so many others follow: it is no list that begins with a word, it isn't built, it may not
+-- stand there, it has too few or too many items, or the first item with a trouble.
+abbrev pub act_trouble : Allowed → ℕ → Data → Option Trouble
+act_trouble allowed rest d = parts_trouble allowed rest (act_parts d)

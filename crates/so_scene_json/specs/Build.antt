@@ -1,14 +1,22 @@
--- The fourth pass: the parts of the scene, and the length of each code.
-use Rattle.std.specs.Prelude.{ℕ, suc, List, [], ◌∷◌, ◌++◌, length, codes, nat_lt, if◌then◌else◌, Option, Result, Ok, Err}
+-- The fourth pass: the parts of the scene, the tree of each agent's states, and the length of each code.
+use Rattle.std.specs.Prelude.{ℕ, suc, ◌-◌, List, [], ◌∷◌, ◌++◌, length, codes, nat_lt, is_some, if◌then◌else◌, Option, Some, None, Result, Ok, Err}
 use Rattle.serde_json.specs.Data.{Data, Items, no_items, item}
 use Rattle.serde_json.specs.Find.{get}
 use Rattle.so_code.specs.declared.instr.Body.{Body}
 use Rattle.so_code.specs.declared.instr.Body.TheVariants as body
 use Rattle.so_code.specs.declared.instr.Instr.{Instr}
 use Rattle.so_code.specs.declared.instr.Instr.TheVariants as instr
+use Rattle.so_ids.specs.declared.StateId.{StateId}
+use Rattle.so_state.specs.declared.faults.TreeFault.{TreeFault}
+use Rattle.so_state.specs.declared.states.State.{State}
+use Rattle.so_state.specs.Fault.{tree_fault, named}
+use Rattle.so_scene.specs.declared.place.Field.TheVariants.{States}
+use Rattle.so_scene.specs.declared.place.PlaceStep.TheVariants.{Key}
 use Rattle.so_scene.specs.declared.fault.SceneFault.{SceneFault}
 use Rattle.so_scene.specs.declared.fault.SceneFault.TheVariants as fault
 use Rattle.so_scene.specs.declared.parts.AgentDef.{AgentDef}
+use Rattle.so_scene_json.specs.declared.act_table.Allowed.{Allowed}
+use Rattle.so_scene_json.specs.declared.act_table.Allowed.TheVariants.{AnyAct, NoSwitch}
 use Rattle.so_scene_json.specs.declared.table.ObjectKind.{ObjectKind}
 use Rattle.so_scene_json.specs.declared.table.ObjectKind.TheVariants as object
 use Rattle.so_scene_json.specs.declared.declare.Declared.{Declared}
@@ -16,29 +24,66 @@ use Rattle.so_scene_json.specs.declared.scope.Scope.{Scope}
 use Rattle.so_scene_json.specs.declared.write.Writer.{Writer}
 use Rattle.so_scene_json.specs.declared.build.Build.{Build}
 use Rattle.so_scene_json.specs.Values.{name_in}
-use Rattle.so_scene_json.specs.Scope.{row_items, filter_items, scope_of}
-use Rattle.so_scene_json.specs.Defs.{message_of, vars_of, rows_of, filters_of}
-use Rattle.so_scene_json.specs.Writer.{with_instr, acts_written}
-use Rattle.so_scene_json.specs.Visits.{Visit, enters, tries, leaves, Place, narrow, list_of}
+use Rattle.so_scene_json.specs.Scope.{state_items, row_items, filter_items, scope_of}
+use Rattle.so_scene_json.specs.Defs.{message_of, vars_of, states_of, rows_of, filters_of}
+use Rattle.so_scene_json.specs.Writer.{with_instr, acts_written, state_id}
+use Rattle.so_scene_json.specs.Visits.{Visit, enters, tries, leaves, Place, at_item, narrow, list_of, ◌>>=◌}
 
--- ---- the code of an agent: start, finish, then each row, each of these a body and its end
+-- ---- the code of an agent: start, finish, then enter and exit of each state, then each row with a handler, each of these
+-- a body and its end
+
+abbrev pub allowed_in : Body → Allowed
+allowed_in (body.Enter s) = NoSwitch
+allowed_in (body.Exit s) = NoSwitch
+allowed_in other = AnyAct
 
 abbrev pub body_written : Declared → Body → Writer → Option Data → Writer
-body_written names b w found = with_instr (instr.End b) (acts_written names w (list_of found))
+body_written names b w found = with_instr (instr.End b) (acts_written names (allowed_in b) w (list_of found))
+
+abbrev pub start_written : Declared → Writer → Data → Writer
+start_written names w d = body_written names body.Finish (body_written names body.Start w (get (codes "start") d)) (get (codes "finish") d)
+
+abbrev pub state_written : Declared → ℕ → Writer → Data → Writer
+state_written names k w d =
+    body_written names (body.Exit (state_id k))
+    (body_written names (body.Enter (state_id k)) w (get (codes "enter") d))
+    (get (codes "exit") d)
+
+-- the bodies of the states from number k on
+unfoldable pub states_written : Declared → ℕ → Writer → Items → Writer
+states_written names k w no_items = w
+states_written names k w (item d ds) = states_written names (suc k) (state_written names k w d) ds
 
 abbrev pub row_body : ℕ → Body
 row_body i = body.Row (record { 0 = narrow i })
 
+abbrev pub handler_written : Declared → Body → Writer → Option Data → Writer
+handler_written names b w None = w
+handler_written names b w (Some d) = body_written names b w (Some d)
+
 -- the bodies of the rows from number i on
 unfoldable pub rows_written : Declared → ℕ → Writer → Items → Writer
 rows_written names i w no_items = w
-rows_written names i w (item d ds) = rows_written names (suc i) (body_written names (row_body i) w (get (codes "do") d)) ds
+rows_written names i w (item d ds) = rows_written names (suc i) (handler_written names (row_body i) w (get (codes "do") d)) ds
 
 abbrev pub agent_written : Declared → Writer → Data → Writer
-agent_written names w d =
-    rows_written names 0
-    (body_written names body.Finish (body_written names body.Start w (get (codes "start") d)) (get (codes "finish") d))
-    (row_items d)
+agent_written names w d = rows_written names 0 (states_written names 1 (start_written names w d) (state_items d)) (row_items d)
+
+-- ---- the tree of an agent's states
+
+abbrev pub states_place : Place → Place
+states_place place = place ++ Key States ∷ []
+
+abbrev pub state_place : Place → StateId → Place
+state_place place s = at_item (states_place place) (s.0 - 1)
+
+abbrev pub unless_broken : Place → List State → Option TreeFault → Result (List State) SceneFault
+unless_broken place states None = Ok states
+unless_broken place states (Some f) = Err (fault.Tree (state_place place (named f)) f)
+
+-- the tree's first fault, at the state that it names; the first pass leaves no longer list
+abbrev pub tree_of : Place → List State → Result (List State) SceneFault
+tree_of place states = if nat_lt 63 (length states) then Err (fault.OutOfRange (states_place place)) else unless_broken place states (tree_fault states)
 
 -- ---- the pass
 
@@ -52,20 +97,22 @@ with_message d s = record s { messages = s.messages ++ message_of d ∷ [] }
 abbrev pub with_coop : Data → Build → Build
 with_coop d s = record s { coops = s.coops ++ name_in d ∷ [] }
 
--- the agent of a number, with its ids and its code
-abbrev pub agent_with : ℕ → Declared → Data → Scope → List Instr → AgentDef
-agent_with a names d scope code = record {
+-- the agent of a number, with its states, its names and ids, and its code
+abbrev pub agent_with : ℕ → Declared → Data → List State → Scope → List Instr → AgentDef
+agent_with a names d tree scope code = record {
   name = name_in d;
   coop = record { 0 = 0 };
   vars = vars_of d;
-  rows = rows_of a names (row_items d);
+  state_names = scope.states;
+  tree = tree;
+  rows = rows_of a names scope (row_items d);
   row_ids = scope.rows;
   filters = filters_of names (filter_items d);
   code = code;
 }
 
-abbrev pub agent_of : ℕ → Declared → Data → Writer → AgentDef
-agent_of a names d w = agent_with a names d w.scope w.code
+abbrev pub agent_of : ℕ → Declared → Data → List State → Writer → AgentDef
+agent_of a names d tree w = agent_with a names d tree w.scope w.code
 
 -- a writer for an agent, with the texts so far
 abbrev pub fresh : List (List ℕ) → Data → Writer
@@ -75,13 +122,17 @@ abbrev pub written : Build → Data → Writer
 written s d = agent_written s.names (fresh s.texts d) d
 
 -- an agent whose code has more than 1,024 instructions is out of range
-abbrev pub with_agent : Place → Build → Data → Writer → Result Build SceneFault
-with_agent place s d w = if nat_lt 1024 (length w.code) then Err (fault.OutOfRange place) else Ok (record s { agents = s.agents ++ agent_of (length s.agents) s.names d w ∷ []; texts = w.texts })
+abbrev pub with_code : Place → Build → Data → List State → Writer → Result Build SceneFault
+with_code place s d tree w = if nat_lt 1024 (length w.code) then Err (fault.OutOfRange place) else Ok (record s { agents = s.agents ++ agent_of (length s.agents) s.names d tree w ∷ []; texts = w.texts })
+
+-- an agent: first its tree, then its code
+abbrev pub with_agent : Place → Build → Data → Result Build SceneFault
+with_agent place s d = tree_of place (states_of (scope_of d) (state_items d)) >>= λ tree. with_code place s d tree (written s d)
 
 abbrev pub entered : ObjectKind → Place → Build → Data → Result Build SceneFault
 entered object.Message place s d = Ok (with_message d s)
 entered object.Coop place s d = Ok (with_coop d s)
-entered object.Agent place s d = with_agent place s d (written s d)
+entered object.Agent place s d = with_agent place s d
 entered other place s d = Ok s
 
 abbrev pub build_step : Build → Visit → Result Build SceneFault

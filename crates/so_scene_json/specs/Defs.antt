@@ -5,6 +5,7 @@ use Rattle.serde_json.specs.Data.{Data, Items}
 use Rattle.serde_json.specs.Find.{get, get_item}
 use Rattle.so_ids.specs.declared.MboxId.{MboxId}
 use Rattle.so_ids.specs.declared.MsgId.{MsgId}
+use Rattle.so_ids.specs.declared.StateId.{StateId}
 use Rattle.so_ids.specs.declared.Vars.{Vars}
 use Rattle.so_code.specs.declared.instr.Cmp.{Cmp}
 use Rattle.so_code.specs.declared.instr.Cmp.TheVariants as cmp
@@ -12,15 +13,18 @@ use Rattle.so_scene.specs.declared.parts.MessageDef.{MessageDef}
 use Rattle.so_scene.specs.declared.parts.FilterDef.{FilterDef}
 use Rattle.so_state.specs.declared.choice.Row.{Row}
 use Rattle.so_state.specs.declared.choice.RowKind.{RowKind}
-use Rattle.so_state.specs.declared.choice.RowKind.TheVariants.{Run, Dead}
-use Rattle.so_state.specs.States.{default_state}
+use Rattle.so_state.specs.declared.choice.RowKind.TheVariants.{Run, Switch, Transfer, Suppress, Dead}
+use Rattle.so_state.specs.declared.states.History.{History}
+use Rattle.so_state.specs.declared.states.History.TheVariants.{None as NoHistory}
+use Rattle.so_state.specs.declared.states.State.{State}
 use Rattle.so_scene.specs.Names.{number_in}
 use Rattle.so_scene_json.specs.declared.table.Space.{Space}
 use Rattle.so_scene_json.specs.declared.table.Space.TheVariants as space
 use Rattle.so_scene_json.specs.declared.declare.Declared.{Declared}
-use Rattle.so_scene_json.specs.Values.{integer_of, number_of, flag_of, cmp_of, string_in, name_in, id_in}
+use Rattle.so_scene_json.specs.declared.scope.Scope.{Scope}
+use Rattle.so_scene_json.specs.Values.{integer_of, number_of, flag_of, cmp_of, history_of, read_or, string_in, name_in, id_in}
 use Rattle.so_scene_json.specs.Twice.{is_signal, names_in}
-use Rattle.so_scene_json.specs.Writer.{read_or}
+use Rattle.so_scene_json.specs.Scope.{state_number}
 use Rattle.so_scene_json.specs.Visits.{narrow, list_of, listed}
 
 -- ---- a message, and what an agent begins with
@@ -52,29 +56,61 @@ msg_in names d = record { 0 = number_named names space.Messages (codes "msg") d 
 abbrev pub mbox_in : Declared → Data → MboxId
 mbox_in names d = record { 0 = number_named names space.Mboxes (codes "mbox") d }
 
+-- ---- states
+
+-- the state that a field names: `default` where it names none
+abbrev pub state_in : Scope → List ℕ → Data → StateId
+state_in scope key d = record { 0 = narrow_or_zero (state_number scope (string_in key d)) }
+
+abbrev pub parent_in : Scope → Data → Option StateId
+parent_in scope d = if is_some (get (codes "parent") d) then Some (state_in scope (codes "parent") d) else None
+
+abbrev pub history_in : Data → History
+history_in d = read_or NoHistory history_of (get (codes "history") d)
+
+abbrev pub state_of : Scope → Data → State
+state_of scope d = record {
+  parent = parent_in scope d;
+  initial = read_or false flag_of (get (codes "initial") d);
+  history = history_in d;
+  limit = None;
+}
+
+-- the states of an agent
+abbrev pub states_of : Scope → Items → List State
+states_of scope ds = map (state_of scope) (listed ds)
+
 -- ---- rows and filters
 
 -- the mbox of a row of the agent of a number: its own where none is named
 abbrev pub row_mbox : ℕ → Declared → Data → MboxId
 row_mbox a names d = if is_some (get (codes "mbox") d) then mbox_in names d else record { 0 = narrow a }
 
-abbrev pub kind_of : Bool → RowKind
-kind_of false = Run
-kind_of true = Dead
+-- a row with a handler, which is one for dead letters or not
+abbrev pub handler_kind : Bool → RowKind
+handler_kind false = Run
+handler_kind true = Dead
+
+-- what a row does
+abbrev pub kind_of : Scope → Data → RowKind
+kind_of scope d =
+    if is_some (get (codes "do") d) then handler_kind (read_or false flag_of (get (codes "dead") d)) else (
+    if is_some (get (codes "switch") d) then Switch (state_in scope (codes "switch") d) else (
+    if is_some (get (codes "transfer") d) then Transfer (state_in scope (codes "transfer") d) else Suppress))
 
 -- a row of the agent of a number
-abbrev pub row_of : ℕ → Declared → Data → Row
-row_of a names d = record {
+abbrev pub row_of : ℕ → Declared → Scope → Data → Row
+row_of a names scope d = record {
   mbox = row_mbox a names d;
   msg = msg_in names d;
-  state = default_state;
-  kind = kind_of (read_or false flag_of (get (codes "dead") d));
+  state = state_in scope (codes "state") d;
+  kind = kind_of scope d;
   safe = false;
   active = read_or true flag_of (get (codes "active") d);
 }
 
-abbrev pub rows_of : ℕ → Declared → Items → List Row
-rows_of a names ds = map (row_of a names) (listed ds)
+abbrev pub rows_of : ℕ → Declared → Scope → Items → List Row
+rows_of a names scope ds = map (row_of a names scope) (listed ds)
 
 -- the field of a message that a filter tests, how, and with what value
 abbrev pub field_in : Data → ℕ

@@ -10,6 +10,7 @@ use Rattle.so_scene_json.specs.declared.values.Trouble.{Trouble}
 use Rattle.so_scene_json.specs.declared.values.Trouble.TheVariants.{OutOfRange, UnknownName}
 use Rattle.so_scene_json.specs.declared.declare.Declared.{Declared}
 use Rattle.so_scene_json.specs.declared.known.Known.{Known}
+use Rattle.so_scene_json.specs.declared.scope.Scope.{Scope}
 use Rattle.so_scene_json.specs.declared.table.ObjectKind.{ObjectKind}
 use Rattle.so_scene_json.specs.declared.table.ObjectKind.TheVariants as object
 use Rattle.so_scene_json.specs.declared.table.Space.{Space}
@@ -19,13 +20,17 @@ use Rattle.so_scene_json.specs.declared.table.Form.TheVariants as form
 use Rattle.so_scene_json.specs.Values.{◌or◌}
 use Rattle.so_scene_json.specs.Acts.{act_parts}
 use Rattle.so_scene_json.specs.Twice.{names_in}
-use Rattle.so_scene_json.specs.Scope.{number_with, scope_of, no_scope}
+use Rattle.so_scene_json.specs.Scope.{number_with, scope_of, no_scope, all_states}
 use Rattle.so_scene_json.specs.Shape.{trouble_at, acts_from, unless_faulty}
 use Rattle.so_scene_json.specs.Visits.{Visit, enters, tries, leaves, Place, list_of}
 
+-- a name that is none of these
+abbrev pub absent_from : List (List ℕ) → Option (List ℕ) → Option Trouble
+absent_from names None = None
+absent_from names (Some name) = if has_name names name then None else Some UnknownName
+
 abbrev pub name_trouble : Declared → Space → Option (List ℕ) → Option Trouble
-name_trouble s space None = None
-name_trouble s space (Some name) = if has_name (names_in space s) name then None else Some UnknownName
+name_trouble s space name = absent_from (names_in space s) name
 
 abbrev pub signal_at : Declared → Option ℕ → Bool
 signal_at s None = false
@@ -58,8 +63,14 @@ abbrev pub first_id_trouble : List (Option (List ℕ)) → Items → Option Trou
 first_id_trouble ids no_items = None
 first_id_trouble ids (item d ds) = id_trouble ids (as_str d)
 
+-- the first item is the name of a state
+abbrev pub first_state_trouble : Scope → Items → Option Trouble
+first_state_trouble scope no_items = None
+first_state_trouble scope (item d ds) = absent_from (all_states scope) (as_str d)
+
 abbrev pub word_unknown : Known → Word → Items → Option Trouble
 word_unknown s word.Send ds = send_trouble s.names ds
+word_unknown s word.Switch ds = first_state_trouble s.scope ds
 word_unknown s word.Subscribe ds = first_id_trouble s.scope.rows ds
 word_unknown s word.Unsubscribe ds = first_id_trouble s.scope.rows ds
 word_unknown s word.SetFilter ds = first_id_trouble s.scope.filters ds
@@ -75,14 +86,16 @@ act_unknown s d = parts_unknown s (act_parts d)
 
 abbrev pub form_unknown : Known → Form → Place → Data → Option SceneFault
 form_unknown s (form.NameIn space) place d = trouble_at place (name_trouble s.names space (as_str d))
-form_unknown s form.Acts place d = acts_from (λ rest x. act_unknown s x) place 0 (list_of (Some d))
+form_unknown s form.DeclaredState place d = trouble_at place (absent_from s.scope.states (as_str d))
+form_unknown s form.AnyState place d = trouble_at place (absent_from (all_states s.scope) (as_str d))
+form_unknown s (form.Acts allowed) place d = acts_from (λ rest x. act_unknown s x) place 0 (list_of (Some d))
 form_unknown s other place d = None
 
 abbrev pub field_unknown : Known → Form → Place → Option Data → Option SceneFault
 field_unknown s form place None = None
 field_unknown s form place (Some d) = form_unknown s form place d
 
--- the acts of an agent name its own ids
+-- an agent names its own states and ids
 abbrev pub entered : ObjectKind → Data → Known → Known
 entered object.Agent d s = record s { scope = scope_of d }
 entered other d s = s

@@ -29,7 +29,7 @@ abbrev pub reading : List ℕ → Option Data
 reading bytes = if is_utf8 bytes then read bytes else None
 
 -- the visits of a scene: objects stand in it in four levels, the scene, its cooperations,
--- their agents, and the rows and filters of these
+-- their agents, and the states, filters and rows of these
 abbrev pub fields : Data → List Visit
 fields d = visits 4 object.Scene [] d
 

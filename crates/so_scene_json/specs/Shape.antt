@@ -1,5 +1,5 @@
 -- The first pass: the shape of each object and field.
-use Rattle.std.specs.Prelude.{ℕ, suc, ◌+◌, ℤ, pos, negsuc, List, [], ◌∷◌, codes, Bool, true, false, not, ◌==◌, ◌||◌, nat_le, nat_lt, if◌then◌else◌, Option, Some, None, option_map, is_some, Result, Ok, Err, bytes_eq}
+use Rattle.std.specs.Prelude.{ℕ, suc, ◌+◌, ℤ, pos, negsuc, List, [], ◌∷◌, codes, Bool, true, false, not, ◌==◌, ◌&&◌, ◌||◌, nat_le, nat_lt, if◌then◌else◌, Option, Some, None, option_map, is_some, Result, Ok, Err, bytes_eq}
 use Rattle.serde_json.specs.Data.{Num, Data, Items, no_items, item, Members, no_members, member}
 use Rattle.serde_json.specs.Events.{items_len}
 use Rattle.serde_json.specs.Find.{as_number, as_i64, as_str, as_array, as_object, get}
@@ -8,6 +8,7 @@ use Rattle.so_scene.specs.declared.place.Field.{Field}
 use Rattle.so_scene.specs.declared.place.Field.TheVariants as field
 use Rattle.so_scene.specs.declared.fault.SceneFault.{SceneFault}
 use Rattle.so_scene.specs.declared.fault.SceneFault.TheVariants as fault
+use Rattle.so_scene_json.specs.declared.act_table.Allowed.{Allowed}
 use Rattle.so_scene_json.specs.declared.table.ObjectKind.{ObjectKind}
 use Rattle.so_scene_json.specs.declared.table.ObjectKind.TheVariants as object
 use Rattle.so_scene_json.specs.declared.table.Form.{Form}
@@ -16,7 +17,7 @@ use Rattle.so_scene_json.specs.declared.table.Rule.{Rule}
 use Rattle.so_scene_json.specs.declared.values.Trouble.{Trouble}
 use Rattle.so_scene_json.specs.declared.values.Trouble.TheVariants.{WrongShape, OutOfRange, UnknownName, NotBuilt}
 use Rattle.so_scene_json.specs.Table.{rules_of}
-use Rattle.so_scene_json.specs.Values.{◌or◌, trouble, name_of, integer_of, number_of, flag_of, only_true, cmp_of}
+use Rattle.so_scene_json.specs.Values.{◌or◌, trouble, name_of, integer_of, number_of, flag_of, only_true, cmp_of, history_of, read_or}
 use Rattle.so_scene_json.specs.Acts.{act_trouble}
 use Rattle.so_scene_json.specs.Visits.{Visit, enters, tries, leaves, Place, at_item}
 
@@ -65,6 +66,11 @@ abbrev pub kind_trouble : Option (List ℕ) → Option Trouble
 kind_trouble None = Some WrongShape
 kind_trouble (Some text) = if is_message_kind text then None else Some WrongShape
 
+-- a state isn't named `default`
+abbrev pub state_name_trouble : Result (List ℕ) Trouble → Option Trouble
+state_name_trouble (Ok name) = if bytes_eq name (codes "default") then Some WrongShape else None
+state_name_trouble (Err t) = Some t
+
 -- the first trouble of an item
 unfoldable pub first_of : (Data → Option Trouble) → Items → Option Trouble
 first_of f no_items = None
@@ -93,14 +99,18 @@ unfoldable pub acts_from : (ℕ → Data → Option Trouble) → Place → ℕ �
 acts_from f place i no_items = None
 acts_from f place i (item d ds) = trouble_at (at_item place i) (f (items_len ds) d) or acts_from f place (suc i) ds
 
-abbrev pub acts_fault : Place → Option Items → Option SceneFault
-acts_fault place None = Some (fault.WrongShape place)
-acts_fault place (Some ds) = if nat_le (items_len ds) 256 then acts_from act_trouble place 0 ds else Some (fault.OutOfRange place)
+abbrev pub acts_fault : Allowed → Place → Option Items → Option SceneFault
+acts_fault allowed place None = Some (fault.WrongShape place)
+acts_fault allowed place (Some ds) = if nat_le (items_len ds) 256 then acts_from (act_trouble allowed) place 0 ds else Some (fault.OutOfRange place)
 
 abbrev pub form_fault : Form → Place → Data → Option SceneFault
 form_fault form.One place d = version_fault place (as_number d)
 form_fault form.Name place d = trouble_at place (trouble (name_of d))
 form_fault (form.NameIn s) place d = trouble_at place (trouble (name_of d))
+form_fault form.StateName place d = trouble_at place (state_name_trouble (name_of d))
+form_fault form.DeclaredState place d = trouble_at place (trouble (name_of d))
+form_fault form.AnyState place d = trouble_at place (trouble (name_of d))
+form_fault form.History place d = trouble_at place (trouble (history_of d))
 form_fault (form.Mboxes limit) place d = trouble_at place (list_trouble (Some limit) name_trouble (as_array d))
 form_fault form.MessageKind place d = trouble_at place (kind_trouble (as_str d))
 form_fault form.Flag place d = trouble_at place (trouble (flag_of d))
@@ -110,7 +120,7 @@ form_fault form.AnyNumber place d = trouble_at place (number_trouble d)
 form_fault (form.Number low high) place d = trouble_at place (trouble (number_of low high d))
 form_fault (form.Numbers limit) place d = trouble_at place (list_trouble (Some limit) number_trouble (as_array d))
 form_fault (form.Objects kind limit) place d = trouble_at place (list_trouble limit object_trouble (as_array d))
-form_fault form.Acts place d = acts_fault place (as_array d)
+form_fault (form.Acts allowed) place d = acts_fault allowed place (as_array d)
 form_fault form.Later place d = Some (fault.NotBuilt place)
 
 abbrev pub field_fault : Rule → Place → Option Data → Option SceneFault
@@ -122,9 +132,21 @@ field_fault rule place (Some d) = form_fault rule.form place d
 abbrev pub has : Field → Data → ℕ
 has f d = if is_some (get (spelling f) d) then 1 else 0
 
--- a row has exactly one of do, switch, transfer and suppress, and a dead-letter row has do
+-- the effects of a row
+abbrev pub effects : Data → ℕ
+effects d = has field.Do d + has field.Switch d + has field.Transfer d + has field.Suppress d
+
+-- a row has exactly one effect; a dead-letter row has do, and no state
+abbrev pub is_row_breach : Data → Bool
+is_row_breach d = not (effects d == 1) || (nat_lt (has field.Do d) (has field.Dead d) || nat_lt 1 (has field.Dead d + has field.State d))
+
+abbrev pub is_initial : Data → Bool
+is_initial d = read_or false flag_of (get (codes "initial") d)
+
+-- an initial state has a parent
 abbrev pub is_breach : ObjectKind → Data → Bool
-is_breach object.Row d = not ((has field.Do d + has field.Switch d + has field.Transfer d + has field.Suppress d) == 1) || nat_lt (has field.Do d) (has field.Dead d)
+is_breach object.Row d = is_row_breach d
+is_breach object.State d = is_initial d && (has field.Parent d == 0)
 is_breach other d = false
 
 -- ---- the pass

@@ -1,9 +1,10 @@
 -- The fields of each kind of object, in their order. A field that is `later` isn't built: it is known, and refused where
 -- it is given. Where an optional field is absent, a list is empty, a message's kind is `message`, a row's mbox is the agent's
--- own, and what may be active is.
+-- own and its state `default`, a state lies at the top, is not initial and has no history, and what may be active is.
 use Rattle.std.specs.Prelude.{Option, Some, None, List, [], ◌∷◌, true, false}
 use Rattle.so_scene.specs.declared.place.Field.{Field}
 use Rattle.so_scene.specs.declared.place.Field.TheVariants as field
+use Rattle.so_scene_json.specs.declared.act_table.Allowed.TheVariants.{AnyAct, NoSwitch}
 use Rattle.so_scene_json.specs.declared.table.ObjectKind.{ObjectKind}
 use Rattle.so_scene_json.specs.declared.table.ObjectKind.TheVariants as object
 use Rattle.so_scene_json.specs.declared.table.Space.{Space}
@@ -66,21 +67,21 @@ rules_of object.Agent =
     ∷ later field.Reaction
     ∷ later field.Native
     ∷ optional field.Vars (form.Numbers 16)
-    ∷ later field.States
+    ∷ optional field.States (form.Objects object.State (Some 63))
     ∷ later field.Limits
     ∷ optional field.Filters (form.Objects object.Filter (Some 32))
-    ∷ optional field.Start form.Acts
-    ∷ optional field.Finish form.Acts
+    ∷ optional field.Start (form.Acts AnyAct)
+    ∷ optional field.Finish (form.Acts AnyAct)
     ∷ optional field.On (form.Objects object.Row (Some 128))
     ∷ []
 rules_of object.State =
-    later field.Name
-    ∷ later field.Parent
-    ∷ later field.Initial
-    ∷ later field.History
+    required field.Name form.StateName
+    ∷ optional field.Parent form.DeclaredState
+    ∷ optional field.Initial form.Flag
+    ∷ optional field.History form.History
     ∷ later field.Limit
-    ∷ later field.Enter
-    ∷ later field.Exit
+    ∷ optional field.Enter (form.Acts NoSwitch)
+    ∷ optional field.Exit (form.Acts NoSwitch)
     ∷ []
 rules_of object.Limit =
     later field.Msg
@@ -100,11 +101,11 @@ rules_of object.Row =
     optional field.Id form.Name
     ∷ required field.Msg (form.NameIn space.Messages)
     ∷ optional field.Mbox (form.NameIn space.Mboxes)
-    ∷ later field.State
-    ∷ optional field.Do form.Acts
-    ∷ later field.Switch
-    ∷ later field.Transfer
-    ∷ later field.Suppress
+    ∷ optional field.State form.AnyState
+    ∷ optional field.Do (form.Acts AnyAct)
+    ∷ optional field.Switch form.AnyState
+    ∷ optional field.Transfer form.AnyState
+    ∷ optional field.Suppress form.OnlyTrue
     ∷ optional field.Dead form.OnlyTrue
     ∷ later field.Safe
     ∷ optional field.Active form.Flag
@@ -119,11 +120,13 @@ abbrev pub objects_of : Form → Option ObjectKind
 objects_of (form.Objects kind limit) = Some kind
 objects_of other = None
 
--- The space in which an object declares its name, or its id if it has one. Rows and filters have theirs in the agent's own.
+-- The space in which an object declares its name, or its id if it has one. States, rows and filters have theirs in the
+-- agent's own.
 abbrev pub space_of : ObjectKind → Option Space
 space_of object.Message = Some space.Messages
 space_of object.Coop = Some space.Coops
 space_of object.Agent = Some space.Mboxes
+space_of object.State = Some space.States
 space_of object.Row = Some space.Rows
 space_of object.Filter = Some space.Filters
 space_of other = None

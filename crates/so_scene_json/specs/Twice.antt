@@ -31,14 +31,15 @@ abbrev pub is_signal : Data → Bool
 is_signal d = is_signal_kind (get (codes "kind") d)
 
 abbrev pub no_names : Declared
-no_names = record { messages = []; coops = []; agents = []; mboxes = []; rows = []; filters = []; signals = [] }
+no_names = record { messages = []; coops = []; agents = []; mboxes = []; states = []; rows = []; filters = []; signals = [] }
 
--- The names of a space, by number. A direct mbox has its agent's name, and the named mboxes follow. Rows and filters are
--- those of the agent that is visited.
+-- The names of a space, by number. A direct mbox has its agent's name, and the named mboxes follow. States, rows and
+-- filters are those of the agent that is visited.
 abbrev pub names_in : Space → Declared → List (List ℕ)
 names_in space.Messages s = s.messages
 names_in space.Coops s = s.coops
 names_in space.Mboxes s = s.agents ++ s.mboxes
+names_in space.States s = s.states
 names_in space.Rows s = s.rows
 names_in space.Filters s = s.filters
 
@@ -47,6 +48,7 @@ abbrev pub with_name : Space → List ℕ → Declared → Declared
 with_name space.Messages name s = record s { messages = s.messages ++ name ∷ [] }
 with_name space.Coops name s = record s { coops = s.coops ++ name ∷ [] }
 with_name space.Mboxes name s = record s { agents = s.agents ++ name ∷ [] }
+with_name space.States name s = record s { states = s.states ++ name ∷ [] }
 with_name space.Rows name s = record s { rows = s.rows ++ name ∷ [] }
 with_name space.Filters name s = record s { filters = s.filters ++ name ∷ [] }
 
@@ -70,10 +72,10 @@ with_field other found s = s
 
 -- ---- objects
 
--- of each message, whether it is a signal; and each agent has row ids and filter ids of its own
+-- of each message, whether it is a signal; and each agent has state names, row ids and filter ids of its own
 abbrev pub entering : ObjectKind → Data → Declared → Declared
 entering object.Message d s = record s { signals = s.signals ++ is_signal d ∷ [] }
-entering object.Agent d s = record s { rows = []; filters = [] }
+entering object.Agent d s = record s { states = []; rows = []; filters = [] }
 entering other d s = s
 
 -- the name that an object declares in a space; an id may be absent

@@ -10,6 +10,8 @@ use Rattle.so_code.specs.declared.instr.Operand.TheVariants as operand
 use Rattle.so_code.specs.declared.instr.Dest.{Dest}
 use Rattle.so_code.specs.declared.instr.Dest.TheVariants as dest
 use Rattle.so_scene.specs.Words.{is_name, is_text}
+use Rattle.so_state.specs.declared.states.History.{History}
+use Rattle.so_state.specs.declared.states.History.TheVariants as history
 use Rattle.so_scene_json.specs.declared.values.Trouble.{Trouble}
 use Rattle.so_scene_json.specs.declared.values.Trouble.TheVariants.{WrongShape, OutOfRange}
 
@@ -33,6 +35,15 @@ infixl 10 ◌then◌
 abbrev pub ◌then◌ : {A B : Type 0} → Result A Trouble → (A → Result B Trouble) → Result B Trouble
 (Ok x) then f = f x
 (Err t) then f = Err t
+
+-- what a value stands for, and this where there is none or something is wrong with it
+abbrev pub ok_or : {A : Type 0} → A → Result A Trouble → A
+ok_or x (Ok y) = y
+ok_or x (Err t) = x
+
+abbrev pub read_or : {A : Type 0} → A → (Data → Result A Trouble) → Option Data → A
+read_or x f None = x
+read_or x f (Some d) = ok_or x (f d)
 
 -- ---- numbers
 
@@ -136,6 +147,17 @@ cmp_named text =
 
 abbrev pub cmp_of : Data → Result Cmp Trouble
 cmp_of = named cmp_named
+
+-- ---- the history of a state
+
+abbrev pub history_named : List ℕ → Option History
+history_named text =
+    if bytes_eq text (codes "none") then Some history.None else (
+    if bytes_eq text (codes "shallow") then Some history.Shallow else (
+    if bytes_eq text (codes "deep") then Some history.Deep else None))
+
+abbrev pub history_of : Data → Result History Trouble
+history_of = named history_named
 
 -- ---- strings of an object
 

@@ -1,11 +1,12 @@
 -- Acts as instructions, one for each, and texts by number in the order of their first appearance. A part that an earlier
 -- pass refuses stands as 0 here, and an act that one refuses as an instruction that does nothing.
-use Rattle.std.specs.Prelude.{ℕ, ◌+◌, ◌-◌, min, pos, List, [], ◌∷◌, ◌++◌, length, Option, Some, None, Result, Ok, Err, option_map, option_and_then}
+use Rattle.std.specs.Prelude.{ℕ, ◌+◌, ◌-◌, min, pos, List, [], ◌∷◌, ◌++◌, length, if◌then◌else◌, Option, Some, None, option_map, option_and_then}
 use Rattle.serde_json.specs.Data.{Data, Items, no_items, item}
 use Rattle.serde_json.specs.Events.{items_len}
 use Rattle.serde_json.specs.Find.{as_str, get_item}
 use Rattle.so_ids.specs.declared.FilterId.{FilterId}
 use Rattle.so_ids.specs.declared.RowId.{RowId}
+use Rattle.so_ids.specs.declared.StateId.{StateId}
 use Rattle.so_ids.specs.declared.Target.TheVariants.{Mbox}
 use Rattle.so_code.specs.declared.instr.Operand.{Operand}
 use Rattle.so_code.specs.declared.instr.Operand.TheVariants as operand
@@ -18,28 +19,21 @@ use Rattle.so_code.specs.declared.instr.Instr.{Instr}
 use Rattle.so_code.specs.declared.instr.Instr.TheVariants as instr
 use Rattle.so_scene.specs.Names.{number_in}
 use Rattle.so_scene.specs.Words.{is_text}
+use Rattle.so_scene_json.specs.declared.act_table.Allowed.{Allowed}
 use Rattle.so_scene_json.specs.declared.act_table.Word.{Word}
 use Rattle.so_scene_json.specs.declared.act_table.Word.TheVariants as word
-use Rattle.so_scene_json.specs.declared.values.Trouble.{Trouble}
 use Rattle.so_scene_json.specs.declared.declare.Declared.{Declared}
 use Rattle.so_scene_json.specs.declared.scope.Scope.{Scope}
 use Rattle.so_scene_json.specs.declared.table.Space.TheVariants as space
 use Rattle.so_scene_json.specs.declared.write.Writer.{Writer}
-use Rattle.so_scene_json.specs.Values.{operand_of, dest_of, cmp_of, count_of, checked, text_or_empty}
+use Rattle.so_scene_json.specs.Values.{operand_of, dest_of, cmp_of, count_of, checked, read_or, text_or_empty}
+use Rattle.so_scene_json.specs.ActTable.{is_allowed}
 use Rattle.so_scene_json.specs.Acts.{act_parts}
-use Rattle.so_scene_json.specs.Scope.{number_with}
+use Rattle.so_scene_json.specs.Scope.{number_with, state_number}
 use Rattle.so_scene_json.specs.Twice.{names_in}
 use Rattle.so_scene_json.specs.Visits.{narrow}
 
 -- ---- the parts of an act
-
-abbrev pub ok_or : {A : Type 0} → A → Result A Trouble → A
-ok_or x (Ok y) = y
-ok_or x (Err t) = x
-
-abbrev pub read_or : {A : Type 0} → A → (Data → Result A Trouble) → Option Data → A
-read_or x f None = x
-read_or x f (Some d) = ok_or x (f d)
 
 abbrev pub operand_at : ℕ → Items → Operand
 operand_at i ds = read_or (operand.Num (pos 0)) operand_of (get_item i ds)
@@ -77,12 +71,18 @@ send_instr None msg args = idle
 abbrev pub send_at : Declared → Items → Instr
 send_at names ds = send_instr (number_in (names_in space.Mboxes names) (string_at 0 ds)) (number_in names.messages (string_at 1 ds)) (args_from 2 ds)
 
--- the row, and the filter, that an act names
+-- the state, the row and the filter that an act names
+abbrev pub state_id : ℕ → StateId
+state_id k = record { 0 = narrow k }
+
 abbrev pub row_id : ℕ → RowId
 row_id k = record { 0 = narrow k }
 
 abbrev pub filter_number : ℕ → FilterId
 filter_number k = record { 0 = narrow k }
+
+abbrev pub state_at : Scope → Items → Option StateId
+state_at scope ds = option_map state_id (state_number scope (string_at 0 ds))
 
 abbrev pub row_at : Scope → Items → Option RowId
 row_at scope ds = option_map row_id (number_with scope.rows (string_at 0 ds))
@@ -109,6 +109,7 @@ step_instr rest other ds = idle
 abbrev pub word_instr : Declared → Scope → ℕ → ℕ → Word → Items → Instr
 word_instr names scope text rest word.Log ds = instr.Log (record { 0 = text }) (args_from 1 ds)
 word_instr names scope text rest word.Send ds = send_at names ds
+word_instr names scope text rest word.Switch ds = or_idle instr.Switch (state_at scope ds)
 word_instr names scope text rest word.Subscribe ds = or_idle instr.Subscribe (row_at scope ds)
 word_instr names scope text rest word.Unsubscribe ds = or_idle instr.Unsubscribe (row_at scope ds)
 word_instr names scope text rest word.SetFilter ds = or_idle instr.SetFilter (filter_at scope ds)
@@ -150,9 +151,14 @@ abbrev pub parts_written : Declared → ℕ → Writer → Option (Word × Items
 parts_written names rest w None = with_instr idle w
 parts_written names rest w (Some p) = word_written names rest w p.0 p.1
 
-abbrev pub act_written : Declared → ℕ → Writer → Data → Writer
-act_written names rest w d = parts_written names rest w (act_parts d)
+-- an act that may stand there
+abbrev pub if_allowed : Allowed → Option (Word × Items) → Option (Word × Items)
+if_allowed allowed None = None
+if_allowed allowed (Some p) = if is_allowed allowed p.0 then Some p else None
 
-unfoldable pub acts_written : Declared → Writer → Items → Writer
-acts_written names w no_items = w
-acts_written names w (item d ds) = acts_written names (act_written names (items_len ds) w d) ds
+abbrev pub act_written : Declared → Allowed → ℕ → Writer → Data → Writer
+act_written names allowed rest w d = parts_written names rest w (if_allowed allowed (act_parts d))
+
+unfoldable pub acts_written : Declared → Allowed → Writer → Items → Writer
+acts_written names allowed w no_items = w
+acts_written names allowed w (item d ds) = acts_written names allowed (act_written names allowed (items_len ds) w d) ds

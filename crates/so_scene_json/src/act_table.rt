@@ -1,7 +1,7 @@
-//! The words of acts, and what stands behind each.
+//! The words of acts, what stands behind each, and which may stand where.
 
 ghost use Rattle.std.specs.Prelude.{◌≡◌, option_map};
-ghost use Rattle.so_scene_json.specs.ActTable.{word_named, args_of, needed_of};
+ghost use Rattle.so_scene_json.specs.ActTable.{word_named, args_of, needed_of, is_allowed};
 
 /// The word of an act.
 #[derive(Clone, Copy, Debug, PartialEq, Eq)]
@@ -47,6 +47,15 @@ pub(crate) enum Arg {
     Count,
 }
 
+/// Which acts a list may hold.
+#[derive(Clone, Copy, Debug, PartialEq, Eq)]
+pub(crate) enum Allowed {
+    /// All that are built.
+    AnyAct,
+    /// All but a switch: those of a state's enter and exit.
+    NoSwitch,
+}
+
 static SET: [Arg; 2] = [Arg::Dest, Arg::Operand];
 
 static SUM: [Arg; 3] = [Arg::Dest, Arg::Operand, Arg::Operand];
@@ -74,7 +83,7 @@ static SEND: [Arg; 6] = [
     Arg::Operand,
 ];
 
-static ID: [Arg; 1] = [Arg::Name];
+static ONE_NAME: [Arg; 1] = [Arg::Name];
 
 static STOP: [Arg; 0] = [];
 
@@ -121,13 +130,13 @@ pub(crate) fn args(word: Word) -> Option<&'static [Arg]>
         Word::Throw => Some(&THROW),
         Word::Log => Some(&LOG),
         Word::Send => Some(&SEND),
-        Word::Subscribe | Word::Unsubscribe => Some(&ID),
-        Word::SetFilter | Word::DropFilter => Some(&ID),
+        Word::Switch => Some(&ONE_NAME),
+        Word::Subscribe | Word::Unsubscribe => Some(&ONE_NAME),
+        Word::SetFilter | Word::DropFilter => Some(&ONE_NAME),
         Word::Stop => Some(&STOP),
         Word::Delayed
         | Word::Timer
         | Word::Cancel
-        | Word::Switch
         | Word::Register
         | Word::Deregister
         | Word::Close
@@ -147,8 +156,19 @@ pub(crate) fn needed(word: Word) -> usize
         Word::Throw => 1,
         Word::Log => 1,
         Word::Send => 2,
+        Word::Switch => 1,
         Word::Subscribe | Word::Unsubscribe => 1,
         Word::SetFilter | Word::DropFilter => 1,
         _ => 0,
+    }
+}
+
+/// Tells whether an act of this word may stand in such a list.
+pub(crate) fn is_allowed(allowed: Allowed, word: Word) -> bool
+    ensures { result ≡ is_allowed allowed word }
+{
+    match allowed {
+        Allowed::AnyAct => true,
+        Allowed::NoSwitch => word != Word::Switch,
     }
 }

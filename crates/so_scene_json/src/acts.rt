@@ -2,10 +2,10 @@
 
 ghost use Rattle.std.specs.Prelude.{◌≡◌, ◌≤◌, Some, length, option_map};
 ghost use Rattle.serde_json.specs.View.{view, items_view};
-ghost use Rattle.so_scene_json.specs.ActTable.{args_of, needed_of};
+ghost use Rattle.so_scene_json.specs.ActTable.{args_of, needed_of, is_allowed};
 ghost use Rattle.so_scene_json.specs.Acts.{arg_trouble, args_trouble, act_parts, fits, built_trouble, act_trouble};
 
-use crate::act_table::{Arg, Word, args, needed, word_by_name};
+use crate::act_table::{Allowed, Arg, Word, args, is_allowed, needed, word_by_name};
 use crate::values::{Trouble, comparison, count, dest, name, operand, text};
 use serde_json::Value;
 
@@ -48,9 +48,18 @@ pub(crate) fn parts(value: &Value) -> Option<(Word, &[Value])>
     }
 }
 
-fn built_fault(forms: &[Arg], needed: usize, rest: usize, list: &[Value]) -> Option<Trouble>
-    ensures { result ≡ built_trouble rest needed (items_view list.now) (Some forms.now) }
+fn built_fault(
+    forms: &[Arg],
+    may: bool,
+    needed: usize,
+    rest: usize,
+    list: &[Value],
+) -> Option<Trouble>
+    ensures { result ≡ built_trouble may rest needed (items_view list.now) (Some forms.now) }
 {
+    if !may {
+        return Some(Trouble::WrongShape);
+    }
     if list.len() < needed {
         return Some(Trouble::WrongShape);
     }
@@ -60,21 +69,21 @@ fn built_fault(forms: &[Arg], needed: usize, rest: usize, list: &[Value]) -> Opt
     args_fault(forms, rest, list)
 }
 
-fn parts_fault(rest: usize, word: Word, list: &[Value]) -> Option<Trouble>
-    ensures { result ≡ built_trouble rest (needed_of word) (items_view list.now) (args_of word) }
+fn parts_fault(allowed: Allowed, rest: usize, word: Word, list: &[Value]) -> Option<Trouble>
+    ensures { result ≡ built_trouble (is_allowed allowed word) rest (needed_of word) (items_view list.now) (args_of word) }
 {
     match args(word) {
-        Some(forms) => built_fault(forms, needed(word), rest, list),
+        Some(forms) => built_fault(forms, is_allowed(allowed, word), needed(word), rest, list),
         None => Some(Trouble::NotBuilt),
     }
 }
 
-/// What is wrong with the shape of an act that so many others follow.
-pub(crate) fn act_fault(rest: usize, value: &Value) -> Option<Trouble>
-    ensures { result ≡ act_trouble rest (view value.now) }
+/// What is wrong with the shape of an act that so many others follow, where these are allowed.
+pub(crate) fn act_fault(allowed: Allowed, rest: usize, value: &Value) -> Option<Trouble>
+    ensures { result ≡ act_trouble allowed rest (view value.now) }
 {
     match parts(value) {
-        Some((word, list)) => parts_fault(rest, word, list),
+        Some((word, list)) => parts_fault(allowed, rest, word, list),
         None => Some(Trouble::WrongShape),
     }
 }

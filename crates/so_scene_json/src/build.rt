@@ -1,24 +1,40 @@
-//! The fourth pass: the parts of the scene, and the length of each code.
+//! The fourth pass: the parts of the scene, the tree of each agent's states, and the length of each code.
 
-ghost use Rattle.std.specs.Prelude.{◌≡◌, ◌≤◌, ◌++◌, ◌∷◌, [], Ok, IfOk, length, option_map};
+ghost use Rattle.std.specs.Prelude.{◌≡◌, ◌<◌, ◌≤◌, ◌-◌, ◌++◌, ◌∷◌, [], List, Ok, IfOk, length, option_map};
 ghost use Rattle.serde_json.specs.View.{view, items_view};
 ghost use Rattle.so_code.specs.Shape.{IsCode};
-ghost use Rattle.so_scene_json.specs.Build.{body_written, row_body, rows_written, agent_written, no_parts, with_message, with_coop, fresh, written, agent_with, with_agent, build_step};
-ghost use Rattle.so_scene_json.specs.Reads.{Returns};
+ghost use Rattle.so_scene_json.specs.Build.{allowed_in, body_written, start_written, state_written, states_written, row_body, handler_written, rows_written, agent_written, states_place, state_place, tree_of, no_parts, with_message, with_coop, agent_with, with_code, with_agent, build_step};
+ghost use Rattle.so_scene_json.specs.Reads.{Reads, Returns};
 ghost use Rattle.so_scene_json.specs.Visits.{list_of, Leaves};
+ghost use Rattle.so_state.specs.Fault.{named};
 
+use crate::act_table::Allowed;
 use crate::declare::Declared;
-use crate::defs::{filters_in, message_of, name_of, rows_in, vars_of};
+use crate::defs::{filters_in, message_of, name_of, rows_in, states_in, vars_of};
 use crate::scope::Scope;
 use crate::table::{ObjectKind, Rule};
 use crate::walk::{Pass, list, position};
 use crate::write::Writer;
 use serde_json::Value;
 use so_code::{Body, Code, Instr};
-use so_ids::{CoopId, RowId};
-use so_scene::{AgentDef, Items, MessageDef, Name, Names, SceneFault, ScenePlace, SceneRefusal};
+use so_ids::{CoopId, RowId, StateId};
+use so_scene::{
+    AgentDef, Field, Items, MessageDef, Name, Names, PlaceStep, SceneFault, ScenePlace,
+    SceneRefusal,
+};
+use so_state::{State, Tree, TreeFault};
 use std::alloc::Global;
 use std::mem;
+
+/// Which acts a body may hold.
+fn allowed_in(body: Body) -> Allowed
+    ensures { result ≡ allowed_in body }
+{
+    match body {
+        Body::Enter(_) | Body::Exit(_) => Allowed::NoSwitch,
+        Body::Start | Body::Finish | Body::Row(_) | Body::Thread => Allowed::AnyAct,
+    }
+}
 
 impl Writer {
     /// A body and its end.
@@ -30,8 +46,50 @@ impl Writer {
     ) -> Result<(), SceneRefusal>
         ensures { Leaves (Ok (body_written names.now body self.old (option_map (λ v. view v.now) found.entry))) result self.new }
     {
-        self.acts(names, list(found))?;
+        self.acts(names, allowed_in(body), list(found))?;
         self.push(Instr::End { body })
+    }
+
+    /// The start and the finish of an agent.
+    fn start(&mut self, names: &Declared, value: &Value) -> Result<(), SceneRefusal>
+        ensures { Leaves (Ok (start_written names.now self.old (view value.now))) result self.new }
+    {
+        self.body(names, Body::Start, value.get("start"))?;
+        self.body(names, Body::Finish, value.get("finish"))
+    }
+
+    /// The enter and the exit of the state of this number.
+    fn state(&mut self, names: &Declared, k: usize, value: &Value) -> Result<(), SceneRefusal>
+        ensures { Leaves (Ok (state_written names.now k self.old (view value.now))) result self.new }
+    {
+        let state = StateId(position(k));
+        self.body(names, Body::Enter(state), value.get("enter"))?;
+        self.body(names, Body::Exit(state), value.get("exit"))
+    }
+
+    /// The bodies of states.
+    fn states(&mut self, names: &Declared, list: &[Value]) -> Result<(), SceneRefusal>
+        ensures { Leaves (Ok (states_written names.now 1 self.old (items_view list.now))) result self.new }
+    {
+        for (i, value) in list.iter().enumerate() {
+            self.state(names, i + 1, value)?;
+        }
+        Ok(())
+    }
+
+    /// The body of a row, if it has a handler.
+    fn handler(
+        &mut self,
+        names: &Declared,
+        body: Body,
+        found: Option<&Value>,
+    ) -> Result<(), SceneRefusal>
+        ensures { Leaves (Ok (handler_written names.now body self.old (option_map (λ v. view v.now) found.entry))) result self.new }
+    {
+        match found {
+            Some(value) => self.body(names, body, Some(value)),
+            None => Ok(()),
+        }
     }
 
     /// The bodies of rows.
@@ -39,7 +97,7 @@ impl Writer {
         ensures { Leaves (Ok (rows_written names.now 0 self.old (items_view list.now))) result self.new }
     {
         for (i, value) in list.iter().enumerate() {
-            self.body(names, Body::Row(RowId(position(i))), value.get("do"))?;
+            self.handler(names, Body::Row(RowId(position(i))), value.get("do"))?;
         }
         Ok(())
     }
@@ -47,19 +105,67 @@ impl Writer {
     fn agent(&mut self, names: &Declared, value: &Value) -> Result<(), SceneRefusal>
         ensures { Leaves (Ok (agent_written names.now self.old (view value.now))) result self.new }
     {
-        self.body(names, Body::Start, value.get("start"))?;
-        self.body(names, Body::Finish, value.get("finish"))?;
+        self.start(names, value)?;
+        self.states(names, list(value.get("states")))?;
         self.rows(names, list(value.get("on")))
     }
 }
 
-/// The code of an agent, with the texts so far and its own.
-fn written(names: &Declared, texts: Names, value: &Value) -> Result<Writer, SceneRefusal>
-    ensures value { Returns (agent_written names.now (fresh texts (view value.now)) (view value.now)) result }
+/// The place of the state that a fault of a tree names, in the agent at this place.
+fn state_place(place: &ScenePlace, fault: TreeFault) -> ScenePlace
+    requires { length place.now < 15 }
+    ensures { result ≡ state_place place.now (named fault) }
+{
+    let k = named(fault).0.saturating_sub(1);
+    states_place(place).step(PlaceStep::At(position(k as usize)))
+}
+
+/// The state that a fault of a tree names.
+fn named(fault: TreeFault) -> StateId
+    ensures { result ≡ named fault }
+{
+    match fault {
+        TreeFault::UnknownState(s) => s,
+        TreeFault::CycleOfParents(s) => s,
+        TreeFault::TooDeep(s) => s,
+        TreeFault::NoInitial(s) => s,
+        TreeFault::TwoInitials(s) => s,
+    }
+}
+
+/// The place of the states of the agent at this place.
+fn states_place(place: &ScenePlace) -> ScenePlace
+    requires { length place.now < 16 }
+    ensures { result ≡ states_place place.now }
+{
+    place.step(PlaceStep::Key(Field::States))
+}
+
+/// The tree of the states of the agent at this place.
+fn tree_of(place: &ScenePlace, states: Items<State>) -> Result<Tree, SceneRefusal>
+    requires { length place.now < 15 }
+    ensures { Reads result (tree_of place.now states) }
+{
+    if states.len() > 63 {
+        return Err(SceneRefusal::Fault(SceneFault::OutOfRange(states_place(place))));
+    }
+    match Tree::check(states.into_vec()) {
+        Ok(tree) => Ok(tree),
+        Err(fault) => Err(SceneRefusal::Fault(SceneFault::Tree(state_place(place, fault), fault))),
+    }
+}
+
+/// The code of an agent of these names and ids, with the texts so far and its own.
+fn written(
+    names: &Declared,
+    texts: Names,
+    scope: Scope,
+    value: &Value,
+) -> Result<Writer, SceneRefusal>
+    ensures value { Returns (agent_written names.now (record { texts = texts; code = []; scope = scope }) (view value.now)) result }
     ensures code { IfOk result (λ w. length w.code ≤ 1024 → IsCode w.code) }
 {
     let alloc = texts.alloc();
-    let scope = Scope::of(alloc, value)?;
     let mut writer = Writer {
         texts,
         code: Items::new(alloc),
@@ -69,23 +175,27 @@ fn written(names: &Declared, texts: Names, value: &Value) -> Result<Writer, Scen
     Ok(writer)
 }
 
-/// The agent of a number, with its ids and its code.
+/// The agent of a number, with its states, its names and ids, and its code.
 fn agent_with(
     alloc: Global,
     number: usize,
     names: &Declared,
     value: &Value,
+    tree: Tree,
     scope: Scope,
     code: Items<Instr>,
 ) -> Result<AgentDef, SceneRefusal>
     requires { IsCode code }
-    ensures { Returns (agent_with number names.now (view value.now) scope code) result }
+    ensures { Returns (agent_with number names.now (view value.now) tree scope code) result }
 {
+    let rows = rows_in(alloc, number, names, &scope, list(value.get("on")))?;
     Ok(AgentDef {
         name: name_of(value),
         coop: CoopId(0),
         vars: vars_of(value),
-        rows: rows_in(alloc, number, names, list(value.get("on")))?,
+        state_names: scope.states,
+        tree,
+        rows,
         row_ids: scope.rows,
         filters: filters_in(alloc, names, list(value.get("filters")))?,
         code: Code::new(code.into_vec()),
@@ -144,18 +254,36 @@ impl Build {
         mem::replace(&mut self.texts, Names::new(alloc))
     }
 
-    /// An agent, whose code takes the texts along while it is written.
+    /// An agent.
     fn agent(&mut self, place: &ScenePlace, value: &Value) -> Result<(), SceneRefusal>
-        ensures { Leaves (with_agent place.now self.old (view value.now) (written self.old (view value.now))) result self.new }
+        requires { length place.now < 15 }
+        ensures { Leaves (with_agent place.now self.old (view value.now)) result self.new }
+    {
+        let alloc = self.texts.alloc();
+        let scope = Scope::of(alloc, value)?;
+        let states = states_in(alloc, &scope, list(value.get("states")))?;
+        let tree = tree_of(place, states)?;
+        self.with_code(place, value, tree, scope)
+    }
+
+    /// An agent of this tree, whose code takes the texts along while it is written.
+    fn with_code(
+        &mut self,
+        place: &ScenePlace,
+        value: &Value,
+        tree: Tree,
+        scope: Scope,
+    ) -> Result<(), SceneRefusal>
+        ensures { Leaves (with_code place.now self.old (view value.now) tree (agent_written self.old.names (record { texts = self.old.texts; code = []; scope = scope }) (view value.now))) result self.new }
     {
         let alloc = self.texts.alloc();
         let number = self.agents.len();
         let texts = self.take_texts();
-        let Writer { texts, code, scope } = written(&self.names, texts, value)?;
+        let Writer { texts, code, scope } = written(&self.names, texts, scope, value)?;
         if code.len() > 1024 {
             return Err(SceneRefusal::Fault(SceneFault::OutOfRange(place.copy())));
         }
-        let agent = agent_with(alloc, number, &self.names, value, scope, code)?;
+        let agent = agent_with(alloc, number, &self.names, value, tree, scope, code)?;
         self.add(agent, texts)
     }
 

@@ -58,7 +58,9 @@ pub(crate) struct Declared {
     pub(crate) agents: Names,
     /// The named mboxes. Their numbers follow those of the agents.
     pub(crate) mboxes: Names,
-    /// The ids of rows of the agent that is visited.
+    /// The states of the agent that is visited.
+    pub(crate) states: Names,
+    /// The ids of its rows.
     pub(crate) rows: Names,
     /// The ids of its filters.
     pub(crate) filters: Names,
@@ -84,6 +86,7 @@ impl Declared {
             coops: Names::new(alloc),
             agents: Names::new(alloc),
             mboxes: Names::new(alloc),
+            states: Names::new(alloc),
             rows: Names::new(alloc),
             filters: Names::new(alloc),
             signals: Items::new(alloc),
@@ -111,6 +114,7 @@ impl Declared {
             Space::Messages => self.messages.number(name),
             Space::Coops => self.coops.number(name),
             Space::Mboxes => self.mbox(name),
+            Space::States => self.states.number(name),
             Space::Rows => self.rows.number(name),
             Space::Filters => self.filters.number(name),
         }
@@ -129,6 +133,7 @@ impl Declared {
             Space::Messages => self.messages.add(name),
             Space::Coops => self.coops.add(name),
             Space::Mboxes => self.agents.add(name),
+            Space::States => self.states.add(name),
             Space::Rows => self.rows.add(name),
             Space::Filters => self.filters.add(name),
         };
@@ -180,6 +185,7 @@ impl Declared {
             },
             ObjectKind::Agent => {
                 let alloc = self.rows.alloc();
+                self.states = Names::new(alloc);
                 self.rows = Names::new(alloc);
                 self.filters = Names::new(alloc);
                 Ok(())

@@ -1,23 +1,23 @@
-//! The parts of a scene that one value stands for: a message, and an agent's variables, rows and filters.
+//! The parts of a scene that one value stands for: a message, and an agent's variables, states, rows and filters.
 
-ghost use Rattle.std.specs.Prelude.{◌≡◌, ◌++◌, ◌∷◌, [], ℤ, map, length, option_map};
+ghost use Rattle.std.specs.Prelude.{◌≡◌, ◌++◌, ◌∷◌, [], ℤ, map, length};
 ghost use Rattle.std.specs.List.{range_with_len};
 ghost use Rattle.serde_json.specs.View.{view, items_view};
-ghost use Rattle.so_scene_json.specs.Defs.{message_of, var_at, vars_in, vars_of, number_named, msg_in, mbox_in, row_mbox, kind_of, row_of, rows_of, field_in, cmp_in, value_in, filter_of, filters_of};
+ghost use Rattle.so_scene_json.specs.Defs.{message_of, var_at, vars_in, vars_of, number_named, msg_in, mbox_in, state_in, parent_in, history_in, state_of, states_of, row_mbox, handler_kind, kind_of, row_of, rows_of, field_in, cmp_in, value_in, filter_of, filters_of};
 ghost use Rattle.so_scene_json.specs.Reads.{Returns};
-ghost use Rattle.so_scene_json.specs.Values.{name_in, flag_of};
-ghost use Rattle.so_scene_json.specs.Writer.{read_or};
+ghost use Rattle.so_scene_json.specs.Values.{name_in};
 
 use crate::declare::{Declared, is_signal};
+use crate::scope::Scope;
 use crate::table::Space;
-use crate::values::{comparison, flag, id_in, integer, name_in, number, string_in};
+use crate::values::{comparison, flag_or, history, id_in, integer, name_in, number, string_in};
 use crate::walk::{list, position};
 use crate::write::item;
 use serde_json::Value;
 use so_code::Cmp;
 use so_ids::{MboxId, MsgId, StateId, Vars};
 use so_scene::{FilterDef, Items, MessageDef, Name, SceneRefusal};
-use so_state::{Row, RowKind};
+use so_state::{History, Row, RowKind, State};
 use std::alloc::Global;
 
 /// The name of an object, of no bytes where it has none.
@@ -101,34 +101,97 @@ fn row_mbox(agent: usize, names: &Declared, value: &Value) -> MboxId
     }
 }
 
-/// The flag of a field, this one where it has none.
-fn flag_or(default: bool, found: Option<&Value>) -> bool
-    ensures { result ≡ read_or default flag_of (option_map (λ v. view v.now) found.entry) }
+/// The state that a field names: `default` where it names none.
+fn state_in(scope: &Scope, key: &str, value: &Value) -> StateId
+    ensures { result ≡ state_in scope.now key.now (view value.now) }
 {
-    match found {
-        Some(value) => match flag(value) {
-            Ok(flag) => flag,
-            Err(_) => default,
-        },
-        None => default,
+    match scope.state(string_in(value, key)) {
+        Some(n) => StateId(position(n)),
+        None => StateId(0),
     }
 }
 
-fn kind_of(dead: bool) -> RowKind
-    ensures { result ≡ kind_of dead }
+fn parent_in(scope: &Scope, value: &Value) -> Option<StateId>
+    ensures { result ≡ parent_in scope.now (view value.now) }
+{
+    if value.get("parent").is_some() {
+        Some(state_in(scope, "parent", value))
+    } else {
+        None
+    }
+}
+
+fn history_in(value: &Value) -> History
+    ensures { result ≡ history_in (view value.now) }
+{
+    match value.get("history") {
+        Some(value) => match history(value) {
+            Ok(history) => history,
+            Err(_) => History::None,
+        },
+        None => History::None,
+    }
+}
+
+fn state_of(scope: &Scope, value: &Value) -> State
+    ensures { result ≡ state_of scope.now (view value.now) }
+{
+    State {
+        parent: parent_in(scope, value),
+        initial: flag_or(false, value.get("initial")),
+        history: history_in(value),
+        limit: None,
+    }
+}
+
+/// The states of an agent.
+pub(crate) fn states_in(
+    alloc: Global,
+    scope: &Scope,
+    list: &[Value],
+) -> Result<Items<State>, SceneRefusal>
+    ensures { Returns (states_of scope.now (items_view list.now)) result }
+{
+    let mut states = Items::new(alloc);
+    for value in list {
+        match states.push(state_of(scope, value)) {
+            Ok(()) => {}
+            Err(_) => return Err(SceneRefusal::NoMemory),
+        }
+    }
+    Ok(states)
+}
+
+fn handler_kind(dead: bool) -> RowKind
+    ensures { result ≡ handler_kind dead }
 {
     if dead { RowKind::Dead } else { RowKind::Run }
 }
 
+/// What a row does.
+fn kind_of(scope: &Scope, value: &Value) -> RowKind
+    ensures { result ≡ kind_of scope.now (view value.now) }
+{
+    if value.get("do").is_some() {
+        handler_kind(flag_or(false, value.get("dead")))
+    } else if value.get("switch").is_some() {
+        RowKind::Switch(state_in(scope, "switch", value))
+    } else if value.get("transfer").is_some() {
+        RowKind::Transfer(state_in(scope, "transfer", value))
+    } else {
+        RowKind::Suppress
+    }
+}
+
 /// A row of the agent of this number.
-fn row_of(agent: usize, names: &Declared, value: &Value) -> Row
-    ensures { result ≡ row_of agent names.now (view value.now) }
+fn row_of(agent: usize, names: &Declared, scope: &Scope, value: &Value) -> Row
+    ensures { result ≡ row_of agent names.now scope.now (view value.now) }
 {
     Row {
         mbox: row_mbox(agent, names, value),
         msg: msg_in(names, value),
-        state: StateId(0),
-        kind: kind_of(flag_or(false, value.get("dead"))),
+        state: state_in(scope, "state", value),
+        kind: kind_of(scope, value),
         safe: false,
         active: flag_or(true, value.get("active")),
     }
@@ -139,13 +202,14 @@ pub(crate) fn rows_in(
     alloc: Global,
     agent: usize,
     names: &Declared,
+    scope: &Scope,
     list: &[Value],
 ) -> Result<Items<Row>, SceneRefusal>
-    ensures { Returns (rows_of agent names.now (items_view list.now)) result }
+    ensures { Returns (rows_of agent names.now scope.now (items_view list.now)) result }
 {
     let mut rows = Items::new(alloc);
     for value in list {
-        match rows.push(row_of(agent, names, value)) {
+        match rows.push(row_of(agent, names, scope, value)) {
             Ok(()) => {}
             Err(_) => return Err(SceneRefusal::NoMemory),
         }

@@ -5,12 +5,13 @@ ghost use Rattle.serde_json.specs.Find.{as_str};
 ghost use Rattle.serde_json.specs.View.{view, items_view};
 ghost use Rattle.so_scene_json.specs.Shape.{acts_from};
 ghost use Rattle.so_scene_json.specs.Visits.{list_of, Leaves};
-ghost use Rattle.so_scene_json.specs.Known.{name_trouble, has_signal, signal_trouble, send_trouble, id_trouble, first_id_trouble, word_unknown, act_unknown, form_unknown, field_unknown, entered, knows, known_step};
+ghost use Rattle.so_scene_json.specs.Scope.{all_states};
+ghost use Rattle.so_scene_json.specs.Known.{absent_from, name_trouble, has_signal, signal_trouble, send_trouble, id_trouble, first_id_trouble, first_state_trouble, word_unknown, act_unknown, form_unknown, field_unknown, entered, knows, known_step};
 
 use crate::act_table::Word;
 use crate::acts::parts;
 use crate::declare::Declared;
-use crate::scope::{Scope, number_with};
+use crate::scope::{Scope, declared, number_with};
 use crate::shape::{at, fault_at};
 use crate::table::{Form, ObjectKind, Rule, Space};
 use crate::values::Trouble;
@@ -72,6 +73,43 @@ impl Declared {
     }
 }
 
+/// Whether a name is one of these.
+fn declared_state(names: &[Name], value: &Value) -> Option<Trouble>
+    ensures { result ≡ absent_from names.now (as_str (view value.now)) }
+{
+    match value.as_str() {
+        Some(name) => match declared(names, name) {
+            Some(_) => None,
+            None => Some(Trouble::UnknownName),
+        },
+        None => None,
+    }
+}
+
+impl Scope {
+    /// Whether a name is that of a state.
+    fn any_state(&self, value: &Value) -> Option<Trouble>
+        ensures { result ≡ absent_from (all_states self.now) (as_str (view value.now)) }
+    {
+        match value.as_str() {
+            Some(name) => match self.state(name) {
+                Some(_) => None,
+                None => Some(Trouble::UnknownName),
+            },
+            None => None,
+        }
+    }
+
+    fn first_state(&self, list: &[Value]) -> Option<Trouble>
+        ensures { result ≡ first_state_trouble self.now (items_view list.now) }
+    {
+        match list {
+            [first, ..] => self.any_state(first),
+            [] => None,
+        }
+    }
+}
+
 /// Whether an id is one of these.
 fn id(ids: &[Option<Name>], value: &Value) -> Option<Trouble>
     ensures { result ≡ id_trouble ids.now (as_str (view value.now)) }
@@ -94,7 +132,7 @@ fn first_id(ids: &[Option<Name>], list: &[Value]) -> Option<Trouble>
     }
 }
 
-/// The third pass: all names, and the ids of the agent that is visited.
+/// The third pass: all names, and the states and ids of the agent that is visited.
 #[derive(Drop)]
 pub(crate) struct Known {
     pub(crate) names: Declared,
@@ -118,6 +156,7 @@ impl Known {
     {
         match word {
             Word::Send => self.names.send(list),
+            Word::Switch => self.scope.first_state(list),
             Word::Subscribe | Word::Unsubscribe => first_id(self.scope.rows.as_slice(), list),
             Word::SetFilter | Word::DropFilter => first_id(self.scope.filters.as_slice(), list),
             _ => None,
@@ -155,7 +194,9 @@ impl Known {
     {
         match form {
             Form::NameIn(space) => at(place, self.names.name(space, value)),
-            Form::Acts => self.acts(place, list(Some(value))),
+            Form::DeclaredState => at(place, declared_state(self.scope.states.as_slice(), value)),
+            Form::AnyState => at(place, self.scope.any_state(value)),
+            Form::Acts(_) => self.acts(place, list(Some(value))),
             _ => None,
         }
     }
@@ -170,7 +211,7 @@ impl Known {
         }
     }
 
-    /// An agent's acts name its own ids.
+    /// An agent names its own states and ids.
     fn begin(&mut self, kind: ObjectKind, value: &Value) -> Result<(), SceneRefusal>
         ensures { Leaves (Ok (entered kind (view value.now) self.old)) result self.new }
     {

@@ -1,43 +1,94 @@
-//! The ids of an agent's rows and filters, by which its acts name them.
+//! The names of an agent's states and the ids of its rows and filters, by which its acts name them.
 
-ghost use Rattle.std.specs.Prelude.{◌≡◌, map};
+ghost use Rattle.std.specs.Prelude.{◌≡◌, ◌<◌, ◌+◌, map, length, IfSome};
 ghost use Rattle.serde_json.specs.View.{view, items_view};
-ghost use Rattle.so_scene_json.specs.Scope.{number_with, is_id, ids_of, scope_of, no_scope};
+ghost use Rattle.so_scene.specs.Names.{number_in};
+ghost use Rattle.so_scene_json.specs.Scope.{number_with, is_id, ids_of, names_of, scope_of, no_scope, state_number};
 ghost use Rattle.so_scene_json.specs.Reads.{Returns};
 
+use crate::defs::name_of;
 use crate::values::id_in;
 use crate::walk::list;
 use serde_json::Value;
 use so_scene::{Items, Name, SceneRefusal};
 use std::alloc::Global;
 
-/// The ids of an agent: one for each row and each filter that has one, in their order.
+/// The name of each state of an agent, and the id of each row and each filter that has one, in their order.
 #[derive(Drop)]
 pub(crate) struct Scope {
+    pub(crate) states: Items<Name>,
     pub(crate) rows: Items<Option<Name>>,
     pub(crate) filters: Items<Option<Name>>,
 }
 
 impl Scope {
-    /// No ids.
+    /// No names and no ids.
     pub(crate) fn new(alloc: Global) -> Scope
         ensures { result ≡ no_scope }
     {
         Scope {
+            states: Items::new(alloc),
             rows: Items::new(alloc),
             filters: Items::new(alloc),
         }
     }
 
-    /// The ids of an agent.
+    /// The names and ids of an agent.
     pub(crate) fn of(alloc: Global, agent: &Value) -> Result<Scope, SceneRefusal>
         ensures { Returns (scope_of (view agent.now)) result }
     {
         Ok(Scope {
+            states: names(alloc, list(agent.get("states")))?,
             rows: ids(alloc, list(agent.get("on")))?,
             filters: ids(alloc, list(agent.get("filters")))?,
         })
     }
+
+    /// The number of a state: 0 is `default`, and the declared ones follow.
+    pub(crate) fn state(&self, name: &str) -> Option<usize>
+        ensures { result ≡ state_number self.now name.now }
+    {
+        if name == "default" {
+            return Some(0);
+        }
+        match declared(self.states.as_slice(), name) {
+            Some(k) => Some(number_of(self.states.as_slice(), k)),
+            None => None,
+        }
+    }
+}
+
+/// The place of a name in a list.
+pub(crate) fn declared(names: &[Name], name: &str) -> Option<usize>
+    ensures place { result ≡ number_in names.now name.now }
+    ensures within { IfSome result (λ k. k < length names.now) }
+{
+    names
+        .iter()
+        .position(|other| name.as_bytes() == other.bytes())
+}
+
+/// The number of the state at this place of the declared ones.
+fn number_of(states: &[Name], k: usize) -> usize
+    requires { k < length states.now }
+    ensures { result ≡ 1 + k }
+{
+    let _states = states.len();
+    1 + k
+}
+
+/// The name of each object in a list.
+fn names(alloc: Global, list: &[Value]) -> Result<Items<Name>, SceneRefusal>
+    ensures { Returns (names_of (items_view list.now)) result }
+{
+    let mut names = Items::new(alloc);
+    for value in list {
+        match names.push(name_of(value)) {
+            Ok(()) => {}
+            Err(_) => return Err(SceneRefusal::NoMemory),
+        }
+    }
+    Ok(names)
 }
 
 /// The id of each object in a list.

@@ -5,11 +5,15 @@ ghost use Rattle.serde_json.specs.Find.{as_array, as_number, as_object, as_str};
 ghost use Rattle.serde_json.specs.View.{view, items_view, members_view};
 ghost use Rattle.so_scene_json.specs.Table.{rules_of};
 ghost use Rattle.so_scene_json.specs.Acts.{act_trouble};
-ghost use Rattle.so_scene_json.specs.Shape.{placed, trouble_at, is_known, has_unknown, unknown_in, version_fault, kind_trouble, first_of, is_within, list_trouble, number_trouble, name_trouble, object_trouble, acts_from, acts_fault, form_fault, field_fault, has, is_breach, shape_step};
+ghost use Rattle.so_scene_json.specs.Values.{name_of};
+ghost use Rattle.so_scene_json.specs.Shape.{placed, trouble_at, is_known, has_unknown, unknown_in, version_fault, kind_trouble, state_name_trouble, first_of, is_within, list_trouble, number_trouble, name_trouble, object_trouble, acts_from, acts_fault, form_fault, field_fault, has, effects, is_row_breach, is_initial, is_breach, shape_step};
 
+use crate::act_table::Allowed;
 use crate::acts::act_fault;
 use crate::table::{Form, ObjectKind, Rule, rules};
-use crate::values::{Trouble, comparison, flag, integer, name, number, only_true};
+use crate::values::{
+    Trouble, comparison, flag, flag_or, history, integer, name, number, only_true,
+};
 use crate::walk::{Pass, position};
 use serde_json::{Map, Value};
 use so_scene::{Field, PlaceStep, SceneFault, ScenePlace, SceneRefusal};
@@ -77,6 +81,20 @@ fn message_kind(value: &Value) -> Option<Trouble>
         Some("signal") => None,
         Some(_) => Some(Trouble::WrongShape),
         None => Some(Trouble::WrongShape),
+    }
+}
+
+/// What is wrong with the name of a state.
+fn state_name(value: &Value) -> Option<Trouble>
+    ensures { result ≡ state_name_trouble (name_of (view value.now)) }
+{
+    match name(value) {
+        Ok(name) => if name == "default" {
+            Some(Trouble::WrongShape)
+        } else {
+            None
+        },
+        Err(trouble) => Some(trouble),
     }
 }
 
@@ -181,12 +199,12 @@ fn objects(limit: Option<usize>, value: &Value) -> Option<Trouble>
     }
 }
 
-fn first_act(place: &ScenePlace, list: &[Value]) -> Option<SceneFault>
+fn first_act(allowed: Allowed, place: &ScenePlace, list: &[Value]) -> Option<SceneFault>
     requires { length place.now < 16 }
-    ensures { result ≡ acts_from act_trouble place.now 0 (items_view list.now) }
+    ensures { result ≡ acts_from (act_trouble allowed) place.now 0 (items_view list.now) }
 {
     for (i, act) in list.iter().enumerate() {
-        match act_fault(list.len() - i - 1, act) {
+        match act_fault(allowed, list.len() - i - 1, act) {
             Some(trouble) => return Some(fault_at(
                 &place.step(PlaceStep::At(position(i))),
                 trouble,
@@ -197,22 +215,22 @@ fn first_act(place: &ScenePlace, list: &[Value]) -> Option<SceneFault>
     None
 }
 
-fn act_list(place: &ScenePlace, list: &[Value]) -> Option<SceneFault>
+fn act_list(allowed: Allowed, place: &ScenePlace, list: &[Value]) -> Option<SceneFault>
     requires { length place.now < 16 }
-    ensures { result ≡ acts_fault place.now (Some (items_view list.now)) }
+    ensures { result ≡ acts_fault allowed place.now (Some (items_view list.now)) }
 {
     if list.len() > 256 {
         return Some(SceneFault::OutOfRange(place.copy()));
     }
-    first_act(place, list)
+    first_act(allowed, place, list)
 }
 
-fn acts(place: &ScenePlace, value: &Value) -> Option<SceneFault>
+fn acts(allowed: Allowed, place: &ScenePlace, value: &Value) -> Option<SceneFault>
     requires { length place.now < 16 }
-    ensures { result ≡ acts_fault place.now (as_array (view value.now)) }
+    ensures { result ≡ acts_fault allowed place.now (as_array (view value.now)) }
 {
     match value.as_array() {
-        Some(list) => act_list(place, list),
+        Some(list) => act_list(allowed, place, list),
         None => Some(SceneFault::WrongShape(place.copy())),
     }
 }
@@ -224,7 +242,9 @@ fn form(form: Form, place: &ScenePlace, value: &Value) -> Option<SceneFault>
     match form {
         Form::One => version(place, value),
         Form::Name => at(place, name(value).err()),
-        Form::NameIn(_) => at(place, name(value).err()),
+        Form::NameIn(_) | Form::DeclaredState | Form::AnyState => at(place, name(value).err()),
+        Form::StateName => at(place, state_name(value)),
+        Form::History => at(place, history(value).err()),
         Form::Mboxes(limit) => at(place, names(limit, value)),
         Form::MessageKind => at(place, message_kind(value)),
         Form::Flag => at(place, flag(value).err()),
@@ -234,7 +254,7 @@ fn form(form: Form, place: &ScenePlace, value: &Value) -> Option<SceneFault>
         Form::Number(low, high) => at(place, number(low, high, value).err()),
         Form::Numbers(limit) => at(place, numbers(limit, value)),
         Form::Objects(_, limit) => at(place, objects(limit, value)),
-        Form::Acts => acts(place, value),
+        Form::Acts(allowed) => acts(allowed, place, value),
         Form::Later => Some(SceneFault::NotBuilt(place.copy())),
     }
 }
@@ -272,17 +292,30 @@ fn has(field: Field, value: &Value) -> u8
     }
 }
 
+/// How many effects a row has.
+fn effects(value: &Value) -> u8
+    ensures { result ≡ effects (view value.now) }
+{
+    has(Field::Do, value)
+        + has(Field::Switch, value)
+        + has(Field::Transfer, value)
+        + has(Field::Suppress, value)
+}
+
+fn row_breach(value: &Value) -> bool
+    ensures { result ≡ is_row_breach (view value.now) }
+{
+    effects(value) != 1
+        || has(Field::Dead, value) > has(Field::Do, value)
+        || has(Field::Dead, value) + has(Field::State, value) > 1
+}
+
 fn breach(kind: ObjectKind, value: &Value) -> bool
     ensures { result ≡ is_breach kind (view value.now) }
 {
     match kind {
-        ObjectKind::Row => {
-            let effects = has(Field::Do, value)
-                + has(Field::Switch, value)
-                + has(Field::Transfer, value)
-                + has(Field::Suppress, value);
-            effects != 1 || has(Field::Dead, value) > has(Field::Do, value)
-        }
+        ObjectKind::Row => row_breach(value),
+        ObjectKind::State => flag_or(false, value.get("initial")) && has(Field::Parent, value) == 0,
         _ => false,
     }
 }

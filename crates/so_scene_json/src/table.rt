@@ -3,6 +3,7 @@
 ghost use Rattle.std.specs.Prelude.{◌≡◌};
 ghost use Rattle.so_scene_json.specs.Table.{rules_of, objects_of, space_of, key_of, required, optional, later};
 
+use crate::act_table::Allowed;
 use so_scene::Field;
 
 /// The kinds of object.
@@ -21,13 +22,14 @@ pub(crate) enum ObjectKind {
     Thread,
 }
 
-/// The name spaces. Each agent has its own for its rows, and for its filters.
+/// The name spaces. Each agent has its own for its states, for its rows, and for its filters.
 #[derive(Clone, Copy, Debug, PartialEq, Eq)]
 pub(crate) enum Space {
     Messages,
     Coops,
     /// The agents, each of which has a mbox of its own, and the named mboxes.
     Mboxes,
+    States,
     Rows,
     Filters,
 }
@@ -41,6 +43,14 @@ pub(crate) enum Form {
     Name,
     /// A name of this space.
     NameIn(Space),
+    /// A name other than `default`.
+    StateName,
+    /// The name of a state that the agent declares.
+    DeclaredState,
+    /// The name of such a state, or `default`.
+    AnyState,
+    /// `none`, `shallow` or `deep`.
+    History,
     /// A list of at most so many names of mboxes.
     Mboxes(usize),
     /// `message` or `signal`.
@@ -59,8 +69,8 @@ pub(crate) enum Form {
     Numbers(usize),
     /// A list of objects, with its limit if it has one.
     Objects(ObjectKind, Option<usize>),
-    /// A list of at most 256 acts.
-    Acts,
+    /// A list of at most 256 acts, of those that are allowed there.
+    Acts(Allowed),
     /// What isn't built.
     Later,
 }
@@ -257,7 +267,7 @@ static AGENT: [Rule; 13] = [
     Rule {
         field: Field::States,
         required: false,
-        form: Form::Later,
+        form: Form::Objects(ObjectKind::State, Some(63)),
     },
     Rule {
         field: Field::Limits,
@@ -272,12 +282,12 @@ static AGENT: [Rule; 13] = [
     Rule {
         field: Field::Start,
         required: false,
-        form: Form::Acts,
+        form: Form::Acts(Allowed::AnyAct),
     },
     Rule {
         field: Field::Finish,
         required: false,
-        form: Form::Acts,
+        form: Form::Acts(Allowed::AnyAct),
     },
     Rule {
         field: Field::On,
@@ -289,23 +299,23 @@ static AGENT: [Rule; 13] = [
 static STATE: [Rule; 7] = [
     Rule {
         field: Field::Name,
-        required: false,
-        form: Form::Later,
+        required: true,
+        form: Form::StateName,
     },
     Rule {
         field: Field::Parent,
         required: false,
-        form: Form::Later,
+        form: Form::DeclaredState,
     },
     Rule {
         field: Field::Initial,
         required: false,
-        form: Form::Later,
+        form: Form::Flag,
     },
     Rule {
         field: Field::History,
         required: false,
-        form: Form::Later,
+        form: Form::History,
     },
     Rule {
         field: Field::Limit,
@@ -315,12 +325,12 @@ static STATE: [Rule; 7] = [
     Rule {
         field: Field::Enter,
         required: false,
-        form: Form::Later,
+        form: Form::Acts(Allowed::NoSwitch),
     },
     Rule {
         field: Field::Exit,
         required: false,
-        form: Form::Later,
+        form: Form::Acts(Allowed::NoSwitch),
     },
 ];
 
@@ -399,27 +409,27 @@ static ROW: [Rule; 11] = [
     Rule {
         field: Field::State,
         required: false,
-        form: Form::Later,
+        form: Form::AnyState,
     },
     Rule {
         field: Field::Do,
         required: false,
-        form: Form::Acts,
+        form: Form::Acts(Allowed::AnyAct),
     },
     Rule {
         field: Field::Switch,
         required: false,
-        form: Form::Later,
+        form: Form::AnyState,
     },
     Rule {
         field: Field::Transfer,
         required: false,
-        form: Form::Later,
+        form: Form::AnyState,
     },
     Rule {
         field: Field::Suppress,
         required: false,
-        form: Form::Later,
+        form: Form::OnlyTrue,
     },
     Rule {
         field: Field::Dead,
@@ -488,6 +498,7 @@ pub(crate) fn declares(kind: ObjectKind) -> Option<Space>
         ObjectKind::Message => Some(Space::Messages),
         ObjectKind::Coop => Some(Space::Coops),
         ObjectKind::Agent => Some(Space::Mboxes),
+        ObjectKind::State => Some(Space::States),
         ObjectKind::Row => Some(Space::Rows),
         ObjectKind::Filter => Some(Space::Filters),
         _ => None,

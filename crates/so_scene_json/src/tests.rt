@@ -1,10 +1,10 @@
 //! Faulty scenes with the fault that each has, and scenes that are read.
 use crate::read_scene;
 use so_code::{Args, Body, Cmp, Dest, Instr, Operand};
-use so_ids::{AgentId, CoopId, FilterId, MboxId, MsgId, RowId, Target, TextId};
+use so_ids::{AgentId, CoopId, FilterId, MboxId, MsgId, RowId, StateId, Target, TextId};
 use so_lines::LineBuf;
 use so_scene::{Name, Scene, SceneFault, SceneRefusal, direct_mbox, is_twice, put_fault};
-use so_state::RowKind;
+use so_state::{History, RowKind, State};
 use std::alloc::Global;
 use std::process::Abort;
 use std::test::*;
@@ -135,8 +135,8 @@ static FAULTS: [(&str, &str); 76] = [
         "wrong_shape at /coops/0/agents/0",
     ),
     (
-        "{\"version\":1,\"coops\":[{\"name\":\"c\",\"agents\":[{\"name\":\"a\",\"states\":[]}]}]}",
-        "not_built at /coops/0/agents/0/states",
+        "{\"version\":1,\"coops\":[{\"name\":\"c\",\"agents\":[{\"name\":\"a\",\"limits\":[]}]}]}",
+        "not_built at /coops/0/agents/0/limits",
     ),
     (
         "{\"version\":1,\"coops\":[{\"name\":\"c\",\"agents\":[{\"name\":\"a\",\"vars\":[0,0,0,0,0,0,0,0,0,0,0,0,0,0,0,0,0]}]}]}",
@@ -240,7 +240,7 @@ static FAULTS: [(&str, &str); 76] = [
     ),
     (
         "{\"version\":1,\"messages\":[{\"name\":\"x\"},{\"name\":\"s\",\"kind\":\"signal\"}],\"coops\":[{\"name\":\"c\",\"agents\":[{\"name\":\"a\",\"on\":[{\"msg\":\"x\",\"switch\":\"y\"}]}]}]}",
-        "not_built at /coops/0/agents/0/on/0/switch",
+        "unknown_name at /coops/0/agents/0/on/0/switch",
     ),
     (
         "{\"version\":1,\"messages\":[{\"name\":\"x\"},{\"name\":\"s\",\"kind\":\"signal\"}],\"coops\":[{\"name\":\"c\",\"agents\":[{\"name\":\"a\",\"on\":[{\"do\":[]}]}]}]}",
@@ -304,7 +304,8 @@ fn each_faulty_scene_has_its_fault(rt: HostRuntime) {
 static BEFORE: &str =
     "{\"version\":1,\"mboxes\":[\"box\"],\"messages\":[{\"name\":\"x\"},{\"name\":\"s\",\"kind\":\"signal\"}],\"coops\":[{\"name\":\"c\",\"agents\":[{\"name\":\"a\",";
 
-static AFTER: &str = "},{\"name\":\"b\",\"on\":[{\"id\":\"theirs\",\"msg\":\"x\",\"do\":[]}]}]}]}";
+static AFTER: &str =
+    "},{\"name\":\"b\",\"states\":[{\"name\":\"far\"}],\"on\":[{\"id\":\"theirs\",\"msg\":\"x\",\"do\":[]}]}]}]}";
 
 /// Fields of that agent, and how the fault of the scene is printed.
 static AGENT_FAULTS: [(&str, &str); 44] = [
@@ -353,8 +354,8 @@ static AGENT_FAULTS: [(&str, &str); 44] = [
         "wrong_shape at /coops/0/agents/0/on/0/active",
     ),
     (
-        "\"on\":[{\"msg\":\"x\",\"state\":\"default\",\"do\":[]}]",
-        "not_built at /coops/0/agents/0/on/0/state",
+        "\"on\":[{\"msg\":\"x\",\"do\":[]},{\"msg\":\"x\",\"state\":\"default\",\"do\":[]}]",
+        "not_built at /coops/0",
     ),
     (
         "\"on\":[{\"msg\":\"x\",\"safe\":false,\"do\":[]}]",
@@ -504,6 +505,217 @@ fn with_agent(alloc: Global, fields: &str) -> Result<String, Fail> {
     Ok(text)
 }
 
+/// Fields of that agent, about its states, and how the fault of the scene is printed.
+static STATE_FAULTS: [(&str, &str); 46] = [
+    ("\"states\":7", "wrong_shape at /coops/0/agents/0/states"),
+    ("\"states\":[7]", "wrong_shape at /coops/0/agents/0/states"),
+    (
+        "\"states\":[{}]",
+        "missing at /coops/0/agents/0/states/0/name",
+    ),
+    (
+        "\"states\":[{\"name\":\"s\",\"on\":[]}]",
+        "wrong_shape at /coops/0/agents/0/states/0",
+    ),
+    (
+        "\"states\":[{\"name\":\"default\"}]",
+        "wrong_shape at /coops/0/agents/0/states/0/name",
+    ),
+    (
+        "\"states\":[{\"name\":\"a-b\"}]",
+        "wrong_shape at /coops/0/agents/0/states/0/name",
+    ),
+    (
+        "\"states\":[{\"name\":\"s\"},{\"name\":\"t\",\"parent\":7}]",
+        "wrong_shape at /coops/0/agents/0/states/1/parent",
+    ),
+    (
+        "\"states\":[{\"name\":\"s\",\"initial\":1}]",
+        "wrong_shape at /coops/0/agents/0/states/0/initial",
+    ),
+    (
+        "\"states\":[{\"name\":\"s\",\"initial\":true}]",
+        "wrong_shape at /coops/0/agents/0/states/0",
+    ),
+    (
+        "\"states\":[{\"name\":\"s\",\"initial\":true,\"enter\":[7]}]",
+        "wrong_shape at /coops/0/agents/0/states/0/enter/0",
+    ),
+    (
+        "\"states\":[{\"name\":\"s\",\"history\":\"full\"}]",
+        "wrong_shape at /coops/0/agents/0/states/0/history",
+    ),
+    (
+        "\"states\":[{\"name\":\"s\",\"history\":null}]",
+        "wrong_shape at /coops/0/agents/0/states/0/history",
+    ),
+    (
+        "\"states\":[{\"name\":\"s\",\"limit\":[5,\"default\"]}]",
+        "not_built at /coops/0/agents/0/states/0/limit",
+    ),
+    (
+        "\"states\":[{\"name\":\"s\",\"enter\":{}}]",
+        "wrong_shape at /coops/0/agents/0/states/0/enter",
+    ),
+    (
+        "\"states\":[{\"name\":\"s\",\"enter\":[[\"switch\",\"s\"]]}]",
+        "wrong_shape at /coops/0/agents/0/states/0/enter/0",
+    ),
+    (
+        "\"states\":[{\"name\":\"s\",\"exit\":[[\"stop\"],[\"switch\",\"default\"]]}]",
+        "wrong_shape at /coops/0/agents/0/states/0/exit/1",
+    ),
+    (
+        "\"states\":[{\"name\":\"s\",\"exit\":[[\"delayed\"]]}]",
+        "not_built at /coops/0/agents/0/states/0/exit/0",
+    ),
+    (
+        "\"start\":[[\"switch\"]]",
+        "wrong_shape at /coops/0/agents/0/start/0",
+    ),
+    (
+        "\"start\":[[\"switch\",\"default\",\"default\"]]",
+        "wrong_shape at /coops/0/agents/0/start/0",
+    ),
+    (
+        "\"finish\":[[\"switch\",0]]",
+        "wrong_shape at /coops/0/agents/0/finish/0",
+    ),
+    (
+        "\"on\":[{\"msg\":\"x\",\"state\":0,\"do\":[]}]",
+        "wrong_shape at /coops/0/agents/0/on/0/state",
+    ),
+    (
+        "\"on\":[{\"msg\":\"x\",\"switch\":\"\"}]",
+        "wrong_shape at /coops/0/agents/0/on/0/switch",
+    ),
+    (
+        "\"on\":[{\"msg\":\"x\",\"transfer\":null}]",
+        "wrong_shape at /coops/0/agents/0/on/0/transfer",
+    ),
+    (
+        "\"on\":[{\"msg\":\"x\",\"suppress\":false}]",
+        "wrong_shape at /coops/0/agents/0/on/0/suppress",
+    ),
+    (
+        "\"on\":[{\"msg\":\"x\",\"do\":[],\"switch\":\"default\"}]",
+        "wrong_shape at /coops/0/agents/0/on/0",
+    ),
+    (
+        "\"on\":[{\"msg\":\"x\",\"switch\":\"default\",\"transfer\":\"default\"}]",
+        "wrong_shape at /coops/0/agents/0/on/0",
+    ),
+    (
+        "\"on\":[{\"msg\":\"x\",\"transfer\":\"default\",\"suppress\":true}]",
+        "wrong_shape at /coops/0/agents/0/on/0",
+    ),
+    (
+        "\"on\":[{\"msg\":\"x\",\"dead\":true,\"suppress\":true}]",
+        "wrong_shape at /coops/0/agents/0/on/0",
+    ),
+    (
+        "\"on\":[{\"msg\":\"x\",\"state\":\"default\",\"dead\":true,\"do\":[]}]",
+        "wrong_shape at /coops/0/agents/0/on/0",
+    ),
+    (
+        "\"states\":[{\"name\":\"s\"},{\"name\":\"s\"}]",
+        "twice at /coops/0/agents/0/states/1/name",
+    ),
+    (
+        "\"states\":[{\"name\":\"s\",\"parent\":\"q\"},{\"name\":\"s\"}]",
+        "twice at /coops/0/agents/0/states/1/name",
+    ),
+    (
+        "\"on\":[{\"id\":\"r\",\"msg\":\"x\",\"do\":[]},{\"id\":\"r\",\"msg\":\"s\",\"do\":[]}],\"states\":[{\"name\":\"s\"},{\"name\":\"s\"}]",
+        "twice at /coops/0/agents/0/states/1/name",
+    ),
+    (
+        "\"states\":[{\"name\":\"s\",\"parent\":\"q\"}]",
+        "unknown_name at /coops/0/agents/0/states/0/parent",
+    ),
+    (
+        "\"states\":[{\"name\":\"s\",\"parent\":\"default\"}]",
+        "unknown_name at /coops/0/agents/0/states/0/parent",
+    ),
+    (
+        "\"states\":[{\"name\":\"s\",\"enter\":[[\"send\",\"post\",\"x\"]]}]",
+        "unknown_name at /coops/0/agents/0/states/0/enter/0",
+    ),
+    (
+        "\"on\":[{\"msg\":\"x\",\"state\":\"q\",\"do\":[]}]",
+        "unknown_name at /coops/0/agents/0/on/0/state",
+    ),
+    (
+        "\"on\":[{\"msg\":\"x\",\"switch\":\"q\"}]",
+        "unknown_name at /coops/0/agents/0/on/0/switch",
+    ),
+    (
+        "\"on\":[{\"msg\":\"x\",\"transfer\":\"far\"}]",
+        "unknown_name at /coops/0/agents/0/on/0/transfer",
+    ),
+    (
+        "\"start\":[[\"stop\"],[\"switch\",\"far\"]]",
+        "unknown_name at /coops/0/agents/0/start/1",
+    ),
+    (
+        "\"on\":[{\"msg\":\"x\",\"do\":[[\"switch\",\"q\"]]}],\"states\":[{\"name\":\"s\",\"parent\":\"s\"}]",
+        "unknown_name at /coops/0/agents/0/on/0/do/0",
+    ),
+    (
+        "\"states\":[{\"name\":\"s\",\"parent\":\"s\"}]",
+        "cycle_of_parents at /coops/0/agents/0/states/0",
+    ),
+    (
+        "\"states\":[{\"name\":\"s\"},{\"name\":\"t\",\"parent\":\"u\"},{\"name\":\"u\",\"parent\":\"t\"}]",
+        "cycle_of_parents at /coops/0/agents/0/states/1",
+    ),
+    (
+        "\"states\":[{\"name\":\"s\"},{\"name\":\"t\",\"parent\":\"s\"}]",
+        "no_initial at /coops/0/agents/0/states/0",
+    ),
+    (
+        "\"states\":[{\"name\":\"t\",\"parent\":\"s\",\"initial\":true},{\"name\":\"u\",\"parent\":\"s\",\"initial\":true},{\"name\":\"s\"}]",
+        "two_initials at /coops/0/agents/0/states/2",
+    ),
+    (
+        "\"states\":[{\"name\":\"s\"},{\"name\":\"t\",\"parent\":\"s\",\"initial\":true},{\"name\":\"u\",\"parent\":\"s\",\"initial\":true},{\"name\":\"v\"},{\"name\":\"w\",\"parent\":\"v\"}]",
+        "no_initial at /coops/0/agents/0/states/3",
+    ),
+    (
+        "\"states\":[{\"name\":\"s\"},{\"name\":\"t\",\"parent\":\"s\"},{\"name\":\"u\",\"parent\":\"u\"}]",
+        "cycle_of_parents at /coops/0/agents/0/states/2",
+    ),
+];
+
+/// Fields of that agent with states, with which the scene is read.
+static STATES: [&str; 7] = [
+    "\"states\":[]",
+    "\"states\":[{\"name\":\"s\"},{\"name\":\"far\"}]",
+    "\"states\":[{\"name\":\"s\",\"initial\":false,\"history\":\"none\",\"enter\":[],\"exit\":[]}]",
+    "\"states\":[{\"name\":\"t\",\"parent\":\"s\",\"initial\":true},{\"name\":\"s\",\"history\":\"shallow\"},{\"name\":\"u\",\"parent\":\"s\",\"history\":\"deep\"}]",
+    "\"start\":[[\"switch\",\"default\"]],\"on\":[{\"msg\":\"x\",\"state\":\"default\",\"switch\":\"default\"}]",
+    "\"states\":[{\"name\":\"s\"}],\"on\":[{\"msg\":\"x\",\"do\":[]},{\"msg\":\"x\",\"state\":\"s\",\"suppress\":true},{\"msg\":\"x\",\"dead\":true,\"do\":[]}]",
+    "\"states\":[{\"name\":\"x\",\"enter\":[[\"send\",\"box\",\"x\",1]]}],\"on\":[{\"id\":\"x\",\"msg\":\"x\",\"transfer\":\"x\"}]",
+];
+
+#[test]
+fn states_have_their_faults(rt: HostRuntime) -> Result<(), Fail> {
+    for (fields, line) in STATE_FAULTS.iter() {
+        let text = with_agent(rt.alloc(), fields)?;
+        assert!(rt; has_fault(rt.alloc(), text.as_bytes(), line));
+    }
+    Ok(())
+}
+
+#[test]
+fn states_that_are_a_tree_are_read(rt: HostRuntime) -> Result<(), Fail> {
+    for fields in STATES.iter() {
+        let text = with_agent(rt.alloc(), fields)?;
+        assert!(rt; read_scene(rt.alloc(), text.as_bytes()).is_ok());
+    }
+    Ok(())
+}
+
 #[test]
 fn rows_and_filters_have_their_faults(rt: HostRuntime) -> Result<(), Fail> {
     for (fields, line) in AGENT_FAULTS.iter() {
@@ -583,6 +795,20 @@ fn a_list_over_its_limit_is_out_of_range(rt: HostRuntime) -> Result<(), Fail> {
             rt.alloc(),
             filters.as_bytes(),
             "out_of_range at /coops/0/agents/0/filters"
+        )
+    );
+    let states = repeated(
+        rt.alloc(),
+        "{\"version\":1,\"coops\":[{\"name\":\"c\",\"agents\":[{\"name\":\"a\",\"states\":[",
+        "{},",
+        63,
+        "{}]}]}]}",
+    )?;
+    assert!(rt;
+        has_fault(
+            rt.alloc(),
+            states.as_bytes(),
+            "out_of_range at /coops/0/agents/0/states"
         )
     );
     let rows = repeated(
@@ -905,4 +1131,236 @@ fn a_scene_breaks_no_definition_rule(rt: HostRuntime) {
     } else {
         assert!(rt; false);
     }
+}
+
+/// Names of states, each the parent of the next.
+static NESTED: [&str; 17] = [
+    "s1", "s2", "s3", "s4", "s5", "s6", "s7", "s8", "s9", "s10", "s11", "s12", "s13", "s14", "s15",
+    "s16", "s17",
+];
+
+/// The states of an agent, so many of these: all but the first are initial.
+fn nested(alloc: Global, count: usize) -> Result<String, Fail> {
+    let mut text = String::new(alloc);
+    text.push_str("\"states\":[{\"name\":\"s1\"}")?;
+    for (name, parent) in NESTED.iter().skip(1).take(count - 1).zip(NESTED.iter()) {
+        text.push_str(",{\"name\":\"")?;
+        text.push_str(name)?;
+        text.push_str("\",\"initial\":true,\"parent\":\"")?;
+        text.push_str(parent)?;
+        text.push_str("\"}")?;
+    }
+    text.push_str("]")?;
+    Ok(text)
+}
+
+#[test]
+fn sixteen_states_may_nest(rt: HostRuntime) -> Result<(), Fail> {
+    let text = with_agent(rt.alloc(), nested(rt.alloc(), 16)?.as_str())?;
+    assert!(rt; read_scene(rt.alloc(), text.as_bytes()).is_ok());
+    let text = with_agent(rt.alloc(), nested(rt.alloc(), 17)?.as_str())?;
+    assert!(rt;
+        has_fault(
+            rt.alloc(),
+            text.as_bytes(),
+            "too_deep at /coops/0/agents/0/states/16"
+        )
+    );
+    Ok(())
+}
+
+/// The longest lists of states: 63 of them, and a code of 1,024 instructions, each state with a handler or none.
+#[test]
+fn states_count_into_the_code(rt: HostRuntime) -> Result<(), Fail> {
+    for (acts, fault) in [(251, false), (252, true)] {
+        let mut text = repeated(
+            rt.alloc(),
+            "{\"version\":1,\"coops\":[{\"name\":\"c\",\"agents\":[{\"name\":\"a\",\"states\":[{\"name\":\"s\",\"enter\":[",
+            "[\"stop\"],",
+            255,
+            "[\"stop\"]],\"exit\":[",
+        )?;
+        for (next, count) in [
+            ("]]}],\"start\":[", 255),
+            ("]],\"finish\":[", 255),
+            ("]]}]}]}", acts),
+        ] {
+            for _ in 0..count {
+                text.push_str("[\"stop\"],")?;
+            }
+            text.push_str("[\"stop\"")?;
+            text.push_str(next)?;
+        }
+        // 256 + 256 + 256 acts, 252 or 253 more, and four ends
+        let line = "out_of_range at /coops/0/agents/0";
+        assert!(rt; has_fault(rt.alloc(), text.as_bytes(), line) == fault);
+        assert!(rt; read_scene(rt.alloc(), text.as_bytes()).is_err() == fault);
+    }
+    Ok(())
+}
+
+/// An agent with four states and six rows.
+static LAMP: &str =
+    "{\"version\":1,\"messages\":[{\"name\":\"x\"},{\"name\":\"s\",\"kind\":\"signal\"}],\"coops\":[{\"name\":\"c\",\"agents\":[{\"name\":\"a\",\"states\":[{\"name\":\"slow\",\"parent\":\"on\",\"initial\":true},{\"name\":\"off\"},{\"name\":\"on\",\"history\":\"shallow\",\"enter\":[[\"log\",\"in\"]],\"exit\":[[\"log\",\"out\"],[\"set\",\"v0\",1]]},{\"name\":\"fast\",\"parent\":\"on\",\"history\":\"deep\",\"exit\":[[\"stop\"]]}],\"start\":[[\"switch\",\"off\"]],\"on\":[{\"msg\":\"x\",\"state\":\"off\",\"switch\":\"on\"},{\"msg\":\"x\",\"state\":\"slow\",\"do\":[[\"switch\",\"fast\"],[\"switch\",\"default\"]]},{\"msg\":\"x\",\"state\":\"fast\",\"transfer\":\"default\"},{\"msg\":\"x\",\"suppress\":true},{\"msg\":\"s\",\"state\":\"default\",\"do\":[]},{\"msg\":\"s\",\"dead\":true,\"do\":[[\"log\",\"out\"]]}]},{\"name\":\"b\"}]}]}";
+
+/// A state with this parent, if it has one.
+fn state(parent: Option<StateId>, initial: bool, history: History) -> State {
+    State {
+        parent,
+        initial,
+        history,
+        limit: None,
+    }
+}
+
+#[test]
+fn states_are_numbered_in_their_order(rt: HostRuntime) {
+    let scene = scene(&rt, rt.alloc(), LAMP);
+    let on = Some(StateId(3));
+    let states = [
+        state(on, true, History::None),
+        state(None, false, History::None),
+        state(None, false, History::Shallow),
+        state(on, false, History::Deep),
+    ];
+    if scene.agents() == 2 {
+        let agent = scene.agent(AgentId(0));
+        assert!(rt; agent.tree.states() == states.as_slice());
+        let names = agent.state_names.as_slice();
+        assert!(rt; names.len() == 4);
+        for (name, want) in names.iter().zip(["slow", "off", "on", "fast"].iter()) {
+            assert!(rt; name.bytes() == want.as_bytes());
+        }
+        assert!(rt; scene.agent(AgentId(1)).tree.is_empty());
+        assert!(rt; scene.agent(AgentId(1)).state_names.as_slice().is_empty());
+    } else {
+        assert!(rt; false);
+    }
+}
+
+/// The state of each row, and what it does.
+static EFFECTS: [(u32, RowKind); 6] = [
+    (2, RowKind::Switch(StateId(3))),
+    (1, RowKind::Run),
+    (4, RowKind::Transfer(StateId(0))),
+    (0, RowKind::Suppress),
+    (0, RowKind::Run),
+    (0, RowKind::Dead),
+];
+
+#[test]
+fn rows_belong_to_their_state(rt: HostRuntime) {
+    let scene = scene(&rt, rt.alloc(), LAMP);
+    if scene.agents() == 2 {
+        let rows = scene.agent(AgentId(0)).rows.as_slice();
+        assert!(rt; rows.len() == 6);
+        for (row, want) in rows.iter().zip(EFFECTS.iter()) {
+            assert!(rt; row.state.0 == want.0 && row.kind == want.1);
+            assert!(rt; row.active && !row.safe);
+        }
+    } else {
+        assert!(rt; false);
+    }
+}
+
+/// A line of this text without operands.
+fn line(text: u32) -> Instr {
+    Instr::Log {
+        text: TextId(text),
+        args: args([ZERO, ZERO, ZERO, ZERO], 0),
+    }
+}
+
+#[test]
+fn bodies_of_states_stand_before_those_of_rows(rt: HostRuntime) {
+    let scene = scene(&rt, rt.alloc(), LAMP);
+    let bodies = [
+        Body::Start,
+        Body::Finish,
+        Body::Enter(StateId(1)),
+        Body::Exit(StateId(1)),
+        Body::Enter(StateId(2)),
+        Body::Exit(StateId(2)),
+        Body::Enter(StateId(3)),
+        Body::Exit(StateId(3)),
+        Body::Enter(StateId(4)),
+        Body::Exit(StateId(4)),
+        Body::Row(RowId(1)),
+        Body::Row(RowId(4)),
+        Body::Row(RowId(5)),
+    ];
+    let acts = [
+        (0, Instr::Switch { to: StateId(2) }),
+        (6, line(0)),
+        (7, line(1)),
+        (
+            7,
+            Instr::Set {
+                to: Dest::Var(0),
+                a: Operand::Num(1),
+            },
+        ),
+        (9, Instr::Stop),
+        (10, Instr::Switch { to: StateId(4) }),
+        (10, Instr::Switch { to: StateId(0) }),
+        (12, line(1)),
+    ];
+    if scene.agents() == 2 {
+        let code = scene.agent(AgentId(0)).code.instrs();
+        assert_eq!(rt; code.len(), bodies.len() + acts.len());
+        let mut body = 0;
+        let mut act = 0;
+        for instr in code {
+            match instr {
+                Instr::End { body: ended } => {
+                    assert!(rt; bodies.get(body) == Some(ended));
+                    body += 1;
+                }
+                other => {
+                    match acts.get(act) {
+                        Some((at, want)) => assert!(rt; *at == body && want == other),
+                        None => assert!(rt; false),
+                    }
+                    act += 1;
+                }
+            }
+        }
+        assert!(rt; scene.text(TextId(0)) == b"in".as_slice());
+    } else {
+        assert!(rt; false);
+    }
+}
+
+/// Fields of two agents, and the fault of the scene: agent by agent, and of an agent first its tree.
+#[test]
+fn the_tree_is_tried_before_the_code(rt: HostRuntime) -> Result<(), Fail> {
+    let long = "\"start\":[";
+    let cycle = "\"states\":[{\"name\":\"s\",\"parent\":\"s\"}],";
+    for (first, second, line) in [
+        (cycle, "", "cycle_of_parents at /coops/0/agents/0/states/0"),
+        ("", cycle, "out_of_range at /coops/0/agents/0"),
+    ] {
+        let mut text = String::new(rt.alloc());
+        text.push_str(
+            "{\"version\":1,\"messages\":[{\"name\":\"x\"},{\"name\":\"y\"}],\"coops\":[{\"name\":\"c\",\"agents\":[{\"name\":\"a\",",
+        )?;
+        text.push_str(first)?;
+        text.push_str(long)?;
+        for next in [
+            "],\"finish\":[",
+            "],\"on\":[{\"msg\":\"x\",\"do\":[",
+            "]},{\"msg\":\"y\",\"do\":[",
+            "]}]},{",
+        ] {
+            for _ in 0..255 {
+                text.push_str("[\"stop\"],")?;
+            }
+            text.push_str("[\"stop\"]")?;
+            text.push_str(next)?;
+        }
+        text.push_str(second)?;
+        text.push_str("\"name\":\"b\"}]}]}")?;
+        assert!(rt; has_fault(rt.alloc(), text.as_bytes(), line));
+    }
+    Ok(())
 }

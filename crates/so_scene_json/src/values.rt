@@ -1,12 +1,13 @@
 //! What a value stands for, or what is wrong with it.
 
-ghost use Rattle.std.specs.Prelude.{◌≡◌, ◌≤◌, IfOk};
+ghost use Rattle.std.specs.Prelude.{◌≡◌, ◌≤◌, IfOk, option_map};
 ghost use Rattle.serde_json.specs.View.{view};
-ghost use Rattle.so_scene_json.specs.Values.{integer_of, small_number, numbered, operand_named, operand_of, dest_named, dest_of, cmp_named, cmp_of, name_of, text_of, count_of, number_of, flag_of, only_true, string_in, name_in, id_in, Views};
+ghost use Rattle.so_scene_json.specs.Values.{integer_of, small_number, numbered, operand_named, operand_of, dest_named, dest_of, cmp_named, cmp_of, name_of, text_of, count_of, number_of, flag_of, only_true, read_or, history_named, history_of, string_in, name_in, id_in, Views};
 
 use serde_json::Value;
 use so_code::{Cmp, Dest, Operand};
 use so_scene::{Name, is_name, is_text};
+use so_state::History;
 
 /// What is wrong with a value whose place is known elsewhere.
 #[derive(Clone, Copy, Debug, PartialEq, Eq)]
@@ -202,6 +203,19 @@ pub(crate) fn flag(value: &Value) -> Result<bool, Trouble>
     value.as_bool().ok_or(Trouble::WrongShape)
 }
 
+/// The flag of a field, this one where it has none.
+pub(crate) fn flag_or(default: bool, found: Option<&Value>) -> bool
+    ensures { result ≡ read_or default flag_of (option_map (λ v. view v.now) found.entry) }
+{
+    match found {
+        Some(value) => match flag(value) {
+            Ok(flag) => flag,
+            Err(_) => default,
+        },
+        None => default,
+    }
+}
+
 /// `true`.
 pub(crate) fn only_true(value: &Value) -> Result<bool, Trouble>
     ensures { result ≡ only_true (view value.now) }
@@ -210,6 +224,27 @@ pub(crate) fn only_true(value: &Value) -> Result<bool, Trouble>
         Ok(true)
     } else {
         Err(Trouble::WrongShape)
+    }
+}
+
+fn history_by_name(text: &str) -> Option<History>
+    ensures { result ≡ history_named text.now }
+{
+    match text {
+        "none" => Some(History::None),
+        "shallow" => Some(History::Shallow),
+        "deep" => Some(History::Deep),
+        _ => None,
+    }
+}
+
+/// The history of a state.
+pub(crate) fn history(value: &Value) -> Result<History, Trouble>
+    ensures { result ≡ history_of (view value.now) }
+{
+    match value.as_str() {
+        Some(text) => history_by_name(text).ok_or(Trouble::WrongShape),
+        None => Err(Trouble::WrongShape),
     }
 }
 

@@ -39,7 +39,7 @@ pub(crate) trait Pass {
         place: &ScenePlace,
         value: &Value,
     ) -> Result<(), SceneRefusal>
-        requires { length place.now < 16 }
+        requires { length place.now < 15 }
         ensures { LeavesIf lack (step self.old (enters kind place.now (view value.now))) result self.new };
 
     fn field(

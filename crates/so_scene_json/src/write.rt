@@ -9,10 +9,10 @@ ghost use Rattle.so_scene.specs.Names.{number_in};
 ghost use Rattle.so_scene.specs.Words.{is_text};
 ghost use Rattle.so_scene_json.specs.Twice.{names_in};
 ghost use Rattle.so_scene_json.specs.Visits.{narrow, Leaves};
-ghost use Rattle.so_scene_json.specs.Writer.{operand_at, dest_at, cmp_at, count_at, string_at, text_at, args_from, send_instr, send_at, row_at, filter_at, or_idle, step_instr, word_instr, with_text, text_number, with_instr, word_written, act_written, acts_written};
+ghost use Rattle.so_scene_json.specs.Writer.{operand_at, dest_at, cmp_at, count_at, string_at, text_at, args_from, send_instr, send_at, state_at, row_at, filter_at, or_idle, step_instr, word_instr, with_text, text_number, with_instr, word_written, act_written, acts_written};
 ghost use Rattle.so_scene_json.specs.Reads.{LeavesWith};
 
-use crate::act_table::Word;
+use crate::act_table::{Allowed, Word, is_allowed};
 use crate::acts::parts;
 use crate::declare::Declared;
 use crate::scope::{Scope, number_with};
@@ -21,10 +21,10 @@ use crate::values::{comparison, count, dest, operand};
 use crate::walk::position;
 use serde_json::Value;
 use so_code::{Args, Cmp, Dest, Instr, Operand};
-use so_ids::{FilterId, MboxId, MsgId, RowId, Target, TextId};
+use so_ids::{FilterId, MboxId, MsgId, RowId, StateId, Target, TextId};
 use so_scene::{Items, Names, SceneRefusal, is_text};
 
-/// The texts so far, and the instructions of an agent so far with the ids that they may name.
+/// The texts so far, and the instructions of an agent so far with the names and ids that they may use.
 #[derive(Drop)]
 pub(crate) struct Writer {
     pub(crate) texts: Names,
@@ -156,6 +156,16 @@ fn send(names: &Declared, list: &[Value]) -> Instr
     )
 }
 
+/// The state that an act names.
+fn state(scope: &Scope, list: &[Value]) -> Option<StateId>
+    ensures { result ≡ state_at scope.now (items_view list.now) }
+{
+    match scope.state(string_in(list, 0)) {
+        Some(k) => Some(StateId(position(k))),
+        None => None,
+    }
+}
+
 /// The row that an act names.
 fn row(scope: &Scope, list: &[Value]) -> Option<RowId>
     ensures { result ≡ row_at scope.now (items_view list.now) }
@@ -173,6 +183,15 @@ fn filter(scope: &Scope, list: &[Value]) -> Option<FilterId>
     match number_with(scope.filters.as_slice(), string_in(list, 0)) {
         Some(k) => Some(FilterId(position(k))),
         None => None,
+    }
+}
+
+fn switch(state: Option<StateId>) -> Instr
+    ensures { result ≡ or_idle instr.Switch state }
+{
+    match state {
+        Some(to) => Instr::Switch { to },
+        None => Instr::Skip { count: 0 },
     }
 }
 
@@ -269,6 +288,7 @@ fn instr(
             args: args_in(list, 1),
         },
         Word::Send => send(names, list),
+        Word::Switch => switch(state(scope, list)),
         Word::Subscribe => subscribe(row(scope, list)),
         Word::Unsubscribe => unsubscribe(row(scope, list)),
         Word::SetFilter => set_filter(filter(scope, list)),
@@ -334,21 +354,36 @@ impl Writer {
         }
     }
 
-    fn act(&mut self, names: &Declared, rest: usize, value: &Value) -> Result<(), SceneRefusal>
-        ensures { Leaves (Ok (act_written names.now rest self.old (view value.now))) result self.new }
+    fn act(
+        &mut self,
+        names: &Declared,
+        allowed: Allowed,
+        rest: usize,
+        value: &Value,
+    ) -> Result<(), SceneRefusal>
+        ensures { Leaves (Ok (act_written names.now allowed rest self.old (view value.now))) result self.new }
     {
         match parts(value) {
-            Some((word, list)) => self.word(names, rest, word, list),
+            Some((word, list)) => if is_allowed(allowed, word) {
+                self.word(names, rest, word, list)
+            } else {
+                self.push(Instr::Skip { count: 0 })
+            },
             None => self.push(Instr::Skip { count: 0 }),
         }
     }
 
-    /// Writes a list of acts.
-    pub(crate) fn acts(&mut self, names: &Declared, list: &[Value]) -> Result<(), SceneRefusal>
-        ensures { Leaves (Ok (acts_written names.now self.old (items_view list.now))) result self.new }
+    /// Writes a list of acts, of those that are allowed there.
+    pub(crate) fn acts(
+        &mut self,
+        names: &Declared,
+        allowed: Allowed,
+        list: &[Value],
+    ) -> Result<(), SceneRefusal>
+        ensures { Leaves (Ok (acts_written names.now allowed self.old (items_view list.now))) result self.new }
     {
         for (i, act) in list.iter().enumerate() {
-            self.act(names, list.len() - i - 1, act)?;
+            self.act(names, allowed, list.len() - i - 1, act)?;
         }
         Ok(())
     }
