@@ -571,11 +571,11 @@ states_are k (suc n) l =
     ∙ ap (λ (bs : List Body). body.Enter (record { 0 = k }) ∷ body.Exit (record { 0 = k }) ∷ bs) (states_are (suc k) n (omega arith) ∙ ap (state_bodies n) (plus_one k))
 
 -- the numbers of the rows that have a handler
-pub one_number : Bool → ℕ → List RowId → List RowId
+unfoldable pub one_number : Bool → ℕ → List RowId → List RowId
 one_number true k rows = row_number k ∷ rows
 one_number false k rows = rows
 
-pub handled : ℕ → Items → List RowId
+unfoldable pub handled : ℕ → Items → List RowId
 handled k no_items = []
 handled k (item d ds) = one_number (is_some (get (codes "do") d)) k (handled (suc k) ds)
 

@@ -1,8 +1,10 @@
 use Rattle.std.proofs.lemmas.Result.{err_from_is_err_and}
-use Rattle.std.specs.Prelude.{Err}
+use Rattle.std.specs.Prelude.{ℕ, List, Err}
 use Rattle.so_scene.specs.declared.fault.SceneRefusal.{SceneRefusal}
 use Rattle.so_scene.specs.declared.fault.SceneRefusal.TheVariants.{Fault, NoMemory}
+use Rattle.so_scene.specs.declared.parts.SceneParts.{SceneParts}
 use Rattle.so_scene_json.specs.Reads.{Returns}
+use Rattle.so_scene_json.specs.Scene.{parts_of}
 use Rattle.so_scene_json.proofs.Built.{is_parts, is_checked}
 use Rattle.so_scene_json.proofs.finish.parts_of.Goals as goal
 
@@ -13,8 +15,8 @@ fails_too x y (Fault f) h = absurd h
 
 pub returns-in_err-texts-clause-parts : goal.returns-in_err-texts-clause-parts
 returns-in_err-texts-clause-parts c =
-    let p = err_from_is_err_and c.from_residual.result c.from_residual.ensures.1 in
-    rw (p.1, p.2) (fails_too _ _ c.in_err-texts.field-0.0 c.in_err-texts.ensures.texts)
+    let p = err_from_is_err_and c.from_residual-in_err-texts.result c.from_residual-in_err-texts.ensures.1 in
+    rw (p.1, p.2) (fails_too {S = List (List ℕ)} {T = SceneParts} c.args.build.texts (parts_of c.args.name c.args.build) c.in_err-texts.field-0.0 c.in_err-texts.ensures.texts)
 
 pub returns : goal.returns
 returns c = record {

@@ -36,7 +36,7 @@ leaves_as : (a b : Result Build SceneFault) (r : Result (Unit {0}) SceneRefusal)
 leaves_as a b r n e h = subst (λ q. Leaves q r n) (sym e) h
 
 pub tree_of-requires-clause-few : goal.tree_of-requires-clause-few
-tree_of-requires-clause-few c = few_states (view c.args.value.now) _ _ _ _ c.requires.few c.list.ensures c.get.ensures c.in_ok-states.ensures
+tree_of-requires-clause-few c = few_states (view c.args.value.now) c.in_ok-scope.scope _ _ _ c.requires.few c.list.ensures c.get.ensures c.in_ok-states.ensures
 
 pub returns : goal.returns
 returns c =
