@@ -1,5 +1,5 @@
 -- What the four passes leave is what a scene keeps.
-use Rattle.std.proofs.Common.{◌≡◌, ℕ, ◌+◌, ◌-◌, ◌<◌, ◌≤◌, ◌^◌, get_or, List, [], ◌∷◌, ◌++◌, length, map, Bool, true, false, not, ◌&&◌, ◌||◌, Option, Some, None, option_and_then, Result, Ok, Err, refl, sym, ap, ◌∙◌, subst, arith, codes, if◌then◌else◌, nat_le, nat_lt, is_some, length-append, append_assoc, bytes_eq}
+use Rattle.std.proofs.Common.{◌≡◌, ℕ, suc, ◌+◌, ◌-◌, ◌<◌, ◌≤◌, ◌^◌, get_or, List, [], ◌∷◌, ◌++◌, length, map, Bool, true, false, not, ◌&&◌, ◌||◌, Option, Some, None, option_and_then, Result, Ok, Err, refl, sym, ap, ◌∙◌, subst, arith, codes, if◌then◌else◌, nat_le, nat_lt, is_some, length-append, append_assoc, bytes_eq}
 use Rattle.std.proofs.Math.Nat.{min-le_left}
 use Rattle.std.proofs.lemmas.Bool.{true≢false, leb-true, ltb-false}
 use Rattle.std.proofs.lemmas.List.{map_push}
@@ -13,12 +13,21 @@ use Rattle.so_code.specs.Shape.{agent_bodies}
 use Rattle.so_lists.specs.Lists.{is_empty}
 use Rattle.so_lists.proofs.Filters.{each-append, each-weaker}
 use Rattle.so_lists.proofs.First.{none-first_below}
-use Rattle.so_scene.specs.Checked.{IsAgent, IsCoop, IsScene, IsHandler, given, row_numbers, filter_ids, filter_id}
+use Rattle.so_scene.specs.Checked.{IsAgent, IsCoop, IsScene, IsKind, HasNoLimit, has_handler, handlers_from, row_number, given, filter_ids, filter_id}
+use Rattle.so_code.specs.declared.instr.Instr.{Instr}
+use Rattle.so_ids.specs.declared.RowId.{RowId}
+use Rattle.so_ids.specs.declared.StateId.{StateId}
+use Rattle.so_state.specs.declared.choice.RowKind.TheVariants.{Switch, Transfer, Suppress}
+use Rattle.so_state.specs.declared.faults.TreeFault.{TreeFault}
+use Rattle.so_state.specs.declared.states.State.{State}
+use Rattle.so_state.specs.Fault.{tree_fault}
+use Rattle.so_state.specs.States.{default_state}
 use Rattle.so_scene.specs.Names.{has_name, number_in}
 use Rattle.so_scene.specs.Parts.{message_name, agent_name}
 use Rattle.so_scene.specs.Words.{is_name, is_name_byte, is_text, is_text_byte}
 use Rattle.so_scene.proofs.Positions.{absent_any, added_distinct, no_names as no_distinct}
 use Rattle.so_scene.specs.declared.fault.SceneFault.{SceneFault}
+use Rattle.so_scene.specs.declared.fault.SceneFault.TheVariants as fault
 use Rattle.so_scene.specs.declared.parts.AgentDef.{AgentDef}
 use Rattle.so_scene.specs.declared.parts.CoopDef.{CoopDef}
 use Rattle.so_scene.specs.declared.parts.SceneParts.{SceneParts}
@@ -33,19 +42,18 @@ use Rattle.so_scene_json.specs.declared.table.ObjectKind.TheVariants as object
 use Rattle.so_scene_json.specs.declared.table.Space.TheVariants as space
 use Rattle.so_scene_json.specs.declared.values.Trouble.{Trouble}
 use Rattle.so_scene_json.specs.declared.values.Trouble.TheVariants.{WrongShape, OutOfRange}
-use Rattle.so_scene_json.specs.Values.{name_in, name_of, string_in, id_in, text_or_empty, integer_of, natural_up_to, from_low, number_of, checked, flag_of, ◌then◌, ◌else◌}
+use Rattle.so_scene_json.specs.Values.{name_in, name_of, string_in, id_in, text_or_empty, integer_of, natural_up_to, from_low, number_of, checked, flag_of, read_or, ◌then◌, ◌else◌}
 use Rattle.so_scene_json.specs.Visits.{Visit, enters, tries, leaves, Place, run, ◌>>=◌, narrow, listed, list_of}
 use Rattle.so_scene_json.specs.Shape.{shape_step}
-use Rattle.so_scene_json.specs.Scope.{ids_of, row_items, filter_items, scope_of}
+use Rattle.so_scene_json.specs.Scope.{ids_of, state_items, row_items, filter_items, scope_of, state_number}
 use Rattle.so_scene_json.specs.Twice.{twice_step, no_names, names_in, with_name, entering, declared_name, with_mbox_read, with_mboxes, with_field}
 use Rattle.so_scene_json.specs.Known.{known_step, knows}
-use Rattle.so_scene_json.specs.Writer.{read_or}
-use Rattle.so_scene_json.specs.Defs.{message_of, row_of, rows_of, mbox_in, kind_of, number_named, narrow_or_zero, filter_of, field_in}
-use Rattle.so_scene_json.specs.Build.{build_step, no_parts, with_message, with_coop, agent_of, agent_written, fresh, written}
+use Rattle.so_scene_json.specs.Defs.{message_of, state_named, state_in, state_of, states_of, row_of, rows_of, mbox_in, handler_kind, kind_of, number_named, narrow_or_zero, filter_of, filters_of, field_in}
+use Rattle.so_scene_json.specs.Build.{build_step, no_parts, with_message, with_coop, is_long, unless_broken, tree_of, with_tree, with_code, with_agent, agent_with, agent_of, agent_written, fresh, written}
 use Rattle.so_scene_json.specs.Scene.{fields, no_state, exceeds, fault_of, first_fault, is_refused, coop_of, parts_of}
 use Rattle.so_scene_json.specs.Kept.{IsBuiltRow, IsBuiltFilter, IsBuiltAgent, named_among, IsBuilt, IsChecked}
-use Rattle.so_scene_json.proofs.Codes.{HasFewIds, Grows, allows, names_grow, agent_is_written, agent_grows, agent_scope, agent_texts, OnOk, read_fine, then_fine, natural_fine}
-use Rattle.so_scene_json.proofs.Ends.{all_of, length_map}
+use Rattle.so_scene_json.proofs.Codes.{HasFewIds, Grows, IsWritten, allows, names_grow, state_below, one_number, handled, is_short, agent_is_written, agent_grows, agent_scope, agent_texts, OnOk, read_fine, then_fine, natural_fine}
+use Rattle.so_scene_json.proofs.Ends.{all_of, length_map, length_listed}
 use Rattle.so_scene_json.proofs.Passed.{ok, ok_same, swapped, HasRow, HasFilter, IsFineAgent, EntersFine, passed_all, scene_fine, total, is_message, mboxes_in_field, mboxes_named, few_messages, few_mboxes}
 
 -- ---- what each step keeps, the whole run keeps
@@ -158,6 +166,13 @@ record SameNames (s t : Declared) : Type 0 where
 same_names : (s t : Declared) → s ≡ t → SameNames s t
 same_names s t e = record { messages = ap (λ (x : Declared). x.messages) (sym e); agents = ap (λ (x : Declared). x.agents) (sym e); mboxes = ap (λ (x : Declared). x.mboxes) (sym e) }
 
+state_names : (place : Place) (o : Option (List ℕ)) (s t : Declared) → declared_name place space.States o s ≡ Ok t → SameNames s t
+state_names place None s t e = same_names s t (ok_same s t e)
+state_names place (Some name) s t e =
+    let p = if_ok (has_name s.states name) _ (with_name space.States name s) t e in
+    let q = same_names (with_name space.States name s) t p.1 in
+    record { messages = q.messages; agents = q.agents; mboxes = q.mboxes }
+
 row_names : (place : Place) (o : Option (List ℕ)) (s t : Declared) → declared_name place space.Rows o s ≡ Ok t → SameNames s t
 row_names place None s t e = same_names s t (ok_same s t e)
 row_names place (Some name) s t e =
@@ -189,6 +204,7 @@ distinct_step s t (enters object.Coop place d) q k e =
 distinct_step s t (enters object.Agent place d) q k e =
     let p = if_ok (has_name (s.agents ++ s.mboxes) (name_in d)) _ (with_name space.Mboxes (name_in d) (entering object.Agent d s)) t e in
     subst AreDistinct p.1 (record { messages = k.messages; mboxes = insert_distinct s.agents s.mboxes (name_in d) k.mboxes (absent_any (s.agents ++ s.mboxes) (name_in d) p.0); named = k.named })
+distinct_step s t (enters object.State place d) q k e = distinct_same s t (state_names place (Some (name_in d)) s t e) k
 distinct_step s t (enters object.Row place d) q k e = distinct_same s t (row_names place (id_in d) s t e) k
 distinct_step s t (enters object.Filter place d) q k e = distinct_same s t (filter_names place (id_in d) s t e) k
 distinct_step s t (enters other place d) q k e = subst AreDistinct (ok_same s t e) k
@@ -201,15 +217,40 @@ record HaveNames (s : Declared) (b : Build) : Type 0 where
   messages : map message_name b.messages ≡ s.messages
   agents : map agent_name b.agents ≡ s.agents
 
-agent_ok : (b : Bool) (x : SceneFault) (n : ℕ) (s t : Build) → nat_lt 1024 n ≡ b → (if b then Err x else ok s) ≡ Ok t → (n ≤ 1024) × (s ≡ t)
-agent_ok true x n s t l e = absurd cc
-agent_ok false x n s t l e = (ltb-false 1024 n l, ok_same s t e)
+tree_in : Data → List State
+tree_in d = states_of (scope_of d) (state_items d)
 
 agent_made : Build → Data → AgentDef
-agent_made b d = agent_of (length b.agents) b.names d (written b d)
+agent_made b d = agent_of (length b.agents) b.names d (tree_in d) (written b d)
 
 agent_added : Build → Data → Build
 agent_added b d = record b { agents = b.agents ++ agent_made b d ∷ []; texts = (written b d).texts }
+
+-- what is known of an agent that the fourth pass adds
+record IsAdded (d : Data) (s t : Build) : Type 0 where
+  short : is_long d ≡ false
+  sound : tree_fault (tree_in d) ≡ None
+  few : length (written s d).code ≤ 1024
+  same : agent_added s d ≡ t
+
+code_ok : (b : Bool) (x : SceneFault) (n : ℕ) (s t : Build) → nat_lt 1024 n ≡ b → (if b then Err x else ok s) ≡ Ok t → (n ≤ 1024) × (s ≡ t)
+code_ok true x n s t l e = absurd cc
+code_ok false x n s t l e = (ltb-false 1024 n l, ok_same s t e)
+
+tree_ok : (place : Place) (s t : Build) (d : Data) (o : Option TreeFault) → is_long d ≡ false → tree_fault (tree_in d) ≡ o → (unless_broken place (tree_in d) o >>= λ tree. with_code place s d tree (written s d)) ≡ Ok t → IsAdded d s t
+unfolding agent_added agent_made
+tree_ok place s t d None short f e =
+    let p = code_ok (nat_lt 1024 (length (written s d).code)) _ (length (written s d).code) (agent_added s d) t refl e in
+    record { short = short; sound = f; few = p.0; same = p.1 }
+tree_ok place s t d (Some x) short f e = absurd cc
+
+long_ok : (place : Place) (s t : Build) (d : Data) (b : Bool) → is_long d ≡ b → (if b then Err (fault.OutOfRange place) else with_tree place s d) ≡ Ok t → IsAdded d s t
+unfolding tree_in
+long_ok place s t d true l e = absurd cc
+long_ok place s t d false l e = tree_ok place s t d (tree_fault (tree_in d)) l refl e
+
+agent_ok : (place : Place) (s t : Build) (d : Data) → with_agent place s d ≡ Ok t → IsAdded d s t
+agent_ok place s t d e = long_ok place s t d (is_long d) refl e
 
 -- mboxes that are named leave agents and messages as they are
 record SameAgents (s t : Declared) : Type 0 where
@@ -251,9 +292,12 @@ names_step s u b c (enters object.Coop place d) k e f =
     (record { messages = k.messages; agents = k.agents }))
 names_step s u b c (enters object.Agent place d) k e f =
     let p = if_ok (has_name (s.agents ++ s.mboxes) (name_in d)) _ (with_name space.Mboxes (name_in d) (entering object.Agent d s)) u e in
-    let q = agent_ok (nat_lt 1024 (length (written b d).code)) _ (length (written b d).code) (agent_added b d) c refl f in
-    subst (λ y. HaveNames u y) q.1 (subst (λ x. HaveNames x (agent_added b d)) p.1
+    let q = agent_ok place b c d f in
+    subst (λ y. HaveNames u y) q.same (subst (λ x. HaveNames x (agent_added b d)) p.1
     (record { messages = k.messages; agents = map_push agent_name b.agents (agent_made b d) ∙ ap (λ l. l ++ name_in d ∷ []) k.agents }))
+names_step s u b c (enters object.State place d) k e f =
+    let q = state_names place (Some (name_in d)) s u e in
+    subst (λ y. HaveNames u y) (ok_same b c f) (have_same s u b q.messages q.agents k)
 names_step s u b c (enters object.Row place d) k e f =
     let q = row_names place (id_in d) s u e in
     subst (λ y. HaveNames u y) (ok_same b c f) (have_same s u b q.messages q.agents k)
@@ -280,10 +324,6 @@ short false s e = omega arith
 short_name : (d : Data) → length (name_in d) ≤ 32
 short_name d = short (is_name (string_in (codes "name") d)) (string_in (codes "name") d) refl
 
-length_listed : (ds : Items) → length (listed ds) ≡ items_len ds
-length_listed no_items = refl
-length_listed (item d ds) = omega (arith, length_listed ds)
-
 each_map : {X Y : Type 0} (P : X → Type 0) (Q : Y → Type 0) (f : X → Y) → ((x : X) → P x → Q (f x)) → (xs : List X) → AllByRecursion P xs → AllByRecursion Q (map f xs)
 each_map P Q f h [] a = tt
 each_map P Q f h (x ∷ xs) a = (h x a.0, each_map P Q f h xs a.1)
@@ -307,19 +347,89 @@ unfolding own_mbox
 own_or_named a names d true e l h = mbox_in_range names d (h.mbox e)
 own_or_named a names d false e l h = omega (arith, l, min-le_left a (2 ^ 32 - 1))
 
-handler : (b : Bool) → IsHandler (kind_of b)
-handler true = tt
-handler false = tt
+-- ---- states
 
-built_row : (a : ℕ) (names : Declared) → a < length names.agents → (d : Data) → HasRow names d → IsBuiltRow (length names.agents + length names.mboxes) (length names.messages) (row_of a names d)
+in_states : (scope : Scope) (name : List ℕ) (o : Option ℕ) → state_number scope name ≡ o → narrow_or_zero o ≤ length scope.states
+in_states scope name None e = omega arith
+in_states scope name (Some k) e = state_below scope name k e
+
+in_named : (scope : Scope) (o : Option (List ℕ)) → state_named scope o ≤ length scope.states
+in_named scope None = omega arith
+in_named scope (Some name) = in_states scope name (state_number scope name) refl
+
+state_in_range : (scope : Scope) (key : List ℕ) (d : Data) → (state_in scope key d).0 ≤ length scope.states
+state_in_range scope key d = in_named scope (option_and_then as_str (get key d))
+
+no_state_named : (scope : Scope) (o : Option Data) → is_some o ≡ false → state_named scope (option_and_then as_str o) ≡ 0
+no_state_named scope None e = refl
+no_state_named scope (Some d) e = absurd (true≢false e)
+
+state_zero : ℕ → StateId
+state_zero n = record { 0 = n }
+
+given_flag : (o : Option Data) → read_or false flag_of o ≡ true → is_some o ≡ true
+given_flag None e = absurd (true≢false (sym e))
+given_flag (Some d) e = refl
+
+no_limits_in : (scope : Scope) (ds : List Data) → AllByRecursion HasNoLimit (map (state_of scope) ds)
+no_limits_in scope [] = tt
+no_limits_in scope (d ∷ ds) = (refl, no_limits_in scope ds)
+
+length_tree : (d : Data) → length (tree_in d) ≡ items_len (state_items d)
+unfolding tree_in
+length_tree d = omega (arith, length_map (state_of (scope_of d)) (listed (state_items d)), length_listed (state_items d))
+
+length_states : (d : Data) → length (scope_of d).states ≡ items_len (state_items d)
+length_states d = omega (arith, length_map name_in (listed (state_items d)), length_listed (state_items d))
+
+-- ---- rows
+
+kind_if : (states : ℕ) (s x y : StateId) (does dead switches transfers : Bool) → (dead ≡ true → s ≡ default_state) → x.0 ≤ states → y.0 ≤ states
+    → IsKind states s (if does then handler_kind dead else (if switches then Switch x else (if transfers then Transfer y else Suppress)))
+kind_if states s x y true true switches transfers h l m = h refl
+kind_if states s x y true false switches transfers h l m = tt
+kind_if states s x y false dead true transfers h l m = l
+kind_if states s x y false dead false true h l m = m
+kind_if states s x y false dead false false h l m = tt
+
+stateless : (names : Declared) (scope : Scope) (d : Data) → HasRow names d → read_or false flag_of (get (codes "dead") d) ≡ true → state_in scope (codes "state") d ≡ default_state
+unfolding state_zero
+stateless names scope d h e = ap state_zero (no_state_named scope (get (codes "state") d) (h.stateless (given_flag (get (codes "dead") d) e)))
+
+built_row : (a states : ℕ) (names : Declared) (scope : Scope) → a < length names.agents → length scope.states ≡ states → (d : Data) → HasRow names d → IsBuiltRow (length names.agents + length names.mboxes) (length names.messages) states (row_of a names scope d)
 unfolding own_mbox
-built_row a names l d h = record {
+built_row a states names scope l same d h = record {
   mbox = own_or_named a names d (is_some (get (codes "mbox") d)) refl l h;
   msg = msg_in_range names d h.msg;
-  state = refl;
-  kind = handler (read_or false flag_of (get (codes "dead") d));
+  state = omega (arith, same, state_in_range scope (codes "state") d);
+  kind = kind_if states (state_in scope (codes "state") d) (state_in scope (codes "switch") d) (state_in scope (codes "transfer") d)
+      (is_some (get (codes "do") d)) (read_or false flag_of (get (codes "dead") d)) (is_some (get (codes "switch") d)) (is_some (get (codes "transfer") d))
+      (stateless names scope d h) (omega (arith, same, state_in_range scope (codes "switch") d)) (omega (arith, same, state_in_range scope (codes "transfer") d));
   not_safe = refl;
 }
+
+-- the rows with a handler are those with `do`
+handles_if : (x y : StateId) (does dead switches transfers : Bool) → has_handler (if does then handler_kind dead else (if switches then Switch x else (if transfers then Transfer y else Suppress))) ≡ does
+handles_if x y true true switches transfers = refl
+handles_if x y true false switches transfers = refl
+handles_if x y false dead true transfers = refl
+handles_if x y false dead false true = refl
+handles_if x y false dead false false = refl
+
+handles : (scope : Scope) (d : Data) → has_handler (kind_of scope d) ≡ is_some (get (codes "do") d)
+handles scope d = handles_if (state_in scope (codes "switch") d) (state_in scope (codes "transfer") d) (is_some (get (codes "do") d)) (read_or false flag_of (get (codes "dead") d)) (is_some (get (codes "switch") d)) (is_some (get (codes "transfer") d))
+
+one_handled : (b : Bool) (k : ℕ) (rows other : List RowId) → rows ≡ other → one_number b k rows ≡ (if b then row_number k ∷ other else other)
+unfolding one_number
+one_handled true k rows other e = ap (λ r. row_number k ∷ r) e
+one_handled false k rows other e = e
+
+all_handled : (a : ℕ) (names : Declared) (scope : Scope) (k : ℕ) (ds : Items) → handled k ds ≡ handlers_from k (rows_of a names scope ds)
+unfolding handled
+all_handled a names scope k no_items = refl
+all_handled a names scope k (item d ds) =
+    one_handled (is_some (get (codes "do") d)) k (handled (suc k) ds) (handlers_from (suc k) (rows_of a names scope ds)) (all_handled a names scope (suc k) ds)
+    ∙ ap (λ (b : Bool). if b then row_number k ∷ handlers_from (suc k) (rows_of a names scope ds) else handlers_from (suc k) (rows_of a names scope ds)) (sym (handles scope d))
 
 low_fine : (b : Bool) (n limit : ℕ) → n ≤ limit → OnOk (λ k. k ≤ limit) (if b then Ok n else Err OutOfRange)
 unfolding OnOk
@@ -349,36 +459,50 @@ few_ids names d fine = record {
   filters = omega (arith, length_map id_in (listed (filter_items d)), length_listed (filter_items d), fine.few_filters);
 }
 
-built_agent : (a : ℕ) (names : Declared) (texts : List (List ℕ)) (d : Data) → a < length names.agents → IsFineAgent names d → length (agent_written names (fresh texts d) d).code ≤ 1024
-    → IsBuiltAgent (length names.agents + length names.mboxes) (length names.messages) (length (agent_written names (fresh texts d) d).texts) (agent_of a names d (agent_written names (fresh texts d) d))
-built_agent a names texts d below fine l =
-    let wrote = agent_is_written names (fresh texts d) d refl l in
-    let scope = agent_scope names (fresh texts d) d in
-    let ids : (agent_written names (fresh texts d) d).scope.rows ≡ ids_of (row_items d) = ap (λ (x : Scope). x.rows) scope in
-    let filters : filter_ids (agent_of a names d (agent_written names (fresh texts d) d)) ≡ ids_of (filter_items d) = ids_of_filters names (listed (filter_items d)) in
-    let count : length (rows_of a names (row_items d)) ≡ items_len (row_items d) = omega (arith, length_map (row_of a names) (listed (row_items d)), length_listed (row_items d)) in
-    let grows : Grows (allows names (scope_of d) (length (agent_written names (fresh texts d) d).texts)) (named_among (length names.agents + length names.mboxes) (length names.messages) (length (agent_written names (fresh texts d) d).texts) (agent_written names (fresh texts d) d).scope.rows (filter_ids (agent_of a names d (agent_written names (fresh texts d) d)))) = record { mboxes = omega arith; messages = refl; texts = omega arith; rows = ids; filters = filters } in
+built_with : (a : ℕ) (names : Declared) (d : Data) (code : List Instr) (texts : ℕ) → a < length names.agents → IsFineAgent names d → is_long d ≡ false → tree_fault (tree_in d) ≡ None → IsWritten names (scope_of d) d code texts
+    → IsBuiltAgent (length names.agents + length names.mboxes) (length names.messages) texts (agent_with a names d (tree_in d) (scope_of d) code)
+unfolding tree_in
+built_with a names d code texts below fine long sound wrote =
+    let short = is_short d long in
+    let filters : map filter_id (filters_of names (filter_items d)) ≡ ids_of (filter_items d) = ids_of_filters names (listed (filter_items d)) in
+    let count : length (rows_of a names (scope_of d) (row_items d)) ≡ items_len (row_items d) = omega (arith, length_map (row_of a names (scope_of d)) (listed (row_items d)), length_listed (row_items d)) in
+    let states : length (scope_of d).states ≡ length (states_of (scope_of d) (state_items d)) = length_states d ∙ sym (length_tree d) in
+    let grows : Grows (allows names (scope_of d) texts) (named_among (length names.agents + length names.mboxes) (length names.messages) texts (length (states_of (scope_of d) (state_items d))) (ids_of (row_items d)) (map filter_id (filters_of names (filter_items d)))) = record { mboxes = omega arith; messages = refl; texts = omega arith; states = sym states; rows = refl; filters = filters } in
     record {
       named = short_name d;
       coop = refl;
       vars = refl;
+      tree = record { few = omega (arith, length_tree d, short.states); sound = sound };
+      no_limits = all_of _ _ (no_limits_in (scope_of d) (listed (state_items d)));
+      state_names = states;
+      each_state_once = fine.state_names;
       few_rows = omega (arith, count, fine.few_rows);
-      rows = all_of _ _ (each_map (HasRow names) (IsBuiltRow (length names.agents + length names.mboxes) (length names.messages)) (row_of a names) (λ x h. built_row a names below x h) (listed (row_items d)) fine.rows);
-      row_ids = ap length ids ∙ (length_map id_in (listed (row_items d)) ∙ sym (length_map (row_of a names) (listed (row_items d))));
-      each_row_id_once = subst (λ i. IsDistinct bytes_eq (given i)) (sym ids) fine.row_ids;
+      rows = all_of _ _ (each_map (HasRow names) (IsBuiltRow (length names.agents + length names.mboxes) (length names.messages) (length (states_of (scope_of d) (state_items d)))) (row_of a names (scope_of d)) (λ x h. built_row a (length (states_of (scope_of d) (state_items d))) names (scope_of d) below states x h) (listed (row_items d)) fine.rows);
+      row_ids = length_map id_in (listed (row_items d)) ∙ sym (length_map (row_of a names (scope_of d)) (listed (row_items d)));
+      each_row_id_once = fine.row_ids;
       few_filters = omega (arith, length_map (filter_of names) (listed (filter_items d)), length_listed (filter_items d), fine.few_filters);
       filters = all_of _ _ (each_map (HasFilter names) (IsBuiltFilter (length names.agents + length names.mboxes) (length names.messages)) (filter_of names) (λ x h. built_filter names x h) (listed (filter_items d)) fine.filters);
       each_filter_id_once = subst (λ i. IsDistinct bytes_eq (given i)) (sym filters) fine.filter_ids;
       code = wrote.code;
-      bodies = wrote.bodies ∙ ap (λ n. agent_bodies 0 (row_numbers n)) (sym count);
+      bodies = wrote.bodies ∙ (ap (λ n. agent_bodies n (handled 0 (row_items d))) (sym (length_tree d)) ∙ ap (agent_bodies (length (states_of (scope_of d) (state_items d)))) (all_handled a names (scope_of d) 0 (row_items d)));
       parts = all_of _ _ (each-weaker _ _ (λ i h. names_grow _ _ i grows h) _ (wrote.named (few_ids names d fine)));
     }
+
+built_agent : (a : ℕ) (names : Declared) (texts : List (List ℕ)) (d : Data) → a < length names.agents → IsFineAgent names d → is_long d ≡ false → tree_fault (tree_in d) ≡ None → length (agent_written names (fresh texts d) d).code ≤ 1024
+    → IsBuiltAgent (length names.agents + length names.mboxes) (length names.messages) (length (agent_written names (fresh texts d) d).texts) (agent_of a names d (tree_in d) (agent_written names (fresh texts d) d))
+built_agent a names texts d below fine long sound l =
+    subst (λ x. IsBuiltAgent (length names.agents + length names.mboxes) (length names.messages) (length (agent_written names (fresh texts d) d).texts) (agent_with a names d (tree_in d) x (agent_written names (fresh texts d) d).code)) (sym (agent_scope names (fresh texts d) d))
+    (built_with a names d _ _ below fine long sound (agent_is_written names (fresh texts d) d (is_short d long) refl l))
 
 grown : (mboxes messages t u : ℕ) (a : AgentDef) → t ≤ u → IsBuiltAgent mboxes messages t a → IsBuiltAgent mboxes messages u a
 grown mboxes messages t u a l h = record {
   named = h.named;
   coop = h.coop;
   vars = h.vars;
+  tree = h.tree;
+  no_limits = h.no_limits;
+  state_names = h.state_names;
+  each_state_once = h.each_state_once;
   few_rows = h.few_rows;
   rows = h.rows;
   row_ids = h.row_ids;
@@ -388,7 +512,7 @@ grown mboxes messages t u a l h = record {
   each_filter_id_once = h.each_filter_id_once;
   code = h.code;
   bodies = h.bodies;
-  parts = λ i d k. names_grow (named_among mboxes messages t a.row_ids (filter_ids a)) (named_among mboxes messages u a.row_ids (filter_ids a)) (get_or a.code i d) (record { mboxes = omega arith; messages = refl; texts = l; rows = refl; filters = refl }) (h.parts i d k);
+  parts = λ i d k. names_grow (named_among mboxes messages t (length a.tree) a.row_ids (filter_ids a)) (named_among mboxes messages u (length a.tree) a.row_ids (filter_ids a)) (get_or a.code i d) (record { mboxes = omega arith; messages = refl; texts = l; states = refl; rows = refl; filters = refl }) (h.parts i d k);
 }
 
 -- ---- the fourth pass
@@ -399,15 +523,15 @@ record AreKept (names : Declared) (s : Build) : Type 0 where
   agents : length s.agents ≤ length names.agents → AllByRecursion (IsBuiltAgent (length names.agents + length names.mboxes) (length names.messages) (length s.texts)) s.agents
   texts : AllByRecursion (λ t. is_text t ≡ true) s.texts
 
-agent_kept : (names : Declared) (s : Build) (d : Data) → IsFineAgent names d → AreKept names s → length (written s d).code ≤ 1024 → AreKept names (agent_added s d)
+agent_kept : (names : Declared) (s t : Build) (d : Data) → IsFineAgent names d → AreKept names s → IsAdded d s t → AreKept names (agent_added s d)
 unfolding agent_added agent_made
-agent_kept names s d fine k l = record {
+agent_kept names s t d fine k q = record {
   known = k.known;
   agents = λ few.
       let one_less : length s.agents < length names.agents = omega (arith, few, length-append s.agents (agent_made s d ∷ [])) in
       let new : IsBuiltAgent (length names.agents + length names.mboxes) (length names.messages) (length (written s d).texts) (agent_made s d) =
-      subst (λ n. IsBuiltAgent (length names.agents + length names.mboxes) (length names.messages) (length (agent_written n (fresh s.texts d) d).texts) (agent_of (length s.agents) n d (agent_written n (fresh s.texts d) d))) (sym k.known)
-      (built_agent (length s.agents) names s.texts d one_less fine (subst (λ n. length (agent_written n (fresh s.texts d) d).code ≤ 1024) k.known l)) in
+      subst (λ n. IsBuiltAgent (length names.agents + length names.mboxes) (length names.messages) (length (agent_written n (fresh s.texts d) d).texts) (agent_of (length s.agents) n d (tree_in d) (agent_written n (fresh s.texts d) d))) (sym k.known)
+      (built_agent (length s.agents) names s.texts d one_less fine q.short q.sound (subst (λ n. length (agent_written n (fresh s.texts d) d).code ≤ 1024) k.known q.few)) in
       each-append (IsBuiltAgent (length names.agents + length names.mboxes) (length names.messages) (length (written s d).texts)) s.agents (agent_made s d ∷ [])
       (each-weaker (IsBuiltAgent (length names.agents + length names.mboxes) (length names.messages) (length s.texts)) (IsBuiltAgent (length names.agents + length names.mboxes) (length names.messages) (length (written s d).texts)) (λ a h. grown _ _ _ _ a (agent_grows s.names (fresh s.texts d) d) h) s.agents (k.agents (omega (arith, one_less))))
       (new, tt);
@@ -419,8 +543,8 @@ unfolding agent_added agent_made
 kept_step names s t (enters object.Message place d) fine k e = subst (AreKept names) (ok_same (with_message d s) t e) (record { known = k.known; agents = k.agents; texts = k.texts })
 kept_step names s t (enters object.Coop place d) fine k e = subst (AreKept names) (ok_same (with_coop d s) t e) (record { known = k.known; agents = k.agents; texts = k.texts })
 kept_step names s t (enters object.Agent place d) fine k e =
-    let q = agent_ok (nat_lt 1024 (length (written s d).code)) _ (length (written s d).code) (agent_added s d) t refl e in
-    subst (AreKept names) q.1 (agent_kept names s d fine k q.0)
+    let q = agent_ok place s t d e in
+    subst (AreKept names) q.same (agent_kept names s t d fine k q)
 kept_step names s t (enters other place d) fine k e = subst (AreKept names) (ok_same s t e) k
 kept_step names s t (tries rule place found) fine k e = subst (AreKept names) (ok_same s t e) k
 kept_step names s t (leaves kind place d) fine k e = subst (AreKept names) (ok_same s t e) k
@@ -447,8 +571,8 @@ unfolding agent_added agent_made messages_of
 message_step s t (enters object.Message place d) e = omega (arith, ap (λ (x : Build). length x.messages) (ok_same (with_message d s) t e), length-append s.messages (message_of d ∷ []))
 message_step s t (enters object.Coop place d) e = omega (arith, ap (λ (x : Build). length x.messages) (ok_same (with_coop d s) t e))
 message_step s t (enters object.Agent place d) e =
-    let q = agent_ok (nat_lt 1024 (length (written s d).code)) _ (length (written s d).code) (agent_added s d) t refl e in
-    omega (arith, ap (λ (x : Build). length x.messages) q.1)
+    let q = agent_ok place s t d e in
+    omega (arith, ap (λ (x : Build). length x.messages) q.same)
 message_step s t (enters other place d) e = omega (arith, ap (λ (x : Build). length x.messages) (ok_same s t e))
 message_step s t (tries rule place found) e = omega (arith, ap (λ (x : Build). length x.messages) (ok_same s t e))
 message_step s t (leaves kind place d) e = omega (arith, ap (λ (x : Build). length x.messages) (ok_same s t e))
@@ -484,6 +608,7 @@ mbox_step s t (enters object.Coop place d) e =
 mbox_step s t (enters object.Agent place d) e =
     let p = if_ok (has_name (s.agents ++ s.mboxes) (name_in d)) _ (with_name space.Mboxes (name_in d) (entering object.Agent d s)) t e in
     omega (arith, ap (λ (x : Declared). length x.mboxes) p.1)
+mbox_step s t (enters object.State place d) e = omega (arith, ap length (state_names place (Some (name_in d)) s t e).mboxes)
 mbox_step s t (enters object.Row place d) e = omega (arith, ap length (row_names place (id_in d) s t e).mboxes)
 mbox_step s t (enters object.Filter place d) e = omega (arith, ap length (filter_names place (id_in d) s t e).mboxes)
 mbox_step s t (enters other place d) e = omega (arith, ap (λ (x : Declared). length x.mboxes) (ok_same s t e))
@@ -533,6 +658,10 @@ is_agent s a h = record {
   named = h.named;
   coop = h.coop;
   vars = h.vars;
+  tree = h.tree;
+  no_limits = h.no_limits;
+  state_names = h.state_names;
+  each_state_once = h.each_state_once;
   few_rows = h.few_rows;
   rows = λ i d l. let row = h.rows i d l in record { mbox = row.mbox; msg = row.msg; state = row.state; kind = row.kind; not_safe = row.not_safe };
   row_ids = h.row_ids;

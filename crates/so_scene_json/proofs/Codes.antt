@@ -1,7 +1,7 @@
 -- What the building writes is the code of an agent.
-use Rattle.std.proofs.Common.{◌≡◌, ℕ, zero, suc, ◌+◌, ◌-◌, ◌<◌, ◌≤◌, ◌^◌, ℤ, pos, negsuc, List, [], ◌∷◌, ◌++◌, length, Bool, true, false, Option, Some, None, Result, Ok, Err, refl, sym, ap, ◌∙◌, subst, arith, inl, length-append, append_assoc, if◌then◌else◌, nat_le, nat_lt, is_some, get_or}
+use Rattle.std.proofs.Common.{◌≡◌, ℕ, zero, suc, ◌+◌, ◌-◌, ◌<◌, ◌≤◌, ◌^◌, ℤ, pos, negsuc, List, [], ◌∷◌, ◌++◌, length, Bool, true, false, ◌||◌, Option, Some, None, Result, Ok, Err, refl, sym, ap, ◌∙◌, subst, arith, inl, length-append, append_assoc, if◌then◌else◌, nat_le, nat_lt, is_some, get_or}
 use Rattle.std.proofs.Math.Nat.{min-le_left, min-le_right}
-use Rattle.std.proofs.lemmas.Bool.{leb-true, ltb-true, true≢false}
+use Rattle.std.proofs.lemmas.Bool.{leb-true, ltb-true, ltb-false, true≢false}
 use Rattle.std.proofs.lemmas.List.Quantifiers.{position-Some}
 use Rattle.std.specs.Prelude.{slice_get, slice_index, bytes_eq, map, codes}
 use Rattle.std.specs.List.Sorted.{IsStrictlyIncreasing}
@@ -19,33 +19,37 @@ use Rattle.so_code.specs.declared.instr.Args.{Args}
 use Rattle.so_code.specs.declared.instr.Body.{Body}
 use Rattle.so_code.specs.declared.instr.Body.TheVariants as body
 use Rattle.so_code.specs.Bodies.{bodies_in}
-use Rattle.so_code.specs.Shape.{IsActBefore, AreActsBefore, Part, plain, acts_code, flatten, may_switch, IsPart, IsCode, AreInOrder, AreAgentBodies, body_of, agent_bodies, row_number}
+use Rattle.so_code.specs.Shape.{IsActBefore, AreActsBefore, Part, plain, acts_code, flatten, may_switch, IsPart, IsCode, AreInOrder, AreAgentBodies, body_of, agent_bodies, state_bodies, row_number as number_of_row}
 use Rattle.so_code.proofs.BuildLaws.{structured, plain_code, plain_acts, bodies_in-flatten}
 use Rattle.so_lists.proofs.Filters.{each-append, each-weaker}
 use Rattle.so_scene.specs.Words.{is_text}
 use Rattle.so_scene_json.specs.Acts.{act_parts}
-use Rattle.so_scene_json.specs.Build.{body_written, row_body, rows_written, agent_written}
+use Rattle.so_scene_json.specs.ActTable.{is_allowed}
+use Rattle.so_scene_json.specs.Build.{allowed_in, body_written, start_written, state_written, states_written, row_body, handler_written, rows_written, agent_written, is_long}
 use Rattle.std.proofs.lemmas.List.{append-nil}
 use Rattle.so_scene.specs.Names.{number_in}
 use Rattle.so_ids.specs.declared.FilterId.{FilterId}
 use Rattle.so_ids.specs.declared.RowId.{RowId}
+use Rattle.so_ids.specs.declared.StateId.{StateId}
 use Rattle.so_ids.specs.declared.Target.{Target}
 use Rattle.so_ids.specs.declared.Target.TheVariants.{Mbox, Chain}
-use Rattle.so_scene.specs.Checked.{Named, IsTarget, HasId, NamesWithin, numbers_from, row_numbers}
+use Rattle.so_scene.specs.Checked.{Named, IsTarget, HasId, NamesWithin, row_number}
 use Rattle.so_scene_json.specs.declared.scope.Scope.{Scope}
 use Rattle.so_scene_json.specs.declared.table.Space.TheVariants as space
 use Rattle.so_scene_json.specs.Kept.{named_among}
-use Rattle.so_scene_json.specs.Scope.{is_id, number_with, row_items}
+use Rattle.so_scene_json.specs.Scope.{is_id, number_with, state_items, row_items, all_states, state_number}
 use Rattle.so_scene_json.specs.Twice.{names_in}
+use Rattle.so_scene_json.specs.declared.act_table.Allowed.{Allowed}
+use Rattle.so_scene_json.specs.declared.act_table.Allowed.TheVariants.{AnyAct, NoSwitch}
 use Rattle.so_scene_json.specs.declared.act_table.Word.{Word}
 use Rattle.so_scene_json.specs.declared.act_table.Word.TheVariants as word
 use Rattle.so_scene_json.specs.declared.values.Trouble.{Trouble}
 use Rattle.so_scene_json.specs.declared.values.Trouble.TheVariants.{OutOfRange}
 use Rattle.so_scene_json.specs.declared.declare.Declared.{Declared}
 use Rattle.so_scene_json.specs.declared.write.Writer.{Writer}
-use Rattle.so_scene_json.specs.Values.{◌or◌, ◌else◌, ◌then◌, numbered, small_number, operand_named, operand_or_number, operand_of, dest_named, dest_of, named, integer_of, natural_up_to, count_of, text_or_empty}
+use Rattle.so_scene_json.specs.Values.{◌or◌, ◌else◌, ◌then◌, numbered, small_number, operand_named, operand_or_number, operand_of, dest_named, dest_of, named, integer_of, natural_up_to, count_of, ok_or, read_or, text_or_empty}
 use Rattle.so_scene_json.specs.Visits.{narrow, list_of}
-use Rattle.so_scene_json.specs.Writer.{ok_or, read_or, operand_at, dest_at, count_at, args_from, send_instr, row_id, filter_number, row_at, filter_at, or_idle, text_at, string_at, texts_with, number_or_next, with_instr, word_written, parts_written, act_written, acts_written, idle}
+use Rattle.so_scene_json.specs.Writer.{operand_at, dest_at, count_at, args_from, send_instr, state_id, state_at, row_id, filter_number, row_at, filter_at, or_idle, text_at, string_at, texts_with, number_or_next, with_instr, word_written, parts_written, if_allowed, act_written, acts_written, idle}
 
 -- ---- operands
 
@@ -184,7 +188,7 @@ count_fine rest i ds =
 
 -- what the acts of an agent may name, with so many texts
 abbrev pub allows : Declared → Scope → ℕ → Named
-allows names scope texts = named_among (length names.agents + length names.mboxes) (length names.messages) texts scope.rows scope.filters
+allows names scope texts = named_among (length names.agents + length names.mboxes) (length names.messages) texts (length scope.states) scope.rows scope.filters
 
 -- an agent's ids can be numbered
 pub record HasFewIds (scope : Scope) : Type 0 where
@@ -192,25 +196,29 @@ pub record HasFewIds (scope : Scope) : Type 0 where
   pub filters : length scope.filters ≤ 32
 
 -- an act writes one instruction, which may stand before so many others, and names what there is
-record Wrote (names : Declared) (rest : ℕ) (w v : Writer) : Type 0 where
+record Wrote (names : Declared) (may : Bool) (rest : ℕ) (w v : Writer) : Type 0 where
   one : Instr
   same : v.code ≡ w.code ++ one ∷ []
-  fine : IsActBefore true one rest
+  fine : IsActBefore may one rest
   grows : length w.texts ≤ length v.texts
   scope : v.scope ≡ w.scope
   named : HasFewIds w.scope → NamesWithin (allows names w.scope (length v.texts)) one
   texts : AllByRecursion (λ t. is_text t ≡ true) w.texts → AllByRecursion (λ t. is_text t ≡ true) v.texts
 
-simple : (names : Declared) (rest : ℕ) (w : Writer) (i : Instr) → IsActBefore true i rest → (HasFewIds w.scope → NamesWithin (allows names w.scope (length w.texts)) i) → Wrote names rest w (with_instr i w)
-simple names rest w i f n = record { one = i; same = refl; fine = f; grows = omega arith; scope = refl; named = n; texts = λ a. a }
+simple : (names : Declared) (may : Bool) (rest : ℕ) (w : Writer) (i : Instr) → IsActBefore may i rest → (HasFewIds w.scope → NamesWithin (allows names w.scope (length w.texts)) i) → Wrote names may rest w (with_instr i w)
+simple names may rest w i f n = record { one = i; same = refl; fine = f; grows = omega arith; scope = refl; named = n; texts = λ a. a }
 
-idle_fine : (rest : ℕ) → IsActBefore true idle rest
-idle_fine rest = record { act = refl; switch = λ e. refl; parts = tt; jumps = omega arith }
+-- what is no switch
+never : (may : Bool) → false ≡ true → may ≡ true
+never may e = absurd (true≢false (sym e))
 
-send_fine : (rest : ℕ) (a m : Option ℕ) (args : Args) → AreArgs args → IsActBefore true (send_instr a m args) rest
-send_fine rest (Some a) (Some m) args h = record { act = refl; switch = λ e. refl; parts = h; jumps = omega arith }
-send_fine rest (Some a) None args h = idle_fine rest
-send_fine rest None m args h = idle_fine rest
+idle_fine : (may : Bool) (rest : ℕ) → IsActBefore may idle rest
+idle_fine may rest = record { act = refl; switch = never may; parts = tt; jumps = omega arith }
+
+send_fine : (may : Bool) (rest : ℕ) (a m : Option ℕ) (args : Args) → AreArgs args → IsActBefore may (send_instr a m args) rest
+send_fine may rest (Some a) (Some m) args h = record { act = refl; switch = never may; parts = h; jumps = omega arith }
+send_fine may rest (Some a) None args h = idle_fine may rest
+send_fine may rest None m args h = idle_fine may rest
 
 send_named : (n : Named) (a m : Option ℕ) (args : Args) → OnSome (λ k. k < n.mboxes) a → OnSome (λ k. k < n.messages) m → NamesWithin n (send_instr a m args)
 unfolding OnSome
@@ -254,34 +262,49 @@ filter_there ids name None filter few e f = absurd cc
 filter_there ids name (Some k) filter few e f = let its : filter_number k ≡ filter = cc in subst (λ (r : FilterId). HasId ids r.0) its (id_there ids name k few e)
 
 -- an act on a row of the agent, and on a filter
-row_wrote : (names : Declared) (rest : ℕ) (w : Writer) (ds : Items) (f : RowId → Instr) → ((row : RowId) → IsActBefore true (f row) rest) → ((n : Named) (row : RowId) → HasId n.rows row.0 → NamesWithin n (f row)) → Wrote names rest w (with_instr (or_idle f (row_at w.scope ds)) w)
-row_wrote names rest w ds f fine names_it =
-    simple names rest w _ (or_fine (λ i. IsActBefore true i rest) f (row_at w.scope ds) (idle_fine rest) (λ row e. fine row))
+row_wrote : (names : Declared) (may : Bool) (rest : ℕ) (w : Writer) (ds : Items) (f : RowId → Instr) → ((row : RowId) → IsActBefore may (f row) rest) → ((n : Named) (row : RowId) → HasId n.rows row.0 → NamesWithin n (f row)) → Wrote names may rest w (with_instr (or_idle f (row_at w.scope ds)) w)
+row_wrote names may rest w ds f fine names_it =
+    simple names may rest w _ (or_fine (λ i. IsActBefore may i rest) f (row_at w.scope ds) (idle_fine may rest) (λ row e. fine row))
     (λ few. or_fine (NamesWithin (allows names w.scope (length w.texts))) f (row_at w.scope ds) tt (λ row e. names_it (allows names w.scope (length w.texts)) row (row_there w.scope.rows (string_at 0 ds) (number_with w.scope.rows (string_at 0 ds)) row few.rows refl e)))
 
-filter_wrote : (names : Declared) (rest : ℕ) (w : Writer) (ds : Items) (f : FilterId → Instr) → ((filter : FilterId) → IsActBefore true (f filter) rest) → ((n : Named) (filter : FilterId) → HasId n.filters filter.0 → NamesWithin n (f filter)) → Wrote names rest w (with_instr (or_idle f (filter_at w.scope ds)) w)
-filter_wrote names rest w ds f fine names_it =
-    simple names rest w _ (or_fine (λ i. IsActBefore true i rest) f (filter_at w.scope ds) (idle_fine rest) (λ filter e. fine filter))
+filter_wrote : (names : Declared) (may : Bool) (rest : ℕ) (w : Writer) (ds : Items) (f : FilterId → Instr) → ((filter : FilterId) → IsActBefore may (f filter) rest) → ((n : Named) (filter : FilterId) → HasId n.filters filter.0 → NamesWithin n (f filter)) → Wrote names may rest w (with_instr (or_idle f (filter_at w.scope ds)) w)
+filter_wrote names may rest w ds f fine names_it =
+    simple names may rest w _ (or_fine (λ i. IsActBefore may i rest) f (filter_at w.scope ds) (idle_fine may rest) (λ filter e. fine filter))
     (λ few. or_fine (NamesWithin (allows names w.scope (length w.texts))) f (filter_at w.scope ds) tt (λ filter e. names_it (allows names w.scope (length w.texts)) filter (filter_there w.scope.filters (string_at 0 ds) (number_with w.scope.filters (string_at 0 ds)) filter (omega (arith, few.filters)) refl e)))
+
+-- ---- a switch
+
+-- a state's number is at most the number of declared states
+pub state_below : (scope : Scope) (name : List ℕ) (k : ℕ) → state_number scope name ≡ Some k → narrow k ≤ length scope.states
+state_below scope name k e = let found = position-Some (bytes_eq name) (all_states scope) k [] e in omega (arith, found.0, min-le_left k (2 ^ 32 - 1))
+
+state_there : (scope : Scope) (name : List ℕ) (o : Option ℕ) (s : StateId) → state_number scope name ≡ o → option_map state_id o ≡ Some s → s.0 ≤ length scope.states
+state_there scope name None s e f = absurd cc
+state_there scope name (Some k) s e f = let its : state_id k ≡ s = cc in subst (λ (r : StateId). r.0 ≤ length scope.states) its (state_below scope name k e)
+
+switch_wrote : (names : Declared) (may : Bool) (rest : ℕ) (w : Writer) (ds : Items) → may ≡ true → Wrote names may rest w (with_instr (or_idle instr.Switch (state_at w.scope ds)) w)
+switch_wrote names may rest w ds h =
+    simple names may rest w _ (or_fine (λ i. IsActBefore may i rest) instr.Switch (state_at w.scope ds) (idle_fine may rest) (λ s e. record { act = refl; switch = λ q. h; parts = tt; jumps = omega arith }))
+    (λ few. or_fine (NamesWithin (allows names w.scope (length w.texts))) instr.Switch (state_at w.scope ds) tt (λ s e. state_there w.scope (string_at 0 ds) (state_number w.scope (string_at 0 ds)) s refl e))
 
 -- ---- a text
 
-text_wrote : (names : Declared) (rest : ℕ) (w : Writer) (t : List ℕ) (args : Args) (o : Option ℕ) → OnSome (λ k. k < length w.texts) o → is_text t ≡ true → AreArgs args
-    → Wrote names rest w (with_instr (instr.Log (record { 0 = number_or_next o w.texts }) args) (record w { texts = texts_with o t w.texts }))
+text_wrote : (names : Declared) (may : Bool) (rest : ℕ) (w : Writer) (t : List ℕ) (args : Args) (o : Option ℕ) → OnSome (λ k. k < length w.texts) o → is_text t ≡ true → AreArgs args
+    → Wrote names may rest w (with_instr (instr.Log (record { 0 = number_or_next o w.texts }) args) (record w { texts = texts_with o t w.texts }))
 unfolding OnSome
-text_wrote names rest w t args (Some n) h is are = record {
+text_wrote names may rest w t args (Some n) h is are = record {
   one = instr.Log (record { 0 = narrow n }) args;
   same = refl;
-  fine = record { act = refl; switch = λ e. refl; parts = are; jumps = omega arith };
+  fine = record { act = refl; switch = never may; parts = are; jumps = omega arith };
   grows = omega arith;
   scope = refl;
   named = λ few. omega (arith, h, min-le_left n (2 ^ 32 - 1));
   texts = λ a. a;
 }
-text_wrote names rest w t args None h is are = record {
+text_wrote names may rest w t args None h is are = record {
   one = instr.Log (record { 0 = narrow (length w.texts) }) args;
   same = refl;
-  fine = record { act = refl; switch = λ e. refl; parts = are; jumps = omega arith };
+  fine = record { act = refl; switch = never may; parts = are; jumps = omega arith };
   grows = omega (arith, length-append w.texts (t ∷ []));
   scope = refl;
   named = λ few. omega (arith, length-append w.texts (t ∷ []), min-le_left (length w.texts) (2 ^ 32 - 1));
@@ -295,31 +318,53 @@ checked_text false s e = refl
 text_at_fine : (i : ℕ) (ds : Items) → is_text (text_at i ds) ≡ true
 text_at_fine i ds = checked_text (is_text (string_at i ds)) (string_at i ds) refl
 
-wrote_word : (names : Declared) (rest : ℕ) (w : Writer) (wd : Word) (ds : Items) → Wrote names rest w (word_written names rest w wd ds)
-wrote_word names rest w word.Set ds = simple names rest w _ (record { act = refl; switch = λ e. refl; parts = (dest_fine 0 ds, operand_fine 1 ds); jumps = omega arith }) (λ few. tt)
-wrote_word names rest w word.Add ds = simple names rest w _ (record { act = refl; switch = λ e. refl; parts = (dest_fine 0 ds, operand_fine 1 ds, operand_fine 2 ds); jumps = omega arith }) (λ few. tt)
-wrote_word names rest w word.Sub ds = simple names rest w _ (record { act = refl; switch = λ e. refl; parts = (dest_fine 0 ds, operand_fine 1 ds, operand_fine 2 ds); jumps = omega arith }) (λ few. tt)
-wrote_word names rest w word.Mul ds = simple names rest w _ (record { act = refl; switch = λ e. refl; parts = (dest_fine 0 ds, operand_fine 1 ds, operand_fine 2 ds); jumps = omega arith }) (λ few. tt)
-wrote_word names rest w word.If ds = simple names rest w _ (record { act = refl; switch = λ e. refl; parts = (operand_fine 0 ds, operand_fine 2 ds); jumps = count_fine rest 3 ds }) (λ few. tt)
-wrote_word names rest w word.Skip ds = simple names rest w _ (record { act = refl; switch = λ e. refl; parts = tt; jumps = count_fine rest 0 ds }) (λ few. tt)
-wrote_word names rest w word.Throw ds = simple names rest w _ (record { act = refl; switch = λ e. refl; parts = operand_fine 0 ds; jumps = omega arith }) (λ few. tt)
-wrote_word names rest w word.Log ds = text_wrote names rest w (text_at 0 ds) (args_from 1 ds) (number_in w.texts (text_at 0 ds)) (number_below w.texts (text_at 0 ds)) (text_at_fine 0 ds) (args_fine 1 ds)
-wrote_word names rest w word.Send ds =
-    simple names rest w _ (send_fine rest _ _ (args_from 2 ds) (args_fine 2 ds))
+-- a switch stands only where it may
+MaySwitch : Bool → Word → Type 0
+MaySwitch may word.Switch = may ≡ true
+MaySwitch may other = Unit {0}
+
+wrote_word : (names : Declared) (may : Bool) (rest : ℕ) (w : Writer) (wd : Word) (ds : Items) → MaySwitch may wd → Wrote names may rest w (word_written names rest w wd ds)
+unfolding MaySwitch
+wrote_word names may rest w word.Set ds h = simple names may rest w _ (record { act = refl; switch = never may; parts = (dest_fine 0 ds, operand_fine 1 ds); jumps = omega arith }) (λ few. tt)
+wrote_word names may rest w word.Add ds h = simple names may rest w _ (record { act = refl; switch = never may; parts = (dest_fine 0 ds, operand_fine 1 ds, operand_fine 2 ds); jumps = omega arith }) (λ few. tt)
+wrote_word names may rest w word.Sub ds h = simple names may rest w _ (record { act = refl; switch = never may; parts = (dest_fine 0 ds, operand_fine 1 ds, operand_fine 2 ds); jumps = omega arith }) (λ few. tt)
+wrote_word names may rest w word.Mul ds h = simple names may rest w _ (record { act = refl; switch = never may; parts = (dest_fine 0 ds, operand_fine 1 ds, operand_fine 2 ds); jumps = omega arith }) (λ few. tt)
+wrote_word names may rest w word.If ds h = simple names may rest w _ (record { act = refl; switch = never may; parts = (operand_fine 0 ds, operand_fine 2 ds); jumps = count_fine rest 3 ds }) (λ few. tt)
+wrote_word names may rest w word.Skip ds h = simple names may rest w _ (record { act = refl; switch = never may; parts = tt; jumps = count_fine rest 0 ds }) (λ few. tt)
+wrote_word names may rest w word.Throw ds h = simple names may rest w _ (record { act = refl; switch = never may; parts = operand_fine 0 ds; jumps = omega arith }) (λ few. tt)
+wrote_word names may rest w word.Log ds h = text_wrote names may rest w (text_at 0 ds) (args_from 1 ds) (number_in w.texts (text_at 0 ds)) (number_below w.texts (text_at 0 ds)) (text_at_fine 0 ds) (args_fine 1 ds)
+wrote_word names may rest w word.Send ds h =
+    simple names may rest w _ (send_fine may rest _ _ (args_from 2 ds) (args_fine 2 ds))
     (λ few. send_named (allows names w.scope (length w.texts)) (number_in (names_in space.Mboxes names) (string_at 0 ds)) (number_in names.messages (string_at 1 ds)) (args_from 2 ds) (mbox_below names (string_at 0 ds)) (number_below names.messages (string_at 1 ds)))
-wrote_word names rest w word.Subscribe ds = row_wrote names rest w ds instr.Subscribe (λ row. record { act = refl; switch = λ e. refl; parts = tt; jumps = omega arith }) (λ n row h. h)
-wrote_word names rest w word.Unsubscribe ds = row_wrote names rest w ds instr.Unsubscribe (λ row. record { act = refl; switch = λ e. refl; parts = tt; jumps = omega arith }) (λ n row h. h)
-wrote_word names rest w word.SetFilter ds = filter_wrote names rest w ds instr.SetFilter (λ filter. record { act = refl; switch = λ e. refl; parts = tt; jumps = omega arith }) (λ n filter h. h)
-wrote_word names rest w word.DropFilter ds = filter_wrote names rest w ds instr.DropFilter (λ filter. record { act = refl; switch = λ e. refl; parts = tt; jumps = omega arith }) (λ n filter h. h)
-wrote_word names rest w word.Stop ds = simple names rest w _ (record { act = refl; switch = λ e. refl; parts = tt; jumps = omega arith }) (λ few. tt)
-wrote_word names rest w other ds = simple names rest w _ (idle_fine rest) (λ few. tt)
+wrote_word names may rest w word.Switch ds h = switch_wrote names may rest w ds h
+wrote_word names may rest w word.Subscribe ds h = row_wrote names may rest w ds instr.Subscribe (λ row. record { act = refl; switch = never may; parts = tt; jumps = omega arith }) (λ n row h. h)
+wrote_word names may rest w word.Unsubscribe ds h = row_wrote names may rest w ds instr.Unsubscribe (λ row. record { act = refl; switch = never may; parts = tt; jumps = omega arith }) (λ n row h. h)
+wrote_word names may rest w word.SetFilter ds h = filter_wrote names may rest w ds instr.SetFilter (λ filter. record { act = refl; switch = never may; parts = tt; jumps = omega arith }) (λ n filter h. h)
+wrote_word names may rest w word.DropFilter ds h = filter_wrote names may rest w ds instr.DropFilter (λ filter. record { act = refl; switch = never may; parts = tt; jumps = omega arith }) (λ n filter h. h)
+wrote_word names may rest w word.Stop ds h = simple names may rest w _ (record { act = refl; switch = never may; parts = tt; jumps = omega arith }) (λ few. tt)
+wrote_word names may rest w other ds h = simple names may rest w _ (idle_fine may rest) (λ few. tt)
 
-wrote_parts : (names : Declared) (rest : ℕ) (w : Writer) (o : Option (Word × Items)) → Wrote names rest w (parts_written names rest w o)
-wrote_parts names rest w None = simple names rest w _ (idle_fine rest) (λ few. tt)
-wrote_parts names rest w (Some p) = wrote_word names rest w p.0 p.1
+-- where switches are allowed
+switches : Allowed → Bool
+switches AnyAct = true
+switches NoSwitch = false
 
-wrote_act : (names : Declared) (rest : ℕ) (w : Writer) (d : Data) → Wrote names rest w (act_written names rest w d)
-wrote_act names rest w d = wrote_parts names rest w (act_parts d)
+may_stand : (allowed : Allowed) (wd : Word) → is_allowed allowed wd ≡ true → MaySwitch (switches allowed) wd
+unfolding MaySwitch switches
+may_stand AnyAct word.Switch e = refl
+may_stand NoSwitch word.Switch e = absurd (true≢false (sym e))
+may_stand allowed other e = tt
+
+wrote_if : (names : Declared) (allowed : Allowed) (rest : ℕ) (w : Writer) (p : Word × Items) (b : Bool) → is_allowed allowed p.0 ≡ b → Wrote names (switches allowed) rest w (parts_written names rest w (if b then Some p else None))
+wrote_if names allowed rest w p true e = wrote_word names (switches allowed) rest w p.0 p.1 (may_stand allowed p.0 e)
+wrote_if names allowed rest w p false e = simple names (switches allowed) rest w _ (idle_fine (switches allowed) rest) (λ few. tt)
+
+wrote_parts : (names : Declared) (allowed : Allowed) (rest : ℕ) (w : Writer) (o : Option (Word × Items)) → Wrote names (switches allowed) rest w (parts_written names rest w (if_allowed allowed o))
+wrote_parts names allowed rest w None = simple names (switches allowed) rest w _ (idle_fine (switches allowed) rest) (λ few. tt)
+wrote_parts names allowed rest w (Some p) = wrote_if names allowed rest w p (is_allowed allowed p.0) refl
+
+wrote_act : (names : Declared) (allowed : Allowed) (rest : ℕ) (w : Writer) (d : Data) → Wrote names (switches allowed) rest w (act_written names allowed rest w d)
+wrote_act names allowed rest w d = wrote_parts names allowed rest w (act_parts d)
 
 -- ---- a list of acts
 
@@ -328,6 +373,7 @@ pub record Grows (n m : Named) : Type 0 where
   pub mboxes : n.mboxes ≤ m.mboxes
   pub messages : m.messages ≡ n.messages
   pub texts : n.texts ≤ m.texts
+  pub states : m.states ≡ n.states
   pub rows : m.rows ≡ n.rows
   pub filters : m.filters ≡ n.filters
 
@@ -338,6 +384,7 @@ target_grows n m (Chain chain) l h = h
 pub names_grow : (n m : Named) (i : Instr) → Grows n m → NamesWithin n i → NamesWithin m i
 names_grow n m (instr.Log text args) g h = omega (arith, g.texts, h)
 names_grow n m (instr.Send target msg args) g h = (target_grows n.mboxes m.mboxes target g.mboxes h.0, omega (arith, g.messages, h.1))
+names_grow n m (instr.Switch to) g h = omega (arith, g.states, h)
 names_grow n m (instr.Subscribe row) g h = subst (λ ids. HasId ids row.0) (sym g.rows) h
 names_grow n m (instr.Unsubscribe row) g h = subst (λ ids. HasId ids row.0) (sym g.rows) h
 names_grow n m (instr.SetFilter filter) g h = subst (λ ids. HasId ids filter.0) (sym g.filters) h
@@ -350,15 +397,16 @@ texts_grow names scope other t u e l = record {
   mboxes = omega arith;
   messages = refl;
   texts = l;
+  states = ap (λ (x : Scope). length x.states) (sym e);
   rows = ap (λ (x : Scope). x.rows) (sym e);
   filters = ap (λ (x : Scope). x.filters) (sym e);
 }
 
-record WroteActs (names : Declared) (w v : Writer) (n : ℕ) : Type 0 where
+record WroteActs (names : Declared) (may : Bool) (w v : Writer) (n : ℕ) : Type 0 where
   acts : List Instr
   same : v.code ≡ w.code ++ acts
   long : length acts ≡ n
-  fine : AreActsBefore true 0 acts
+  fine : AreActsBefore may 0 acts
   grows : length w.texts ≤ length v.texts
   scope : v.scope ≡ w.scope
   named : HasFewIds w.scope → AllByRecursion (NamesWithin (allows names w.scope (length v.texts))) acts
@@ -367,12 +415,12 @@ record WroteActs (names : Declared) (w v : Writer) (n : ℕ) : Type 0 where
 same_few : (s t : Scope) → t ≡ s → HasFewIds s → HasFewIds t
 same_few s t e h = subst HasFewIds (sym e) h
 
-one_more : (names : Declared) (w u v : Writer) (rest n : ℕ) → rest ≡ n → Wrote names rest w u → WroteActs names u v n → WroteActs names w v (suc n)
-one_more names w u v rest n e one more = record {
+one_more : (names : Declared) (may : Bool) (w u v : Writer) (rest n : ℕ) → rest ≡ n → Wrote names may rest w u → WroteActs names may u v n → WroteActs names may w v (suc n)
+one_more names may w u v rest n e one more = record {
   acts = one.one ∷ more.acts;
   same = more.same ∙ (ap (λ c. c ++ more.acts) one.same ∙ append_assoc w.code (one.one ∷ []) more.acts);
   long = omega (arith, more.long);
-  fine = (let ahead : rest ≡ length more.acts + 0 = omega (arith, e, more.long) in subst (IsActBefore true one.one) ahead one.fine, more.fine);
+  fine = (let ahead : rest ≡ length more.acts + 0 = omega (arith, e, more.long) in subst (IsActBefore may one.one) ahead one.fine, more.fine);
   grows = omega (arith, one.grows, more.grows);
   scope = more.scope ∙ one.scope;
   named = λ few. (
@@ -382,10 +430,10 @@ one_more names w u v rest n e one more = record {
   texts = λ a. more.texts (one.texts a);
 }
 
-wrote_acts : (names : Declared) (w : Writer) (ds : Items) → WroteActs names w (acts_written names w ds) (items_len ds)
+wrote_acts : (names : Declared) (allowed : Allowed) (w : Writer) (ds : Items) → WroteActs names (switches allowed) w (acts_written names allowed w ds) (items_len ds)
 unfolding acts_written
-wrote_acts names w no_items = record { acts = []; same = sym (append-nil w.code); long = refl; fine = tt; grows = omega arith; scope = refl; named = λ few. tt; texts = λ a. a }
-wrote_acts names w (item d ds) = one_more names w _ _ _ _ refl (wrote_act names (items_len ds) w d) (wrote_acts names (act_written names (items_len ds) w d) ds)
+wrote_acts names allowed w no_items = record { acts = []; same = sym (append-nil w.code); long = refl; fine = tt; grows = omega arith; scope = refl; named = λ few. tt; texts = λ a. a }
+wrote_acts names allowed w (item d ds) = one_more names (switches allowed) w _ _ _ _ refl (wrote_act names allowed (items_len ds) w d) (wrote_acts names allowed (act_written names allowed (items_len ds) w d) ds)
 
 -- ---- bodies
 
@@ -399,12 +447,12 @@ record WroteParts (names : Declared) (w v : Writer) (bodies : List Body) : Type 
   named : HasFewIds w.scope → AllByRecursion (NamesWithin (allows names w.scope (length v.texts))) (flatten parts)
   texts : AllByRecursion (λ t. is_text t ≡ true) w.texts → AllByRecursion (λ t. is_text t ≡ true) v.texts
 
-ended : (names : Declared) (b : Body) (w u : Writer) (n : ℕ) → may_switch b ≡ true → WroteActs names w u n → WroteParts names w (with_instr (instr.End b) u) (b ∷ [])
-ended names b w u n e wrote = record {
+ended : (names : Declared) (may : Bool) (b : Body) (w u : Writer) (n : ℕ) → may ≡ may_switch b → WroteActs names may w u n → WroteParts names w (with_instr (instr.End b) u) (b ∷ [])
+ended names may b w u n e wrote = record {
   parts = record { body = b; acts = map plain wrote.acts } ∷ [];
   same = ap (λ c. c ++ instr.End b ∷ []) wrote.same ∙ (append_assoc w.code wrote.acts (instr.End b ∷ []) ∙ ap (λ c. w.code ++ (c ++ instr.End b ∷ [])) (sym (plain_code wrote.acts)));
   made = refl;
-  each = (plain_acts b wrote.acts (subst (λ s. AreActsBefore s 0 wrote.acts) (sym e) wrote.fine), tt);
+  each = (plain_acts b wrote.acts (subst (λ s. AreActsBefore s 0 wrote.acts) e wrote.fine), tt);
   grows = wrote.grows;
   scope = wrote.scope;
   named = λ few. subst (λ c. AllByRecursion (NamesWithin (allows names w.scope (length u.texts))) (c ++ instr.End b ∷ [])) (sym (plain_code wrote.acts))
@@ -412,8 +460,14 @@ ended names b w u n e wrote = record {
   texts = wrote.texts;
 }
 
-wrote_body : (names : Declared) (b : Body) (w : Writer) (found : Option Data) → may_switch b ≡ true → WroteParts names w (body_written names b w found) (b ∷ [])
-wrote_body names b w found e = ended names b w (acts_written names w (list_of found)) _ e (wrote_acts names w (list_of found))
+as_allowed : (b : Body) → switches (allowed_in b) ≡ may_switch b
+unfolding switches
+as_allowed (body.Enter s) = refl
+as_allowed (body.Exit s) = refl
+as_allowed other = refl
+
+wrote_body : (names : Declared) (b : Body) (w : Writer) (found : Option Data) → WroteParts names w (body_written names b w found) (b ∷ [])
+wrote_body names b w found = ended names (switches (allowed_in b)) b w (acts_written names (allowed_in b) w (list_of found)) _ (as_allowed b) (wrote_acts names (allowed_in b) w (list_of found))
 
 flatten-append : (ps qs : List Part) → flatten (ps ++ qs) ≡ flatten ps ++ flatten qs
 flatten-append [] qs = refl
@@ -438,102 +492,172 @@ joined names w u v bs cs a b = record {
   texts = λ t. b.texts (a.texts t);
 }
 
-row_bodies : ℕ → ℕ → List Body
-row_bodies k zero = []
-row_bodies k (suc n) = row_body k ∷ row_bodies (suc k) n
+no_bodies : (names : Declared) (w : Writer) → WroteParts names w w []
+no_bodies names w = record { parts = []; same = sym (append-nil w.code); made = refl; each = tt; grows = omega arith; scope = refl; named = λ few. tt; texts = λ a. a }
 
-no_rows : (names : Declared) (w : Writer) → WroteParts names w w []
-no_rows names w = record { parts = []; same = sym (append-nil w.code); made = refl; each = tt; grows = omega arith; scope = refl; named = λ few. tt; texts = λ a. a }
+-- the bodies of so many states from number k on
+states_from : ℕ → ℕ → List Body
+states_from k zero = []
+states_from k (suc n) = body.Enter (state_id k) ∷ body.Exit (state_id k) ∷ states_from (suc k) n
 
-wrote_rows : (names : Declared) (k : ℕ) (w : Writer) (ds : Items) → WroteParts names w (rows_written names k w ds) (row_bodies k (items_len ds))
-unfolding rows_written row_bodies
-wrote_rows names k w no_items = no_rows names w
+wrote_state : (names : Declared) (k : ℕ) (w : Writer) (d : Data) → WroteParts names w (state_written names k w d) (body.Enter (state_id k) ∷ body.Exit (state_id k) ∷ [])
+wrote_state names k w d =
+    joined names w _ _ (body.Enter (state_id k) ∷ []) (body.Exit (state_id k) ∷ [])
+    (wrote_body names (body.Enter (state_id k)) w (get (codes "enter") d))
+    (wrote_body names (body.Exit (state_id k)) (body_written names (body.Enter (state_id k)) w (get (codes "enter") d)) (get (codes "exit") d))
+
+wrote_states : (names : Declared) (k : ℕ) (w : Writer) (ds : Items) → WroteParts names w (states_written names k w ds) (states_from k (items_len ds))
+unfolding states_written states_from
+wrote_states names k w no_items = no_bodies names w
+wrote_states names k w (item d ds) =
+    joined names w _ _ (body.Enter (state_id k) ∷ body.Exit (state_id k) ∷ []) (states_from (suc k) (items_len ds))
+    (wrote_state names k w d)
+    (wrote_states names (suc k) (state_written names k w d) ds)
+
+-- the bodies of the rows from number k on that have a handler
+one_if : Body → Option Data → List Body
+one_if b None = []
+one_if b (Some d) = b ∷ []
+
+rows_from : ℕ → Items → List Body
+rows_from k no_items = []
+rows_from k (item d ds) = one_if (row_body k) (get (codes "do") d) ++ rows_from (suc k) ds
+
+wrote_handler : (names : Declared) (b : Body) (w : Writer) (found : Option Data) → WroteParts names w (handler_written names b w found) (one_if b found)
+unfolding one_if
+wrote_handler names b w None = no_bodies names w
+wrote_handler names b w (Some d) = wrote_body names b w (Some d)
+
+wrote_rows : (names : Declared) (k : ℕ) (w : Writer) (ds : Items) → WroteParts names w (rows_written names k w ds) (rows_from k ds)
+unfolding rows_written rows_from
+wrote_rows names k w no_items = no_bodies names w
 wrote_rows names k w (item d ds) =
-    joined names w _ _ (row_body k ∷ []) (row_bodies (suc k) (items_len ds))
-    (wrote_body names (row_body k) w (get (codes "do") d) refl)
-    (wrote_rows names (suc k) (body_written names (row_body k) w (get (codes "do") d)) ds)
+    joined names w _ _ (one_if (row_body k) (get (codes "do") d)) (rows_from (suc k) ds)
+    (wrote_handler names (row_body k) w (get (codes "do") d))
+    (wrote_rows names (suc k) (handler_written names (row_body k) w (get (codes "do") d)) ds)
 
-wrote_agent : (names : Declared) (w : Writer) (d : Data) → WroteParts names w (agent_written names w d) (body.Start ∷ body.Finish ∷ row_bodies 0 (items_len (row_items d)))
+wrote_start : (names : Declared) (w : Writer) (d : Data) → WroteParts names w (start_written names w d) (body.Start ∷ body.Finish ∷ [])
+wrote_start names w d =
+    joined names w _ _ (body.Start ∷ []) (body.Finish ∷ [])
+    (wrote_body names body.Start w (get (codes "start") d))
+    (wrote_body names body.Finish (body_written names body.Start w (get (codes "start") d)) (get (codes "finish") d))
+
+bodies_of : Data → List Body
+bodies_of d = body.Start ∷ body.Finish ∷ (states_from 1 (items_len (state_items d)) ++ rows_from 0 (row_items d))
+
+wrote_agent : (names : Declared) (w : Writer) (d : Data) → WroteParts names w (agent_written names w d) (bodies_of d)
+unfolding bodies_of
 wrote_agent names w d =
-    joined names w _ _ (body.Start ∷ []) (body.Finish ∷ row_bodies 0 (items_len (row_items d)))
-    (wrote_body names body.Start w (get (codes "start") d) refl)
-    (joined names _ _ _ (body.Finish ∷ []) (row_bodies 0 (items_len (row_items d)))
-    (wrote_body names body.Finish (body_written names body.Start w (get (codes "start") d)) (get (codes "finish") d) refl)
+    joined names w _ _ (body.Start ∷ body.Finish ∷ []) (states_from 1 (items_len (state_items d)) ++ rows_from 0 (row_items d))
+    (wrote_start names w d)
+    (joined names _ _ _ (states_from 1 (items_len (state_items d))) (rows_from 0 (row_items d))
+    (wrote_states names 1 (start_written names w d) (state_items d))
     (wrote_rows names 0 _ (row_items d)))
 
 -- ---- the code of an agent
 
-length_parts : (ps : List Part) → length ps ≤ length (flatten ps)
-length_parts [] = omega arith
-length_parts (p ∷ ps) = omega (arith, length_parts ps, length-append (acts_code p.acts) (instr.End p.body ∷ flatten ps))
-
-length_bodies : (ps : List Part) → length (map body_of ps) ≡ length ps
-length_bodies [] = refl
-length_bodies (p ∷ ps) = omega (arith, length_bodies ps)
-
-length_rows : (k n : ℕ) → length (row_bodies k n) ≡ n
-unfolding row_bodies
-length_rows k zero = refl
-length_rows k (suc n) = omega (arith, length_rows (suc k) n)
-
 narrow_small : (k : ℕ) → k ≤ 2 ^ 32 - 1 → narrow k ≡ k
 narrow_small k l = omega arith
 
-rows_are : (k n : ℕ) → k + n ≤ 2 ^ 32 - 1 → row_bodies k n ≡ map body.Row (numbers_from k n)
-unfolding row_bodies
-rows_are k zero l = refl
-rows_are k (suc n) l =
-    ap (λ j. body.Row (record { 0 = j }) ∷ row_bodies (suc k) n) (narrow_small k (omega arith))
-    ∙ ap (λ (bs : List Body). body.Row (record { 0 = k }) ∷ bs) (rows_are (suc k) n (omega arith))
+plus_one : (k : ℕ) → suc k ≡ k + 1
+plus_one k = omega arith
 
-number_at : (k n j : ℕ) → j < n → slice_index (map row_number (numbers_from k n)) j ≡ k + j
-number_at k zero j l = absurd (omega arith)
-number_at k (suc n) zero l = omega arith
-number_at k (suc n) (suc j) l = number_at (suc k) n j (omega arith) ∙ omega arith
+-- the states by number
+states_are : (k n : ℕ) → k + n ≤ 2 ^ 32 - 1 → states_from k n ≡ state_bodies n k
+unfolding states_from
+states_are k zero l = refl
+states_are k (suc n) l =
+    ap (λ j. body.Enter (record { 0 = j }) ∷ body.Exit (record { 0 = j }) ∷ states_from (suc k) n) (narrow_small k (omega arith))
+    ∙ ap (λ (bs : List Body). body.Enter (record { 0 = k }) ∷ body.Exit (record { 0 = k }) ∷ bs) (states_are (suc k) n (omega arith) ∙ ap (state_bodies n) (plus_one k))
 
-length_numbers : (k n : ℕ) → length (map row_number (numbers_from k n)) ≡ n
-length_numbers k zero = refl
-length_numbers k (suc n) = omega (arith, length_numbers (suc k) n)
+-- the numbers of the rows that have a handler
+unfoldable pub one_number : Bool → ℕ → List RowId → List RowId
+one_number true k rows = row_number k ∷ rows
+one_number false k rows = rows
 
-rising : (k n : ℕ) → IsStrictlyIncreasing (map row_number (numbers_from k n))
-rising k n j l =
-    let m : j + 1 < n = omega (arith, l, length_numbers k n) in
-    omega (arith, number_at k n j (omega (arith, m)), number_at k n (j + 1) m)
+unfoldable pub handled : ℕ → Items → List RowId
+handled k no_items = []
+handled k (item d ds) = one_number (is_some (get (codes "do") d)) k (handled (suc k) ds)
 
-agent_order : (n : ℕ) → n ≤ 2 ^ 32 - 1 → AreAgentBodies (body.Start ∷ body.Finish ∷ row_bodies 0 n)
-agent_order n l = record {
-  states = 0;
-  rows = numbers_from 0 n;
-  rising = rising 0 n;
-  same = ap (λ (bs : List Body). body.Start ∷ body.Finish ∷ bs) (rows_are 0 n (omega arith));
-}
+row_is : (k : ℕ) (o : Option Data) (rows : List RowId) → k ≤ 2 ^ 32 - 1 → one_if (row_body k) o ++ map body.Row rows ≡ map body.Row (one_number (is_some o) k rows)
+unfolding one_if one_number
+row_is k None rows l = refl
+row_is k (Some d) rows l = ap (λ j. body.Row (record { 0 = j }) ∷ map body.Row rows) (narrow_small k l)
 
--- so many rows leave room for no more instructions than a code may have
-few_rows : (ps : List Part) (n : ℕ) → map body_of ps ≡ body.Start ∷ body.Finish ∷ row_bodies 0 n → length (flatten ps) ≤ 1024 → n ≤ 2 ^ 32 - 1
-few_rows ps n e l =
-    let long : length (map body_of ps) ≡ suc (suc (length (row_bodies 0 n))) = ap length e in
-    omega (arith, l, long, length_parts ps, length_bodies ps, length_rows 0 n)
+rows_are : (k : ℕ) (ds : Items) → k + items_len ds ≤ 2 ^ 32 - 1 → rows_from k ds ≡ map body.Row (handled k ds)
+unfolding rows_from handled
+rows_are k no_items l = refl
+rows_are k (item d ds) l =
+    ap (λ bs. one_if (row_body k) (get (codes "do") d) ++ bs) (rows_are (suc k) ds (omega arith))
+    ∙ row_is k (get (codes "do") d) (handled (suc k) ds) (omega arith)
+
+-- these numbers rise
+rises : (n : ℕ) (rest : List ℕ) → AllByRecursion (λ m. n < m) rest → IsStrictlyIncreasing rest → IsStrictlyIncreasing (n ∷ rest)
+rises n [] a h k l = absurd (omega arith)
+rises n (m ∷ rest) a h zero l = a.0
+rises n (m ∷ rest) a h (suc k) l =
+    let next : suc k + 1 ≡ suc (k + 1) = omega arith in
+    rw next (h k (omega arith))
+
+above_if : (b : Bool) (n k : ℕ) (rows : List RowId) → n < k → AllByRecursion (λ m. n < m) (map number_of_row rows) → AllByRecursion (λ m. n < m) (map number_of_row (one_number b k rows))
+unfolding one_number
+above_if true n k rows l a = (l, a)
+above_if false n k rows l a = a
+
+handled_above : (n k : ℕ) (ds : Items) → n < k → AllByRecursion (λ m. n < m) (map number_of_row (handled k ds))
+unfolding handled
+handled_above n k no_items l = tt
+handled_above n k (item d ds) l = above_if (is_some (get (codes "do") d)) n k (handled (suc k) ds) l (handled_above n (suc k) ds (omega arith))
+
+rising_if : (b : Bool) (k : ℕ) (rows : List RowId) → AllByRecursion (λ m. k < m) (map number_of_row rows) → IsStrictlyIncreasing (map number_of_row rows) → IsStrictlyIncreasing (map number_of_row (one_number b k rows))
+unfolding one_number
+rising_if true k rows a h = rises k (map number_of_row rows) a h
+rising_if false k rows a h = h
+
+rising : (k : ℕ) (ds : Items) → IsStrictlyIncreasing (map number_of_row (handled k ds))
+unfolding handled
+rising k no_items = λ j l. absurd (omega arith)
+rising k (item d ds) = rising_if (is_some (get (codes "do") d)) k (handled (suc k) ds) (handled_above k (suc k) ds (omega arith)) (rising (suc k) ds)
+
+pub agent_bodies_of : Data → List Body
+agent_bodies_of d = agent_bodies (items_len (state_items d)) (handled 0 (row_items d))
+
+in_order : (d : Data) → items_len (state_items d) ≤ 63 → items_len (row_items d) ≤ 128 → bodies_of d ≡ agent_bodies_of d
+unfolding bodies_of agent_bodies_of
+in_order d l m =
+    ap (λ (bs : List Body). body.Start ∷ body.Finish ∷ (bs ++ rows_from 0 (row_items d))) (states_are 1 (items_len (state_items d)) (omega arith))
+    ∙ ap (λ (bs : List Body). body.Start ∷ body.Finish ∷ (state_bodies (items_len (state_items d)) 1 ++ bs)) (rows_are 0 (row_items d) (omega arith))
+
+agent_order : (d : Data) (bodies : List Body) → bodies ≡ agent_bodies_of d → AreAgentBodies bodies
+unfolding agent_bodies_of
+agent_order d bodies e = record { states = items_len (state_items d); rows = handled 0 (row_items d); rising = rising 0 (row_items d); same = e }
 
 pub record IsWritten (names : Declared) (scope : Scope) (d : Data) (instrs : List Instr) (texts : ℕ) : Type 0 where
   pub code : IsCode instrs
-  pub bodies : bodies_in instrs ≡ agent_bodies 0 (row_numbers (items_len (row_items d)))
+  pub bodies : bodies_in instrs ≡ agent_bodies (items_len (state_items d)) (handled 0 (row_items d))
   pub named : HasFewIds scope → AllByRecursion (NamesWithin (allows names scope texts)) instrs
 
-written_parts : (names : Declared) (w v : Writer) (d : Data) → WroteParts names w v (body.Start ∷ body.Finish ∷ row_bodies 0 (items_len (row_items d))) → w.code ≡ [] → length v.code ≤ 1024 → IsWritten names w.scope d v.code (length v.texts)
-written_parts names w v d p e l =
+-- neither states nor rows are many
+pub record IsShort (d : Data) : Type 0 where
+  pub states : items_len (state_items d) ≤ 63
+  pub rows : items_len (row_items d) ≤ 128
+
+written_parts : (names : Declared) (w v : Writer) (d : Data) → IsShort d → WroteParts names w v (bodies_of d) → w.code ≡ [] → length v.code ≤ 1024 → IsWritten names w.scope d v.code (length v.texts)
+unfolding agent_bodies_of
+written_parts names w v d short p e l =
     let same : v.code ≡ flatten p.parts = p.same ∙ ap (λ (c : List Instr). c ++ flatten p.parts) e in
     let few : length (flatten p.parts) ≤ 1024 = subst (λ (c : List Instr). length c ≤ 1024) same l in
-    let n : items_len (row_items d) ≤ 2 ^ 32 - 1 = few_rows p.parts (items_len (row_items d)) p.made few in
-    let order : AreInOrder (map body_of p.parts) = subst AreInOrder (sym p.made) (inl (agent_order (items_len (row_items d)) n)) in
+    let made : map body_of p.parts ≡ agent_bodies_of d = p.made ∙ in_order d short.states short.rows in
+    let order : AreInOrder (map body_of p.parts) = inl (agent_order d (map body_of p.parts) made) in
     record {
       code = subst IsCode (sym same) (structured p.parts few order p.each);
-      bodies = ap bodies_in same ∙ (bodies_in-flatten p.parts p.each ∙ (p.made ∙ ap (λ (bs : List Body). body.Start ∷ body.Finish ∷ bs) (rows_are 0 (items_len (row_items d)) (omega (arith, n)))));
+      bodies = ap bodies_in same ∙ (bodies_in-flatten p.parts p.each ∙ made);
       named = λ few. subst (AllByRecursion (NamesWithin (allows names w.scope (length v.texts)))) (sym same) (p.named few);
     }
 
-pub agent_is_written : (names : Declared) (w : Writer) (d : Data) → w.code ≡ [] → length (agent_written names w d).code ≤ 1024
+pub agent_is_written : (names : Declared) (w : Writer) (d : Data) → IsShort d → w.code ≡ [] → length (agent_written names w d).code ≤ 1024
     → IsWritten names w.scope d (agent_written names w d).code (length (agent_written names w d).texts)
-agent_is_written names w d e l = written_parts names w (agent_written names w d) d (wrote_agent names w d) e l
+agent_is_written names w d short e l = written_parts names w (agent_written names w d) d short (wrote_agent names w d) e l
 
 pub agent_grows : (names : Declared) (w : Writer) (d : Data) → length w.texts ≤ length (agent_written names w d).texts
 agent_grows names w d = (wrote_agent names w d).grows
@@ -544,7 +668,16 @@ agent_scope names w d = (wrote_agent names w d).scope
 pub agent_texts : (names : Declared) (w : Writer) (d : Data) → AllByRecursion (λ t. is_text t ≡ true) w.texts → AllByRecursion (λ t. is_text t ≡ true) (agent_written names w d).texts
 agent_texts names w d = (wrote_agent names w d).texts
 
-pub code_of_writer : (names : Declared) (w v : Writer) (d : Data) (code : List Instr) → agent_written names w d ≡ v → w.code ≡ [] → code ≡ v.code → length v.code ≤ 1024 → IsCode code
-code_of_writer names w v d code written empty same l =
+long_if : (a b : Bool) → (a || b) ≡ false → (a ≡ false) × (b ≡ false)
+long_if true b e = absurd (true≢false e)
+long_if false b e = (refl, e)
+
+pub is_short : (d : Data) → is_long d ≡ false → IsShort d
+is_short d e =
+    let p = long_if (nat_lt 63 (items_len (state_items d))) (nat_lt 128 (items_len (row_items d))) e in
+    record { states = ltb-false 63 (items_len (state_items d)) p.0; rows = ltb-false 128 (items_len (row_items d)) p.1 }
+
+pub code_of_writer : (names : Declared) (w v : Writer) (d : Data) (code : List Instr) → is_long d ≡ false → agent_written names w d ≡ v → w.code ≡ [] → code ≡ v.code → length v.code ≤ 1024 → IsCode code
+code_of_writer names w v d code short written empty same l =
     subst IsCode (ap (λ (x : Writer). x.code) written ∙ sym same)
-    (agent_is_written names w d empty (subst (λ (x : Writer). length x.code ≤ 1024) (sym written) l)).code
+    (agent_is_written names w d (is_short d short) empty (subst (λ (x : Writer). length x.code ≤ 1024) (sym written) l)).code

@@ -5,7 +5,8 @@ use Rattle.std.proofs.lemmas.List.{take_all}
 use Rattle.std.specs.Prelude.{String}
 use Rattle.std.specs.List.{All, AllByRecursion}
 use Rattle.std.specs.declared.alloc.Global.{Global}
-use Rattle.serde_json.specs.Data.{Data}
+use Rattle.serde_json.specs.Data.{Data, Items, no_items, item}
+use Rattle.serde_json.specs.Events.{items_len}
 use Rattle.serde_json.specs.View.{view, items_view}
 use Rattle.serde_json.specs.declared.value.Value.{Value}
 use Rattle.so_scene_json.specs.Visits.{listed}
@@ -23,6 +24,10 @@ get_map f (x ∷ xs) (suc i) d e l = get_map f xs i d e (omega arith)
 pub length_map : {X Y : Type 0} (f : X → Y) (xs : List X) → length (map f xs) ≡ length xs
 length_map f [] = refl
 length_map f (x ∷ xs) = omega (arith, length_map f xs)
+
+pub length_listed : (ds : Items) → length (listed ds) ≡ items_len ds
+length_listed no_items = refl
+length_listed (item d ds) = omega (arith, length_listed ds)
 
 -- where each passes a test, none fails it
 pub no_other : (test : List ℕ → Bool) (names : List (String Global)) (i : ℕ) (d x : String Global) (t : List ℕ) → All (λ t. test t ≡ true) (map string_bytes names) → i < length names → x ≡ get_or names i d → t ≡ string_bytes x → test t ≡ false → ⊥

@@ -1,5 +1,5 @@
 -- What the first three passes make sure of, at each visit.
-use Rattle.std.proofs.Common.{◌≡◌, ℕ, zero, suc, ◌+◌, ◌<◌, ◌≤◌, List, [], ◌∷◌, ◌++◌, length, get_or, Bool, true, false, ◌||◌, Option, Some, None, is_some, Result, Ok, Err, refl, sym, ap, ◌∙◌, subst, arith, codes, if◌then◌else◌, nat_le, bytes_eq}
+use Rattle.std.proofs.Common.{◌≡◌, ℕ, zero, suc, ◌+◌, ◌<◌, ◌≤◌, List, [], ◌∷◌, ◌++◌, length, map, get_or, Bool, true, false, ◌||◌, Option, Some, None, is_some, Result, Ok, Err, refl, sym, ap, ◌∙◌, subst, arith, codes, if◌then◌else◌, nat_le, nat_lt, bytes_eq}
 use Rattle.std.proofs.lemmas.Bool.{leb-true, true≢false}
 use Rattle.std.proofs.lemmas.Slice.Eq.{bytes_eq-Decides}
 use Rattle.std.specs.List.{AllByRecursion, IsDistinct}
@@ -14,6 +14,7 @@ use Rattle.so_scene.specs.Words.{is_name}
 use Rattle.so_scene.specs.declared.place.Field.{Field}
 use Rattle.so_scene.specs.declared.place.Field.TheVariants as field
 use Rattle.so_scene.specs.declared.fault.SceneFault.{SceneFault}
+use Rattle.so_scene.specs.declared.fault.SceneFault.TheVariants as fault
 use Rattle.so_scene_json.specs.declared.declare.Declared.{Declared}
 use Rattle.so_scene_json.specs.declared.known.Known.{Known}
 use Rattle.so_scene_json.specs.declared.shape.Shape.{Shape}
@@ -27,10 +28,10 @@ use Rattle.so_scene_json.specs.declared.table.Rule.{Rule}
 use Rattle.so_scene_json.specs.declared.values.Trouble.{Trouble}
 use Rattle.so_scene_json.specs.declared.values.Trouble.TheVariants.{WrongShape, UnknownName, OutOfRange}
 use Rattle.so_scene_json.specs.Table.{rules_of, objects_of, required, optional, later}
-use Rattle.so_scene_json.specs.Values.{checked, trouble, name_of, text_or_empty, string_in, id_in, ◌else◌}
+use Rattle.so_scene_json.specs.Values.{checked, trouble, name_of, name_in, text_or_empty, string_in, id_in, ◌else◌}
 use Rattle.so_scene_json.specs.Visits.{Visit, enters, tries, leaves, Place, visits, fields_of, field_visits, in_objects, items_from, at_item, at_key, list_of, listed, run, ◌>>=◌}
-use Rattle.so_scene_json.specs.Shape.{shape_step, shape_fault, unless_faulty, field_fault, trouble_at, list_trouble, first_of, object_trouble, name_trouble as shape_name_trouble}
-use Rattle.so_scene_json.specs.Scope.{ids_of, row_items, filter_items}
+use Rattle.so_scene_json.specs.Shape.{shape_step, shape_fault, unless_faulty, field_fault, trouble_at, list_trouble, first_of, object_trouble, is_row_breach, name_trouble as shape_name_trouble}
+use Rattle.so_scene_json.specs.Scope.{ids_of, names_of, state_items, row_items, filter_items}
 use Rattle.so_scene_json.specs.Twice.{twice_step, names_in, with_name, with_field, with_mbox_read, with_mboxes, declared_name}
 use Rattle.so_scene_json.specs.Known.{known_step, entered, field_unknown, name_trouble}
 use Rattle.so_lists.proofs.Filters.{each-append, each-weaker}
@@ -222,6 +223,7 @@ known_if_there names space f place (Some d) h there = known_string names space p
 -- ---- rows and filters
 
 pub record HasRow (names : Declared) (d : Data) : Type 0 where
+  pub stateless : is_some (get (codes "dead") d) ≡ true → is_some (get (codes "state") d) ≡ false
   pub msg : has_name names.messages (string_in (codes "msg") d) ≡ true
   pub mbox : is_some (get (codes "mbox") d) ≡ true → has_name (names.agents ++ names.mboxes) (string_in (codes "mbox") d) ≡ true
 
@@ -236,8 +238,31 @@ fine_try : (names : Declared) (n : ℕ) (kind : ObjectKind) (k : ℕ) (place : P
     → IsFine names (tries (get_or (rules_of kind) k no_rule) (at_key place (get_or (rules_of kind) k no_rule)) (found_in (get_or (rules_of kind) k no_rule) d))
 fine_try names n kind k place d l p = passed_try names (visits n) (get_or (rules_of kind) k no_rule) place d (passed_field names (visits n) (rules_of kind) k no_rule place d l (passed_fields names n kind place d p))
 
+-- what is tried as an object ends
+passed_last : (names : Declared) (n : ℕ) (kind : ObjectKind) (place : Place) (d : Data) → ArePassed names (visits (suc n) kind place d) → IsFine names (leaves kind place d)
+unfolding visits
+passed_last names n kind place d p =
+    (passed_back names (inner n kind place d) (leaves kind place d ∷ []) (passed_tail names (enters kind place d) (inner n kind place d ++ leaves kind place d ∷ []) p)).each.0
+
+no_breach : (place : Place) (b : Bool) → (if b then Some (fault.WrongShape place) else None) ≡ None → b ≡ false
+no_breach place true e = absurd cc
+no_breach place false e = refl
+
+neither : (a b c : Bool) → (a || (b || c)) ≡ false → c ≡ false
+neither true b c e = absurd (true≢false e)
+neither false true c e = absurd (true≢false e)
+neither false false c e = e
+
+not_both : (a b : Bool) → nat_lt 1 ((if a then 1 else 0) + (if b then 1 else 0)) ≡ false → a ≡ true → b ≡ false
+not_both true true e a = absurd cc
+not_both true false e a = refl
+not_both false b e a = absurd (true≢false (sym a))
+
 fine_row : (names : Declared) (n : ℕ) (place : Place) (d : Data) → ArePassed names (visits (suc n) object.Row place d) → HasRow names d
 fine_row names n place d p = record {
+  stateless = λ dead.
+      let last : is_row_breach d ≡ false = no_breach place (is_row_breach d) (passed_last names n object.Row place d p).0 in
+      not_both (is_some (get (codes "dead") d)) (is_some (get (codes "state") d)) (neither _ _ _ last) dead;
   msg = known_field names space.Messages field.Msg _ (get (codes "msg") d) (fine_try names n object.Row 1 place d (omega arith) p);
   mbox = λ there. known_if_there names space.Mboxes field.Mbox _ (get (codes "mbox") d) (fine_try names n object.Row 2 place d (omega arith) p) there;
 }
@@ -260,31 +285,32 @@ each_item names P inside h place i (item d ds) p = (
 -- ---- ids: each is declared once
 
 record SameIds (s t : Declared) : Type 0 where
+  states : t.states ≡ s.states
   rows : t.rows ≡ s.rows
   filters : t.filters ≡ s.filters
 
 kept_ids : (s t : Declared) → s ≡ t → SameIds s t
-kept_ids s t e = record { rows = ap (λ (x : Declared). x.rows) (sym e); filters = ap (λ (x : Declared). x.filters) (sym e) }
+kept_ids s t e = record { states = ap (λ (x : Declared). x.states) (sym e); rows = ap (λ (x : Declared). x.rows) (sym e); filters = ap (λ (x : Declared). x.filters) (sym e) }
 
 then_ids : (s t u : Declared) → SameIds s t → SameIds t u → SameIds s u
-then_ids s t u a b = record { rows = b.rows ∙ a.rows; filters = b.filters ∙ a.filters }
+then_ids s t u a b = record { states = b.states ∙ a.states; rows = b.rows ∙ a.rows; filters = b.filters ∙ a.filters }
 
 mbox_ids : (b : Bool) (s : Declared) (name : List ℕ) → SameIds s (if b then s else record s { mboxes = s.mboxes ++ name ∷ [] })
-mbox_ids true s name = record { rows = refl; filters = refl }
-mbox_ids false s name = record { rows = refl; filters = refl }
+mbox_ids true s name = record { states = refl; rows = refl; filters = refl }
+mbox_ids false s name = record { states = refl; rows = refl; filters = refl }
 
 read_ids : (r : Result (List ℕ) Trouble) (s : Declared) → SameIds s (with_mbox_read r s)
 read_ids (Ok name) s = mbox_ids (has_name (names_in space.Mboxes s) name) s name
-read_ids (Err t) s = record { rows = refl; filters = refl }
+read_ids (Err t) s = record { states = refl; rows = refl; filters = refl }
 
 mboxes_ids : (ds : Items) (s : Declared) → SameIds s (with_mboxes ds s)
 unfolding with_mboxes
-mboxes_ids no_items s = record { rows = refl; filters = refl }
+mboxes_ids no_items s = record { states = refl; rows = refl; filters = refl }
 mboxes_ids (item d ds) s = then_ids s (with_mbox_read (name_of d) s) _ (read_ids (name_of d) s) (mboxes_ids ds (with_mbox_read (name_of d) s))
 
 form_ids : (f : Form) (found : Option Data) (s : Declared) → SameIds s (with_field f found s)
 form_ids (form.Mboxes limit) found s = mboxes_ids (list_of found) s
-form_ids other found s = record { rows = refl; filters = refl }
+form_ids other found s = record { states = refl; rows = refl; filters = refl }
 
 -- no object is entered
 abbrev IsInside : Visit → Type 0
@@ -304,14 +330,26 @@ run_ids s t (v ∷ vs) h e =
     let p = split (twice_step s v) (λ u. run twice_step u vs) t e in
     then_ids s p.between t (step_ids s p.between v h.0 p.first) (run_ids p.between t vs h.1 p.second)
 
--- a kind of object that declares an id in a space, and has no objects in it
-record DeclaresIds (kind : ObjectKind) (space : Space) : Type 0 where
-  enter : (s : Declared) (place : Place) (d : Data) → twice_step s (enters kind place d) ≡ declared_name place space (id_in d) s
+-- a kind of object that declares a name in a space, which it may have or not, and has no objects in it
+record DeclaresIds (kind : ObjectKind) (space : Space) (id : Data → Option (List ℕ)) : Type 0 where
+  enter : (s : Declared) (place : Place) (d : Data) → twice_step s (enters kind place d) ≡ declared_name place space (id d) s
   added : (name : List ℕ) (s : Declared) → names_in space (with_name space name s) ≡ names_in space s ++ name ∷ []
   same : (s t : Declared) → SameIds s t → names_in space t ≡ names_in space s
   within : (n : ℕ) (place : Place) (d : Data) → AllByRecursion IsInside (inner n kind place d ++ leaves kind place d ∷ [])
 
-rows_declare : DeclaresIds object.Row space.Rows
+name_of_state : Data → Option (List ℕ)
+name_of_state d = Some (name_in d)
+
+states_declare : DeclaresIds object.State space.States name_of_state
+unfolding fields_of field_visits name_of_state
+states_declare = record {
+  enter = λ s place d. refl;
+  added = λ name s. refl;
+  same = λ s t h. h.states;
+  within = λ n place d. (tt, (tt, (tt, (tt, (tt, (tt, (tt, (tt, tt))))))));
+}
+
+rows_declare : DeclaresIds object.Row space.Rows id_in
 unfolding fields_of field_visits
 rows_declare = record {
   enter = λ s place d. refl;
@@ -320,7 +358,7 @@ rows_declare = record {
   within = λ n place d. (tt, (tt, (tt, (tt, (tt, (tt, (tt, (tt, (tt, (tt, (tt, (tt, tt))))))))))));
 }
 
-filters_declare : DeclaresIds object.Filter space.Filters
+filters_declare : DeclaresIds object.Filter space.Filters id_in
 unfolding fields_of field_visits
 filters_declare = record {
   enter = λ s place d. refl;
@@ -356,25 +394,31 @@ if_new : (b : Bool) (x : SceneFault) (s t : Declared) → (if b then Err x else 
 if_new true x s t e = absurd cc
 if_new false x s t e = (refl, ok_same s t e)
 
-declared_new : (kind : ObjectKind) (space : Space) → DeclaresIds kind space → (place : Place) (o : Option (List ℕ)) (ids : List (Option (List ℕ))) (s t u : Declared) → declared_name place space o s ≡ Ok t → names_in space u ≡ names_in space t → AreNew (names_in space u) (given ids) → AreNew (names_in space s) (given (o ∷ ids))
-declared_new kind space is place None ids s t u e f h = subst (λ q. AreNew q (given ids)) (f ∙ ap (names_in space) (sym (ok_same s t e))) h
-declared_new kind space is place (Some x) ids s t u e f h =
+declared_new : (kind : ObjectKind) (space : Space) (id : Data → Option (List ℕ)) → DeclaresIds kind space id → (place : Place) (o : Option (List ℕ)) (ids : List (Option (List ℕ))) (s t u : Declared) → declared_name place space o s ≡ Ok t → names_in space u ≡ names_in space t → AreNew (names_in space u) (given ids) → AreNew (names_in space s) (given (o ∷ ids))
+declared_new kind space id is place None ids s t u e f h = subst (λ q. AreNew q (given ids)) (f ∙ ap (names_in space) (sym (ok_same s t e))) h
+declared_new kind space id is place (Some x) ids s t u e f h =
     let p = if_new (has_name (names_in space s) x) _ (with_name space x s) t e in
     let same : names_in space u ≡ names_in space s ++ x ∷ [] = f ∙ (ap (names_in space) (sym p.1) ∙ is.added x s) in
     one_more_new (names_in space s) (given ids) x p.0 (subst (λ q. AreNew q (given ids)) same h)
 
-object_new : (kind : ObjectKind) (space : Space) → DeclaresIds kind space → (n : ℕ) (place : Place) (d : Data) (ids : List (Option (List ℕ))) (s u : Declared) → run twice_step s (visits (suc n) kind place d) ≡ Ok u → AreNew (names_in space u) (given ids) → AreNew (names_in space s) (given (id_in d ∷ ids))
+object_new : (kind : ObjectKind) (space : Space) (id : Data → Option (List ℕ)) → DeclaresIds kind space id → (n : ℕ) (place : Place) (d : Data) (ids : List (Option (List ℕ))) (s u : Declared) → run twice_step s (visits (suc n) kind place d) ≡ Ok u → AreNew (names_in space u) (given ids) → AreNew (names_in space s) (given (id d ∷ ids))
 unfolding visits run
-object_new kind space is n place d ids s u e h =
+object_new kind space id is n place d ids s u e h =
     let p = split (twice_step s (enters kind place d)) (λ t. run twice_step t (inner n kind place d ++ leaves kind place d ∷ [])) u e in
-    declared_new kind space is place (id_in d) ids s p.between u (sym (is.enter s place d) ∙ p.first) (is.same p.between u (run_ids p.between u _ (is.within n place d) p.second)) h
+    declared_new kind space id is place (id d) ids s p.between u (sym (is.enter s place d) ∙ p.first) (is.same p.between u (run_ids p.between u _ (is.within n place d) p.second)) h
 
-ids_new : (kind : ObjectKind) (space : Space) → DeclaresIds kind space → (n : ℕ) (place : Place) (i : ℕ) (ds : Items) (s t : Declared) → run twice_step s (items_from (visits (suc n) kind) place i ds) ≡ Ok t → AreNew (names_in space s) (given (ids_of ds))
+ids_new : (kind : ObjectKind) (space : Space) (id : Data → Option (List ℕ)) → DeclaresIds kind space id → (n : ℕ) (place : Place) (i : ℕ) (ds : Items) (s t : Declared) → run twice_step s (items_from (visits (suc n) kind) place i ds) ≡ Ok t → AreNew (names_in space s) (given (map id (listed ds)))
 unfolding items_from
-ids_new kind space is n place i no_items s t e = record { distinct = no_distinct; apart = tt }
-ids_new kind space is n place i (item d ds) s t e =
+ids_new kind space id is n place i no_items s t e = record { distinct = no_distinct; apart = tt }
+ids_new kind space id is n place i (item d ds) s t e =
     let p = halves s t (visits (suc n) kind (at_item place i) d) (items_from (visits (suc n) kind) place (suc i) ds) e in
-    object_new kind space is n (at_item place i) d (ids_of ds) s p.between p.first (ids_new kind space is n place (suc i) ds p.between t p.second)
+    object_new kind space id is n (at_item place i) d (map id (listed ds)) s p.between p.first (ids_new kind space id is n place (suc i) ds p.between t p.second)
+
+-- names that are all given
+given_names : (ds : List Data) → given (map name_of_state ds) ≡ map name_in ds
+unfolding name_of_state
+given_names [] = refl
+given_names (d ∷ ds) = ap (λ (ns : List (List ℕ)). name_in d ∷ ns) (given_names ds)
 
 -- ---- the limit of a list
 
@@ -405,8 +449,12 @@ pub record IsFineAgent (names : Declared) (d : Data) : Type 0 where
   pub few_filters : items_len (filter_items d) ≤ 32
   pub rows : AllByRecursion (HasRow names) (listed (row_items d))
   pub filters : AllByRecursion (HasFilter names) (listed (filter_items d))
+  pub state_names : IsDistinct bytes_eq (names_of (state_items d))
   pub row_ids : IsDistinct bytes_eq (given (ids_of (row_items d)))
   pub filter_ids : IsDistinct bytes_eq (given (ids_of (filter_items d)))
+
+states_rule : Rule
+states_rule = optional field.States (form.Objects object.State (Some 63))
 
 filters_rule : Rule
 filters_rule = optional field.Filters (form.Objects object.Filter (Some 32))
@@ -415,20 +463,24 @@ on_rule : Rule
 on_rule = optional field.On (form.Objects object.Row (Some 128))
 
 fine_agent : (names : Declared) (n : ℕ) (place : Place) (d : Data) → ArePassed names (visits (suc (suc n)) object.Agent place d) → IsFineAgent names d
-unfolding filters_rule on_rule
+unfolding states_rule filters_rule on_rule
 fine_agent names n place d p =
     let fields = passed_fields names (suc n) object.Agent place d p in
+    let states = passed_field names (visits (suc n)) (rules_of object.Agent) 7 no_rule place d (omega arith) fields in
     let filters = passed_field names (visits (suc n)) (rules_of object.Agent) 9 no_rule place d (omega arith) fields in
     let rows = passed_field names (visits (suc n)) (rules_of object.Agent) 12 no_rule place d (omega arith) fields in
+    let in_states = passed_inside names (visits (suc n)) states_rule place d states in
     let in_filters = passed_inside names (visits (suc n)) filters_rule place d filters in
     let in_rows = passed_inside names (visits (suc n)) on_rule place d rows in
-    let new_filters = ids_new object.Filter space.Filters filters_declare n (at_key place filters_rule) 0 (filter_items d) in_filters.begins in_filters.ends in_filters.runs in
-    let new_rows = ids_new object.Row space.Rows rows_declare n (at_key place on_rule) 0 (row_items d) in_rows.begins in_rows.ends in_rows.runs in
+    let new_states = ids_new object.State space.States name_of_state states_declare n (at_key place states_rule) 0 (state_items d) in_states.begins in_states.ends in_states.runs in
+    let new_filters = ids_new object.Filter space.Filters id_in filters_declare n (at_key place filters_rule) 0 (filter_items d) in_filters.begins in_filters.ends in_filters.runs in
+    let new_rows = ids_new object.Row space.Rows id_in rows_declare n (at_key place on_rule) 0 (row_items d) in_rows.begins in_rows.ends in_rows.runs in
     record {
       few_rows = limit_objects field.On object.Row 128 _ (get (codes "on") d) (passed_try names (visits (suc n)) on_rule place d rows).0;
       few_filters = limit_objects field.Filters object.Filter 32 _ (get (codes "filters") d) (passed_try names (visits (suc n)) filters_rule place d filters).0;
       rows = each_item names (HasRow names) (visits (suc n) object.Row) (fine_row names n) (at_key place on_rule) 0 (row_items d) in_rows;
       filters = each_item names (HasFilter names) (visits (suc n) object.Filter) (fine_filter names n) (at_key place filters_rule) 0 (filter_items d) in_filters;
+      state_names = subst (IsDistinct bytes_eq) (given_names (listed (state_items d))) new_states.distinct;
       row_ids = new_rows.distinct;
       filter_ids = new_filters.distinct;
     }
@@ -458,7 +510,7 @@ rules_below object.Message = (tt, (tt, tt))
 rules_below object.Chain = (tt, (tt, (tt, (tt, tt))))
 rules_below object.Dispatcher = (tt, (tt, (tt, (tt, (tt, (tt, tt))))))
 rules_below object.Coop = (tt, (tt, (tt, (tt, (omega arith, tt)))))
-rules_below object.Agent = (tt, (tt, (tt, (tt, (tt, (tt, (tt, (tt, (tt, (omega arith, (tt, (tt, (omega arith, tt)))))))))))))
+rules_below object.Agent = (tt, (tt, (tt, (tt, (tt, (tt, (tt, (omega arith, (tt, (omega arith, (tt, (tt, (omega arith, tt)))))))))))))
 rules_below object.State = (tt, (tt, (tt, (tt, (tt, (tt, (tt, tt)))))))
 rules_below object.Limit = (tt, (tt, (tt, tt)))
 rules_below object.Filter = (tt, (tt, (tt, (tt, (tt, (tt, (tt, tt)))))))

@@ -6,6 +6,7 @@ use Rattle.serde_json.proofs.Views.{items_len-items_view}
 use Rattle.serde_json.specs.Data.{Data, no_items}
 use Rattle.serde_json.specs.View.{view, items_view}
 use Rattle.serde_json.specs.declared.value.Value.{Value}
+use Rattle.so_scene_json.specs.declared.act_table.Allowed.{Allowed}
 use Rattle.so_scene_json.specs.declared.act_table.Arg.{Arg}
 use Rattle.so_scene_json.specs.declared.values.Trouble.{Trouble}
 use Rattle.so_scene_json.specs.declared.values.Trouble.TheVariants.{WrongShape, OutOfRange}
@@ -18,7 +19,7 @@ use Rattle.so_scene.specs.Faults.{spelling}
 use Rattle.so_scene_json.specs.Visits.{Place, at_item}
 use Rattle.so_scene_json.specs.Shape.{is_known, has_unknown, first_of, is_within, list_trouble, acts_from, acts_fault, trouble_at, placed}
 use Rattle.so_scene.specs.declared.fault.SceneFault.TheVariants as fault
-use Rattle.so_scene_json.specs.Acts.{arg_trouble, args_trouble, built_trouble, act_trouble}
+use Rattle.so_scene_json.specs.Acts.{arg_trouble, args_trouble, items_trouble, act_trouble}
 use Rattle.so_scene_json.specs.Values.{◌or◌}
 
 pub args_here : (forms : List Arg) (rest : ℕ) (vs : List Value) (i : ℕ) (f : Arg) (v : Value) → i < length vs → length vs ≤ length forms
@@ -48,24 +49,24 @@ args_end all forms rest vs i h a = sym (a ∙ rw (drop_of_length-le vs h) (no_mo
 
 -- ---- how many items there are
 
-fits_by_len : (needed rest : ℕ) (vs : List Value) (fs : List Arg) → built_trouble rest needed (items_view vs) (Some fs) ≡ (if nat_le needed (length vs) && nat_le (length vs) (length fs) then args_trouble fs rest (items_view vs) else Some WrongShape)
+fits_by_len : (needed rest : ℕ) (vs : List Value) (fs : List Arg) → items_trouble rest needed (items_view vs) fs ≡ (if nat_le needed (length vs) && nat_le (length vs) (length fs) then args_trouble fs rest (items_view vs) else Some WrongShape)
 fits_by_len needed rest vs fs = rw (items_len-items_view vs)
 
 second_false : (b : Bool) {A : Type 0} (x y : A) → (if b && false then x else y) ≡ y
 second_false true x y = refl
 second_false false x y = refl
 
-pub too_few : (needed rest : ℕ) (vs : List Value) (fs : List Arg) → length vs < needed → Some WrongShape ≡ built_trouble rest needed (items_view vs) (Some fs)
+pub too_few : (needed rest : ℕ) (vs : List Value) (fs : List Arg) → length vs < needed → Some WrongShape ≡ items_trouble rest needed (items_view vs) fs
 too_few needed rest vs fs h =
     let t : nat_le needed (length vs) ≡ false = lt-leb _ _ h in
     sym (fits_by_len needed rest vs fs ∙ rw t)
 
-pub too_many : (needed rest : ℕ) (vs : List Value) (fs : List Arg) → length fs < length vs → Some WrongShape ≡ built_trouble rest needed (items_view vs) (Some fs)
+pub too_many : (needed rest : ℕ) (vs : List Value) (fs : List Arg) → length fs < length vs → Some WrongShape ≡ items_trouble rest needed (items_view vs) fs
 too_many needed rest vs fs h =
     let t : nat_le (length vs) (length fs) ≡ false = lt-leb _ _ h in
     sym (fits_by_len needed rest vs fs ∙ rw t (second_false (nat_le needed (length vs)) (args_trouble fs rest (items_view vs)) (Some WrongShape)))
 
-pub as_many : (needed rest : ℕ) (vs : List Value) (fs : List Arg) (r : Option Trouble) → needed ≤ length vs → length vs ≤ length fs → r ≡ args_trouble fs rest (items_view vs) → r ≡ built_trouble rest needed (items_view vs) (Some fs)
+pub as_many : (needed rest : ℕ) (vs : List Value) (fs : List Arg) (r : Option Trouble) → needed ≤ length vs → length vs ≤ length fs → r ≡ args_trouble fs rest (items_view vs) → r ≡ items_trouble rest needed (items_view vs) fs
 as_many needed rest vs fs r h k e =
     let t : nat_le needed (length vs) ≡ true = le-leb _ _ h in
     let u : nat_le (length vs) (length fs) ≡ true = le-leb _ _ k in
@@ -103,14 +104,14 @@ within limit f vs b r e t h = h ∙ sym (by_len limit f vs ∙ ap (λ (y : Bool)
 pub past : (limit : Option ℕ) (f : Data → Option Trouble) (vs : List Value) (b : Bool) → b ≡ is_within limit (length vs) → b ≡ false → Some OutOfRange ≡ list_trouble limit f (Some (items_view vs))
 past limit f vs b e t = sym (by_len limit f vs ∙ ap (λ (y : Bool). if y then first_of f (items_view vs) else Some OutOfRange) (sym e ∙ t))
 
-acts_by_len : (place : Place) (vs : List Value) → acts_fault place (Some (items_view vs)) ≡ (if nat_le (length vs) 256 then acts_from act_trouble place 0 (items_view vs) else Some (fault.OutOfRange place))
-acts_by_len place vs = rw (items_len-items_view vs)
+acts_by_len : (allowed : Allowed) (place : Place) (vs : List Value) → acts_fault allowed place (Some (items_view vs)) ≡ (if nat_le (length vs) 256 then acts_from (act_trouble allowed) place 0 (items_view vs) else Some (fault.OutOfRange place))
+acts_by_len allowed place vs = rw (items_len-items_view vs)
 
-pub few_acts : (place : Place) (vs : List Value) (r : Option SceneFault) → length vs ≤ 256 → r ≡ acts_from act_trouble place 0 (items_view vs) → r ≡ acts_fault place (Some (items_view vs))
-few_acts place vs r h e = let t : nat_le (length vs) 256 ≡ true = le-leb _ _ h in e ∙ sym (acts_by_len place vs ∙ rw t)
+pub few_acts : (allowed : Allowed) (place : Place) (vs : List Value) (r : Option SceneFault) → length vs ≤ 256 → r ≡ acts_from (act_trouble allowed) place 0 (items_view vs) → r ≡ acts_fault allowed place (Some (items_view vs))
+few_acts allowed place vs r h e = let t : nat_le (length vs) 256 ≡ true = le-leb _ _ h in e ∙ sym (acts_by_len allowed place vs ∙ rw t)
 
-pub many_acts : (place at : Place) (vs : List Value) → 256 < length vs → at ≡ place → Some (fault.OutOfRange at) ≡ acts_fault place (Some (items_view vs))
-many_acts place at vs h e = let t : nat_le (length vs) 256 ≡ false = lt-leb _ _ h in ap (λ p. Some (fault.OutOfRange p)) e ∙ sym (acts_by_len place vs ∙ rw t)
+pub many_acts : (allowed : Allowed) (place at : Place) (vs : List Value) → 256 < length vs → at ≡ place → Some (fault.OutOfRange at) ≡ acts_fault allowed place (Some (items_view vs))
+many_acts allowed place at vs h e = let t : nat_le (length vs) 256 ≡ false = lt-leb _ _ h in ap (λ p. Some (fault.OutOfRange p)) e ∙ sym (acts_by_len allowed place vs ∙ rw t)
 
 -- ---- the first fault of an act
 

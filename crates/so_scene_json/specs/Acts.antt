@@ -43,9 +43,12 @@ act_parts d = parts_in (as_array d)
 abbrev pub fits : ℕ → List Arg → Items → Bool
 fits needed args ds = nat_le needed (items_len ds) && nat_le (items_len ds) (length args)
 
+abbrev pub items_trouble : ℕ → ℕ → Items → List Arg → Option Trouble
+items_trouble rest needed ds args = if fits needed args ds then args_trouble args rest ds else Some WrongShape
+
 abbrev pub built_trouble : Bool → ℕ → ℕ → Items → Option (List Arg) → Option Trouble
 built_trouble may rest needed ds None = Some NotBuilt
-built_trouble may rest needed ds (Some args) = if may && fits needed args ds then args_trouble args rest ds else Some WrongShape
+built_trouble may rest needed ds (Some args) = if may then items_trouble rest needed ds args else Some WrongShape
 
 abbrev pub parts_trouble : Allowed → ℕ → Option (Word × Items) → Option Trouble
 parts_trouble allowed rest None = Some WrongShape

@@ -1,6 +1,7 @@
 -- The fourth pass: the parts of the scene, the tree of each agent's states, and the length of each code.
-use Rattle.std.specs.Prelude.{ℕ, suc, ◌-◌, List, [], ◌∷◌, ◌++◌, length, codes, nat_lt, is_some, if◌then◌else◌, Option, Some, None, Result, Ok, Err}
+use Rattle.std.specs.Prelude.{ℕ, suc, ◌-◌, List, [], ◌∷◌, ◌++◌, length, codes, Bool, ◌||◌, nat_lt, if◌then◌else◌, Option, Some, None, Result, Ok, Err}
 use Rattle.serde_json.specs.Data.{Data, Items, no_items, item}
+use Rattle.serde_json.specs.Events.{items_len}
 use Rattle.serde_json.specs.Find.{get}
 use Rattle.so_code.specs.declared.instr.Body.{Body}
 use Rattle.so_code.specs.declared.instr.Body.TheVariants as body
@@ -71,19 +72,16 @@ agent_written names w d = rows_written names 0 (states_written names 1 (start_wr
 
 -- ---- the tree of an agent's states
 
-abbrev pub states_place : Place → Place
-states_place place = place ++ Key States ∷ []
-
 abbrev pub state_place : Place → StateId → Place
-state_place place s = at_item (states_place place) (s.0 - 1)
+state_place place s = at_item (place ++ Key States ∷ []) (s.0 - 1)
 
 abbrev pub unless_broken : Place → List State → Option TreeFault → Result (List State) SceneFault
 unless_broken place states None = Ok states
 unless_broken place states (Some f) = Err (fault.Tree (state_place place (named f)) f)
 
--- the tree's first fault, at the state that it names; the first pass leaves no longer list
+-- the tree's first fault, at the state that it names
 abbrev pub tree_of : Place → List State → Result (List State) SceneFault
-tree_of place states = if nat_lt 63 (length states) then Err (fault.OutOfRange (states_place place)) else unless_broken place states (tree_fault states)
+tree_of place states = unless_broken place states (tree_fault states)
 
 -- ---- the pass
 
@@ -125,9 +123,16 @@ written s d = agent_written s.names (fresh s.texts d) d
 abbrev pub with_code : Place → Build → Data → List State → Writer → Result Build SceneFault
 with_code place s d tree w = if nat_lt 1024 (length w.code) then Err (fault.OutOfRange place) else Ok (record s { agents = s.agents ++ agent_of (length s.agents) s.names d tree w ∷ []; texts = w.texts })
 
+-- more states or rows than the first pass lets through
+abbrev pub is_long : Data → Bool
+is_long d = nat_lt 63 (items_len (state_items d)) || nat_lt 128 (items_len (row_items d))
+
+abbrev pub with_tree : Place → Build → Data → Result Build SceneFault
+with_tree place s d = tree_of place (states_of (scope_of d) (state_items d)) >>= λ tree. with_code place s d tree (written s d)
+
 -- an agent: first its tree, then its code
 abbrev pub with_agent : Place → Build → Data → Result Build SceneFault
-with_agent place s d = tree_of place (states_of (scope_of d) (state_items d)) >>= λ tree. with_code place s d tree (written s d)
+with_agent place s d = if is_long d then Err (fault.OutOfRange place) else with_tree place s d
 
 abbrev pub entered : ObjectKind → Place → Build → Data → Result Build SceneFault
 entered object.Message place s d = Ok (with_message d s)

@@ -1,8 +1,8 @@
 -- The parts of a scene that one value stands for. A part that an earlier pass refuses stands as 0 here.
-use Rattle.std.specs.Prelude.{ℕ, ℤ, pos, List, map, codes, if◌then◌else◌, Bool, Option, Some, None, is_some, true, false}
+use Rattle.std.specs.Prelude.{ℕ, ℤ, pos, List, map, codes, if◌then◌else◌, Bool, Option, Some, None, option_and_then, is_some, true, false}
 use Rattle.std.specs.List.{range_with_len}
 use Rattle.serde_json.specs.Data.{Data, Items}
-use Rattle.serde_json.specs.Find.{get, get_item}
+use Rattle.serde_json.specs.Find.{as_str, get, get_item}
 use Rattle.so_ids.specs.declared.MboxId.{MboxId}
 use Rattle.so_ids.specs.declared.MsgId.{MsgId}
 use Rattle.so_ids.specs.declared.StateId.{StateId}
@@ -59,8 +59,12 @@ mbox_in names d = record { 0 = number_named names space.Mboxes (codes "mbox") d 
 -- ---- states
 
 -- the state that a field names: `default` where it names none
+abbrev pub state_named : Scope → Option (List ℕ) → ℕ
+state_named scope None = 0
+state_named scope (Some name) = narrow_or_zero (state_number scope name)
+
 abbrev pub state_in : Scope → List ℕ → Data → StateId
-state_in scope key d = record { 0 = narrow_or_zero (state_number scope (string_in key d)) }
+state_in scope key d = record { 0 = state_named scope (option_and_then as_str (get key d)) }
 
 abbrev pub parent_in : Scope → Data → Option StateId
 parent_in scope d = if is_some (get (codes "parent") d) then Some (state_in scope (codes "parent") d) else None

@@ -3,7 +3,7 @@
 ghost use Rattle.std.specs.Prelude.{◌≡◌, ◌≤◌, Some, length, option_map};
 ghost use Rattle.serde_json.specs.View.{view, items_view};
 ghost use Rattle.so_scene_json.specs.ActTable.{args_of, needed_of, is_allowed};
-ghost use Rattle.so_scene_json.specs.Acts.{arg_trouble, args_trouble, act_parts, fits, built_trouble, act_trouble};
+ghost use Rattle.so_scene_json.specs.Acts.{arg_trouble, args_trouble, act_parts, fits, items_trouble, built_trouble, act_trouble};
 
 use crate::act_table::{Allowed, Arg, Word, args, is_allowed, needed, word_by_name};
 use crate::values::{Trouble, comparison, count, dest, name, operand, text};
@@ -48,18 +48,9 @@ pub(crate) fn parts(value: &Value) -> Option<(Word, &[Value])>
     }
 }
 
-fn built_fault(
-    forms: &[Arg],
-    may: bool,
-    needed: usize,
-    rest: usize,
-    list: &[Value],
-) -> Option<Trouble>
-    ensures { result ≡ built_trouble may rest needed (items_view list.now) (Some forms.now) }
+fn items_fault(forms: &[Arg], needed: usize, rest: usize, list: &[Value]) -> Option<Trouble>
+    ensures { result ≡ items_trouble rest needed (items_view list.now) forms.now }
 {
-    if !may {
-        return Some(Trouble::WrongShape);
-    }
     if list.len() < needed {
         return Some(Trouble::WrongShape);
     }
@@ -73,7 +64,11 @@ fn parts_fault(allowed: Allowed, rest: usize, word: Word, list: &[Value]) -> Opt
     ensures { result ≡ built_trouble (is_allowed allowed word) rest (needed_of word) (items_view list.now) (args_of word) }
 {
     match args(word) {
-        Some(forms) => built_fault(forms, is_allowed(allowed, word), needed(word), rest, list),
+        Some(forms) => if is_allowed(allowed, word) {
+            items_fault(forms, needed(word), rest, list)
+        } else {
+            Some(Trouble::WrongShape)
+        },
         None => Some(Trouble::NotBuilt),
     }
 }

@@ -1,9 +1,10 @@
 //! The fourth pass: the parts of the scene, the tree of each agent's states, and the length of each code.
 
-ghost use Rattle.std.specs.Prelude.{◌≡◌, ◌<◌, ◌≤◌, ◌-◌, ◌++◌, ◌∷◌, [], List, Ok, IfOk, length, option_map};
+ghost use Rattle.std.specs.Prelude.{◌≡◌, ◌<◌, ◌≤◌, ◌-◌, ◌++◌, ◌∷◌, [], false, Ok, IfOk, length, option_map};
+ghost use Rattle.serde_json.specs.Events.{items_len};
 ghost use Rattle.serde_json.specs.View.{view, items_view};
 ghost use Rattle.so_code.specs.Shape.{IsCode};
-ghost use Rattle.so_scene_json.specs.Build.{allowed_in, body_written, start_written, state_written, states_written, row_body, handler_written, rows_written, agent_written, states_place, state_place, tree_of, no_parts, with_message, with_coop, agent_with, with_code, with_agent, build_step};
+ghost use Rattle.so_scene_json.specs.Build.{allowed_in, body_written, start_written, state_written, states_written, row_body, handler_written, rows_written, agent_written, state_place, tree_of, is_long, no_parts, with_message, with_coop, agent_with, with_code, with_tree, with_agent, build_step};
 ghost use Rattle.so_scene_json.specs.Reads.{Reads, Returns};
 ghost use Rattle.so_scene_json.specs.Visits.{list_of, Leaves};
 ghost use Rattle.so_state.specs.Fault.{named};
@@ -111,15 +112,6 @@ impl Writer {
     }
 }
 
-/// The place of the state that a fault of a tree names, in the agent at this place.
-fn state_place(place: &ScenePlace, fault: TreeFault) -> ScenePlace
-    requires { length place.now < 15 }
-    ensures { result ≡ state_place place.now (named fault) }
-{
-    let k = named(fault).0.saturating_sub(1);
-    states_place(place).step(PlaceStep::At(position(k as usize)))
-}
-
 /// The state that a fault of a tree names.
 fn named(fault: TreeFault) -> StateId
     ensures { result ≡ named fault }
@@ -133,26 +125,43 @@ fn named(fault: TreeFault) -> StateId
     }
 }
 
-/// The place of the states of the agent at this place.
-fn states_place(place: &ScenePlace) -> ScenePlace
-    requires { length place.now < 16 }
-    ensures { result ≡ states_place place.now }
+/// The place of a state of the agent at this place.
+fn state_place(place: &ScenePlace, state: StateId) -> ScenePlace
+    requires { length place.now < 15 }
+    ensures { result ≡ state_place place.now state }
 {
-    place.step(PlaceStep::Key(Field::States))
+    let k = state.0.saturating_sub(1) as usize;
+    let states = place.step(PlaceStep::Key(Field::States));
+    states.step(PlaceStep::At(position(k)))
 }
 
 /// The tree of the states of the agent at this place.
 fn tree_of(place: &ScenePlace, states: Items<State>) -> Result<Tree, SceneRefusal>
-    requires { length place.now < 15 }
+    requires place { length place.now < 15 }
+    requires few { length states ≤ 63 }
     ensures { Reads result (tree_of place.now states) }
 {
-    if states.len() > 63 {
-        return Err(SceneRefusal::Fault(SceneFault::OutOfRange(states_place(place))));
-    }
     match Tree::check(states.into_vec()) {
         Ok(tree) => Ok(tree),
-        Err(fault) => Err(SceneRefusal::Fault(SceneFault::Tree(state_place(place, fault), fault))),
+        Err(fault) => {
+            let place = state_place(place, named(fault));
+            Err(SceneRefusal::Fault(SceneFault::Tree(place, fault)))
+        }
     }
+}
+
+/// Tells whether an agent has more states or rows than the first pass lets through.
+fn is_long(agent: &Value) -> bool
+    ensures { result ≡ is_long (view agent.now) }
+{
+    count(agent.get("states")) > 63 || count(agent.get("on")) > 128
+}
+
+/// How many items a list has.
+fn count(found: Option<&Value>) -> usize
+    ensures { result ≡ items_len (list_of (option_map (λ v. view v.now) found.entry)) }
+{
+    list(found).len()
 }
 
 /// The code of an agent of these names and ids, with the texts so far and its own.
@@ -162,6 +171,7 @@ fn written(
     scope: Scope,
     value: &Value,
 ) -> Result<Writer, SceneRefusal>
+    requires { is_long (view value.now) ≡ false }
     ensures value { Returns (agent_written names.now (record { texts = texts; code = []; scope = scope }) (view value.now)) result }
     ensures code { IfOk result (λ w. length w.code ≤ 1024 → IsCode w.code) }
 {
@@ -259,6 +269,17 @@ impl Build {
         requires { length place.now < 15 }
         ensures { Leaves (with_agent place.now self.old (view value.now)) result self.new }
     {
+        if is_long(value) {
+            return Err(SceneRefusal::Fault(SceneFault::OutOfRange(place.copy())));
+        }
+        self.with_tree(place, value)
+    }
+
+    fn with_tree(&mut self, place: &ScenePlace, value: &Value) -> Result<(), SceneRefusal>
+        requires place { length place.now < 15 }
+        requires few { is_long (view value.now) ≡ false }
+        ensures { Leaves (with_tree place.now self.old (view value.now)) result self.new }
+    {
         let alloc = self.texts.alloc();
         let scope = Scope::of(alloc, value)?;
         let states = states_in(alloc, &scope, list(value.get("states")))?;
@@ -274,6 +295,7 @@ impl Build {
         tree: Tree,
         scope: Scope,
     ) -> Result<(), SceneRefusal>
+        requires { is_long (view value.now) ≡ false }
         ensures { Leaves (with_code place.now self.old (view value.now) tree (agent_written self.old.names (record { texts = self.old.texts; code = []; scope = scope }) (view value.now))) result self.new }
     {
         let alloc = self.texts.alloc();

@@ -1,9 +1,9 @@
 //! The parts of a scene that one value stands for: a message, and an agent's variables, states, rows and filters.
 
-ghost use Rattle.std.specs.Prelude.{◌≡◌, ◌++◌, ◌∷◌, [], ℤ, map, length};
+ghost use Rattle.std.specs.Prelude.{◌≡◌, ◌++◌, ◌∷◌, [], ℤ, Some, map, length};
 ghost use Rattle.std.specs.List.{range_with_len};
 ghost use Rattle.serde_json.specs.View.{view, items_view};
-ghost use Rattle.so_scene_json.specs.Defs.{message_of, var_at, vars_in, vars_of, number_named, msg_in, mbox_in, state_in, parent_in, history_in, state_of, states_of, row_mbox, handler_kind, kind_of, row_of, rows_of, field_in, cmp_in, value_in, filter_of, filters_of};
+ghost use Rattle.so_scene_json.specs.Defs.{message_of, var_at, vars_in, vars_of, number_named, msg_in, mbox_in, state_named, state_in, parent_in, history_in, state_of, states_of, row_mbox, handler_kind, kind_of, row_of, rows_of, field_in, cmp_in, value_in, filter_of, filters_of};
 ghost use Rattle.so_scene_json.specs.Reads.{Returns};
 ghost use Rattle.so_scene_json.specs.Values.{name_in};
 
@@ -105,9 +105,21 @@ fn row_mbox(agent: usize, names: &Declared, value: &Value) -> MboxId
 fn state_in(scope: &Scope, key: &str, value: &Value) -> StateId
     ensures { result ≡ state_in scope.now key.now (view value.now) }
 {
-    match scope.state(string_in(value, key)) {
-        Some(n) => StateId(position(n)),
+    match value.get(key) {
+        Some(found) => match found.as_str() {
+            Some(name) => StateId(state_named(scope, name)),
+            None => StateId(0),
+        },
         None => StateId(0),
+    }
+}
+
+fn state_named(scope: &Scope, name: &str) -> u32
+    ensures { result ≡ state_named scope.now (Some name.now) }
+{
+    match scope.state(name) {
+        Some(n) => position(n),
+        None => 0,
     }
 }
 

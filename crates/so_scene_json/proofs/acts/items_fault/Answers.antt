@@ -1,5 +1,5 @@
 use Rattle.so_scene_json.proofs.Shapes.{too_few, too_many, as_many}
-use Rattle.so_scene_json.proofs.acts.built_fault.Goals as goal
+use Rattle.so_scene_json.proofs.acts.items_fault.Goals as goal
 
 pub returns-then-list-needed : goal.returns-then-list-needed
 returns-then-list-needed c = too_few _ _ _ _ c.if-list-needed.true

@@ -1,0 +1,48 @@
+use Rattle.std.proofs.Common.{◌≡◌, ◌≤◌, ℕ, List, [], ◌∷◌, ◌++◌, length, Bool, true, false, nat_lt, Result, Ok, refl, sym, ap, ◌∙◌, subst, arith}
+use Rattle.std.proofs.lemmas.Bool.{true≢false, le-ltb}
+use Rattle.serde_json.specs.Data.{Data}
+use Rattle.serde_json.specs.View.{view}
+use Rattle.so_scene.specs.declared.fault.SceneFault.{SceneFault}
+use Rattle.so_scene.specs.declared.fault.SceneRefusal.{SceneRefusal}
+use Rattle.so_scene.specs.declared.parts.AgentDef.{AgentDef}
+use Rattle.so_scene_json.specs.declared.build.Build.{Build}
+use Rattle.so_scene_json.specs.declared.scope.Scope.{Scope}
+use Rattle.so_scene_json.specs.declared.write.Writer.{Writer}
+use Rattle.so_state.specs.declared.states.State.{State}
+use Rattle.so_scene_json.specs.Visits.{Place, Leaves}
+use Rattle.so_scene_json.specs.Build.{agent_written, agent_with, agent_of, with_code}
+use Rattle.so_scene_json.proofs.build.Build.with_code.Goals as goal
+
+abbrev ok : Build → Result Build SceneFault
+ok b = Ok b
+
+within : (place : Place) (s : Build) (d : Data) (tree : List State) (w : Writer) (b : Bool) → nat_lt 1024 (length w.code) ≡ b → length w.code ≤ 1024
+    → with_code place s d tree w ≡ Ok (record s { agents = s.agents ++ agent_of (length s.agents) s.names d tree w ∷ []; texts = w.texts })
+within place s d tree w true e l = absurd (true≢false (sym e ∙ le-ltb 1024 (length w.code) l))
+within place s d tree w false e l = rw e
+
+begun : List (List ℕ) → Scope → Writer
+begun texts scope = record { texts = texts; code = []; scope = scope }
+
+-- the texts were taken out while the code was written
+added : (place : Place) (s taken : Build) (d : Data) (tree : List State) (scope : Scope) (w : Writer) (texts : List (List ℕ)) (agent : AgentDef) (n : ℕ) → texts ≡ s.texts → taken ≡ record s { texts = [] } → n ≡ length s.agents
+    → agent_written taken.names (record { texts = texts; code = []; scope = scope }) d ≡ w → agent_with n taken.names d tree w.scope w.code ≡ agent → length w.code ≤ 1024
+    → with_code place s d tree (agent_written s.names (record { texts = s.texts; code = []; scope = scope }) d) ≡ Ok (record taken { agents = taken.agents ++ agent ∷ []; texts = w.texts })
+unfolding begun
+added place s taken d tree scope w texts agent n e f l g a few =
+    let same : agent_written s.names (begun s.texts scope) d ≡ w = ap (λ x. agent_written s.names (begun x scope) d) (sym e) ∙ (ap (λ (b : Build). agent_written b.names (begun texts scope) d) (sym f) ∙ g) in
+    let made : agent_with n s.names d tree w.scope w.code ≡ agent = ap (λ (b : Build). agent_with n b.names d tree w.scope w.code) (sym f) ∙ a in
+    ap (with_code place s d tree) same
+    ∙ (within place s d tree w (nat_lt 1024 (length w.code)) refl few
+    ∙ (ap (λ k. ok (record s { agents = s.agents ++ agent_with k s.names d tree w.scope w.code ∷ []; texts = w.texts })) (sym l)
+    ∙ (ap (λ x. ok (record s { agents = s.agents ++ x ∷ []; texts = w.texts })) made
+    ∙ ap (λ (b : Build). ok (record b { agents = b.agents ++ agent ∷ []; texts = w.texts })) (sym f))))
+
+leaves_as : (a b : Result Build SceneFault) (r : Result (Unit {0}) SceneRefusal) (n : Build) → a ≡ b → Leaves b r n → Leaves a r n
+leaves_as a b r n e h = subst (λ q. Leaves q r n) (sym e) h
+
+pub returns : goal.returns
+returns c =
+    leaves_as _ _ c.add.result c.add.new.self
+    (added c.args.place.now c.args.self.now c.take_texts-texts.new.self (view c.args.value.now) c.args.tree c.args.scope c.in_ok-texts.field-0 c.take_texts-texts.result c.in_ok-agent.agent c.len-number.result c.take_texts-texts.ensures.taken c.take_texts-texts.ensures.rest c.len-number.ensures c.in_ok-texts.ensures.value c.in_ok-agent.ensures (omega (arith, c.if-len-gt1024.false, c.len.ensures)))
+    c.add.ensures
