@@ -10,6 +10,8 @@ mod tests;
 mod trace;
 mod words;
 
-pub use entry::{AbortCause, Demand, DemandKind, Entry, EntryKind, EventSource, Pick, SkipWhy, StopCause};
+pub use entry::{
+    AbortCause, Demand, DemandKind, Entry, EntryKind, EventSource, Pick, SkipWhy, StopCause,
+};
 pub use history::History;
 pub use lines::Mode;

@@ -15,9 +15,7 @@ ghost use Rattle.so_kernel.specs.Gates.{begin_by, queued_by_answer};
 use crate::kernel::Kernel;
 use so_code::Answer;
 use so_history::{Demand, DemandKind, Entry, EntryKind, EventSource, SkipWhy, StopCause};
-use so_ids::{
-    AgentId, Chosen, CoopId, LaneId, MboxId, MsgId, Opening, PartyId, Payload, Reason,
-};
+use so_ids::{AgentId, Chosen, CoopId, LaneId, MboxId, MsgId, Opening, PartyId, Payload, Reason};
 use so_state::choose;
 
 impl<'a> Kernel<'a> {

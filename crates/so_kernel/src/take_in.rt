@@ -115,7 +115,9 @@ impl<'a> Kernel<'a> {
         ensures { self.new ≡ core_after self.old (Ok entry) }
     {
         match effect {
-            Effect::Log { .. } | Effect::Switch { .. } | Effect::Choose => self.add_quiet(entry, agent),
+            Effect::Log { .. } | Effect::Switch { .. } | Effect::Choose => self.add_quiet(
+                entry, agent,
+            ),
             Effect::SetState { leaf } => self.add_set_state(entry, agent, leaf),
             Effect::Send {
                 target: Target::Mbox(mbox),

@@ -6,8 +6,10 @@ use Rattle.so_kernel.proofs.states.States.reset.Goals as goal
 
 pub loop-agent-preserved : goal.loop-agent-preserved
 loop-agent-preserved c =
-    rw c.set.ensures (length-set _ _ _ ∙ c.loop-agent.invariant.0,
-    new_set c.loop-agent.agent c.loop-agent.self c.new.result (omega (arith, c.loop-agent.invariant.0, c.loop-agent-test.true, c.agents-agent-end.ensures)) c.new.ensures c.loop-agent.invariant.1)
+    rw c.set.ensures (
+      length-set _ _ _ ∙ c.loop-agent.invariant.0,
+      new_set c.loop-agent.agent c.loop-agent.self c.new.result (omega (arith, c.loop-agent.invariant.0, c.loop-agent-test.true, c.agents-agent-end.ensures)) c.new.ensures c.loop-agent.invariant.1,
+    )
 
 pub returns : goal.returns
 returns c =

@@ -7,8 +7,10 @@ use Rattle.so_kernel.proofs.states.States.with.Goals as goal
 pub loop-agent-preserved : goal.loop-agent-preserved
 loop-agent-preserved c =
     let items : c.push.new.self.items ≡ c.loop-agent.list.items ++ c.new.result ∷ [] = grind (arith, c.push.ensures.items, c.is_err.ensures.value, c.is_err.ensures.negation, c.if-is_err.false) in
-    rw items (length-append c.loop-agent.list.items (c.new.result ∷ []) ∙ omega (arith, c.loop-agent.invariant.0),
-    new_pushed c.loop-agent._agent c.loop-agent.list.items c.new.result c.loop-agent.invariant.0 c.new.ensures c.loop-agent.invariant.1)
+    rw items (
+      length-append c.loop-agent.list.items (c.new.result ∷ []) ∙ omega (arith, c.loop-agent.invariant.0),
+      new_pushed c.loop-agent._agent c.loop-agent.list.items c.new.result c.loop-agent.invariant.0 c.new.ensures c.loop-agent.invariant.1,
+    )
 
 pub returns : goal.returns
 returns c =
