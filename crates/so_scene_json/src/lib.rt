@@ -2,8 +2,8 @@
 //!
 //! A table says which fields each kind of object has. A walk visits the objects and fields of a file in
 //! the order of the table. Four passes go along that walk: the shape of each field, names that are
-//! declared twice, names that nobody declares, and the parts of the scene with the length of each code.
-//! The first fault of the first pass that has one is the answer.
+//! declared twice, names that nobody declares, and the parts of the scene with the tree of each agent's states and
+//! the length of each code. The first fault of the first pass that has one is the answer.
 #![tactic(auto)]
 
 mod act_table;
