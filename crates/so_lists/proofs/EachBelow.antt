@@ -1,7 +1,7 @@
 -- Lists by number, which stand for a function.
-use Rattle.std.proofs.Common.{◌≡◌, ℕ, zero, suc, ◌<◌, [], ◌∷◌, ◌++◌, length, arith, refl, sym, ◌∙◌, ap, get_or, inl, inr, add-one}
+use Rattle.std.proofs.Common.{◌≡◌, ℕ, zero, suc, ◌+◌, List, ◌<◌, [], ◌∷◌, ◌++◌, length, arith, refl, sym, ◌∙◌, ap, get_or, inl, inr, add-one}
 use Rattle.std.specs.Prelude.{slice_set, replicate}
-use Rattle.std.proofs.lemmas.List.{length-append, set-append_left, get_or_append_left}
+use Rattle.std.proofs.lemmas.List.{append_assoc, length-append, set-append_left, get_or_append_left}
 use Rattle.std.proofs.Math.Seq.{set-append_seam, get_or-append_seam}
 use Rattle.std.proofs.lemmas.Grind.{replicate_next}
 use Rattle.std.proofs.lemmas.Bool.{cases_lt}
@@ -64,3 +64,15 @@ pub all-each_below : {X : Type 0} (P : X → Type 0) (f : ℕ → X) (n : ℕ) �
 unfolding each_below
 all-each_below P f zero a = tt
 all-each_below P f (suc n) a = each-append P (each_below f n) (f n ∷ []) (all-each_below P f n (λ i l. a i (omega arith))) (a n (omega arith), tt)
+
+-- one number more
+pub each_below-none : {X : Type 0} (f : ℕ → X) → each_below f 0 ≡ []
+unfolding each_below
+each_below-none f = refl
+
+pub each_below-next : {X : Type 0} (f : ℕ → X) (n : ℕ) → each_below f (n + 1) ≡ each_below f n ++ f n ∷ []
+unfolding each_below
+each_below-next f n = rw (add-one n) refl
+
+pub each_below-pushed : {X : Type 0} (f : ℕ → X) (n : ℕ) (ys xs : List X) → xs ≡ ys ++ each_below f n → xs ++ f n ∷ [] ≡ ys ++ each_below f (n + 1)
+each_below-pushed f n ys xs is = rw (is, each_below-next f n) (append_assoc ys (each_below f n) (f n ∷ []))

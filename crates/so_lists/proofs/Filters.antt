@@ -1,6 +1,6 @@
 -- Filters, searches, and what holds of each element.
-use Rattle.std.proofs.Common.{◌≡◌, ◌≤◌, List, [], ◌∷◌, ◌++◌, length, Bool, true, false, not, ◌&&◌, ◌||◌, cond, Option, Some, None, arith, refl, sym, ◌∙◌, ap}
-use Rattle.std.specs.List.{filter, find, AllByRecursion}
+use Rattle.std.proofs.Common.{◌≡◌, ℕ, ◌+◌, ◌≤◌, List, [], ◌∷◌, ◌++◌, length, Bool, true, false, not, ◌&&◌, ◌||◌, cond, Option, Some, None, arith, refl, sym, ◌∙◌, ap}
+use Rattle.std.specs.List.{filter, find, filter_map, cons_option, AllByRecursion}
 use Rattle.std.proofs.lemmas.List.Elements.{filter_agree}
 use Rattle.std.proofs.lemmas.List.Sums.{length-filter, count_by-le-length}
 use Rattle.std.proofs.lemmas.Bool.{false≢true}
@@ -125,3 +125,11 @@ find_front p (x ∷ xs) ys a = ap (λ r. cond (p x) (Some x) r) (find_front p xs
 pub filter_none : {X : Type 0} (p : X → Bool) (xs : List X) → AllByRecursion (λ x. p x ≡ false) xs → filter p xs ≡ []
 filter_none p [] a = refl
 filter_none p (x ∷ xs) a = rw (a.0, filter_none p xs a.1) refl
+
+cons_short : {Y : Type 0} (o : Option Y) (ys : List Y) (n : ℕ) → length ys ≤ n → length (cons_option o ys) ≤ n + 1
+cons_short None ys n l = omega (arith, l)
+cons_short (Some y) ys n l = omega (arith, l)
+
+pub filter_map-short : {X Y : Type 0} (f : X → Option Y) (xs : List X) → length (filter_map f xs) ≤ length xs
+filter_map-short f [] = omega arith
+filter_map-short f (x ∷ xs) = omega (arith, cons_short (f x) (filter_map f xs) (length xs) (filter_map-short f xs))

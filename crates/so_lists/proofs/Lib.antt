@@ -1,3 +1,5 @@
+pub mod Any
 pub mod EachBelow
 pub mod Filters
 pub mod First
+pub mod Given

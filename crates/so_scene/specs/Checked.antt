@@ -1,15 +1,21 @@
 -- What a checked scene keeps.
-use Rattle.std.specs.Prelude.{◌≡◌, ℕ, suc, ◌<◌, ◌≤◌, List, [], ◌∷◌, length, map, slice_index_or, bytes_eq, Bool, false, true, if◌then◌else◌, Option, Some, None, is_some}
-use Rattle.std.specs.List.{All, IsDistinct}
+use Rattle.std.specs.Prelude.{◌≡◌, ℕ, zero, suc, ◌++◌, replicate, ◌<◌, ◌≤◌, List, [], ◌∷◌, length, map, slice_index_or, bytes_eq, Bool, false, true, if◌then◌else◌, Option, Some, None, is_some}
+use Rattle.std.specs.List.{All, IsDistinct, filter_map}
 use Rattle.so_ids.specs.declared.AgentId.{AgentId}
+use Rattle.so_ids.specs.declared.DispId.{DispId}
 use Rattle.so_ids.specs.declared.RowId.{RowId}
 use Rattle.so_ids.specs.declared.Target.{Target}
 use Rattle.so_ids.specs.declared.Target.TheVariants.{Mbox, Chain}
+use Rattle.so_lists.specs.Lists.{head, AreNumbered}
 use Rattle.so_code.specs.declared.instr.Instr.{Instr}
 use Rattle.so_code.specs.declared.instr.Instr.TheVariants as instr
 use Rattle.so_code.specs.Bodies.{bodies_in}
 use Rattle.so_code.specs.Shape.{IsCode, agent_bodies}
 use Rattle.so_scene.specs.declared.parts.CoopDef.{CoopDef}
+use Rattle.so_scene.specs.declared.parts.DispDef.{DispDef}
+use Rattle.so_scene.specs.declared.parts.DispKind.{DispKind}
+use Rattle.so_scene.specs.declared.parts.DispKind.TheVariants.{OneThread, ActiveObj, ActiveGroup, ThreadPool, AdvThreadPool}
+use Rattle.so_scene.specs.declared.parts.Fifo.TheVariants.{Cooperation}
 use Rattle.so_scene.specs.declared.parts.FilterDef.{FilterDef}
 use Rattle.so_state.specs.declared.choice.Row.{Row}
 use Rattle.so_state.specs.declared.choice.RowKind.{RowKind}
@@ -20,7 +26,9 @@ use Rattle.so_ids.specs.declared.StateId.{StateId}
 use Rattle.so_state.specs.States.{default_state}
 use Rattle.so_scene.specs.declared.parts.AgentDef.{AgentDef}
 use Rattle.so_scene.specs.declared.parts.SceneParts.{SceneParts}
-use Rattle.so_scene.specs.Parts.{message_name, mbox_names, mboxes}
+use Rattle.so_scene.specs.Parts.{message_name, mbox_names, mboxes, agent_of, disp_of, disp_name, groups_of, default_disp}
+use Rattle.so_scene.specs.Words.{is_name, is_text}
+use Rattle.so_scene.specs.Lanes.{agent_number, bound_to, lanes}
 use Rattle.so_scene.specs.Definition.{definition_fault}
 
 -- what an agent's acts may name: so many mboxes, messages, texts and declared states, and its rows and filters, each with its
@@ -62,6 +70,62 @@ NamesWithin n instr.Stop = Unit {0}
 NamesWithin n (instr.End body) = Unit {0}
 NamesWithin n other = ⊥
 
+-- ---- dispatchers
+
+-- a kind of dispatcher that is built
+abbrev pub is_built : DispKind → Bool
+is_built OneThread = true
+is_built ActiveObj = true
+is_built ActiveGroup = true
+is_built ThreadPool = true
+is_built other = false
+
+abbrev pub is_pool : DispKind → Bool
+is_pool ThreadPool = true
+is_pool AdvThreadPool = true
+is_pool other = false
+
+-- threads and the parameter of the queues are a pool's; slots and quotes aren't built
+pub record IsDisp (d : DispDef) : Type 0 where
+  pub named : is_name d.name ≡ true
+  pub kind : is_built d.kind ≡ true
+  pub slots : d.slots ≡ 4096
+  pub some_threads : 1 ≤ d.threads
+  pub few_threads : d.threads ≤ 64
+  pub no_pool : is_pool d.kind ≡ false → (d.threads ≡ 4) × (d.fifo ≡ Cooperation)
+  pub quotes : d.quotes ≡ replicate 8 20
+
+-- an agent on an active_group dispatcher has a group of that one, and any other has none
+abbrev pub IsGroup : DispKind → ℕ → Option ℕ → Type 0
+IsGroup ActiveGroup groups (Some g) = g < groups
+IsGroup ActiveGroup groups None = ⊥
+IsGroup other groups group = group ≡ None
+
+-- the groups that the agents of a dispatcher name, by agent
+abbrev pub group_in : SceneParts → AgentId → Option ℕ
+group_in s a = (agent_of s a).group
+
+abbrev pub group_uses : SceneParts → DispId → List ℕ
+group_uses s d = filter_map (group_in s) (bound_to s d)
+
+-- the groups of a dispatcher have names that differ, and are numbered as agents name them
+pub record AreGroups (s : SceneParts) (d : DispId) : Type 0 where
+  pub named : All (λ name. is_name name ≡ true) (groups_of s d)
+  pub each_once : IsDistinct bytes_eq (groups_of s d)
+  pub numbered : AreNumbered (group_uses s d) (length (groups_of s d))
+
+-- ---- texts
+
+abbrev pub text_uses : List Instr → List ℕ
+text_uses [] = []
+text_uses (instr.Log text args ∷ code) = text.0 ∷ text_uses code
+text_uses (other ∷ code) = text_uses code
+
+-- the texts that the first n agents log, in the order of their code
+abbrev pub texts_to : SceneParts → ℕ → List ℕ
+texts_to s zero = []
+texts_to s (suc n) = texts_to s n ++ text_uses (agent_of s (agent_number n)).code
+
 abbrev pub filter_id : FilterDef → Option (List ℕ)
 filter_id f = f.id
 
@@ -78,7 +142,7 @@ NamesParts s a i = NamesWithin (named_by s a) i
 
 -- the one cooperation, of all agents
 pub record IsCoop (s : SceneParts) (c : CoopDef) : Type 0 where
-  pub named : length c.name ≤ 32
+  pub named : is_name c.name ≡ true
   pub first : c.first.0 ≡ 0
   pub count : c.count ≡ length s.agents
 
@@ -134,19 +198,25 @@ given (Some id ∷ ids) = id ∷ given ids
 -- an agent of the one cooperation: its states are a tree; its rows and filters are for messages of the scene, and no id is given
 -- twice; its code is made of its start, its finish, the bodies of each state and of each row with a handler, and names what is there
 pub record IsAgent (s : SceneParts) (a : AgentDef) : Type 0 where
-  pub named : length a.name ≤ 32
+  pub named : is_name a.name ≡ true
   pub coop : a.coop.0 ≡ 0
+  pub disp : a.disp.0 < length s.dispatchers
+  pub group : IsGroup (disp_of s a.disp).kind (length (groups_of s a.disp)) a.group
+  pub priority : a.priority.level ≡ 0
   pub vars : length a.vars.0 ≡ 16
   pub tree : IsTree a.tree
   pub no_limits : All HasNoLimit a.tree
   pub state_names : length a.state_names ≡ length a.tree
+  pub states_named : All (λ name. is_name name ≡ true) a.state_names
   pub each_state_once : IsDistinct bytes_eq a.state_names
   pub few_rows : length a.rows ≤ 128
   pub rows : All (IsRow s (length a.tree)) a.rows
   pub row_ids : length a.row_ids ≡ length a.rows
+  pub rows_named : All (λ name. is_name name ≡ true) (given a.row_ids)
   pub each_row_id_once : IsDistinct bytes_eq (given a.row_ids)
   pub few_filters : length a.filters ≤ 32
   pub filters : All (IsFilter s) a.filters
+  pub filters_named : All (λ name. is_name name ≡ true) (given (filter_ids a))
   pub each_filter_id_once : IsDistinct bytes_eq (given (filter_ids a))
   pub code : IsCode a.code
   pub bodies : bodies_in a.code ≡ agent_bodies (length a.tree) (handlers a.rows)
@@ -155,8 +225,17 @@ pub record IsAgent (s : SceneParts) (a : AgentDef) : Type 0 where
 -- the parts are those of a scene: no name stands twice in its space, and each agent may be registered
 pub record IsScene (s : SceneParts) : Type 0 where
   pub few_messages : length s.messages ≤ 256
+  pub messages_named : All (λ name. is_name name ≡ true) (map message_name s.messages)
   pub message_names : IsDistinct bytes_eq (map message_name s.messages)
   pub few_mboxes : length s.mboxes ≤ 256
+  pub mboxes_named : All (λ name. is_name name ≡ true) s.mboxes
+  pub default : head s.dispatchers ≡ Some default_disp
+  pub few_dispatchers : length s.dispatchers ≤ 64
+  pub dispatchers : All IsDisp s.dispatchers
+  pub dispatcher_names : IsDistinct bytes_eq (map disp_name s.dispatchers)
+  pub all_groups : length s.groups ≡ length s.dispatchers
+  pub groups : (d : DispId) → d.0 < length s.dispatchers → AreGroups s d
+  pub few_lanes : lanes s ≤ 256
   pub one_coop : length s.coops ≡ 1
   pub coops : All (IsCoop s) s.coops
   pub some_agent : 0 < length s.agents
@@ -165,5 +244,6 @@ pub record IsScene (s : SceneParts) : Type 0 where
   pub admitted : (a : AgentId) → a.0 < length s.agents → definition_fault s a ≡ None
   pub names : IsDistinct bytes_eq (mbox_names s)
   pub few_texts : length s.texts ≤ 4096
-  pub texts : All (λ t. length t ≤ 64) s.texts
+  pub texts : All (λ t. is_text t ≡ true) s.texts
+  pub texts_numbered : AreNumbered (texts_to s (length s.agents)) (length s.texts)
   pub each_text_once : IsDistinct bytes_eq s.texts

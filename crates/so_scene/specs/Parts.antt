@@ -1,14 +1,19 @@
 -- The parts of a scene by number.
-use Rattle.std.specs.Prelude.{ℕ, ◌+◌, pos, List, [], ◌++◌, length, map, replicate, slice_index_or, false}
+use Rattle.std.proofs.Common.{arith}
+use Rattle.std.specs.Prelude.{ℕ, ◌+◌, pos, List, [], ◌++◌, length, map, replicate, slice_index_or, false, codes, None}
 use Rattle.so_lists.specs.Lists.{each_below}
 use Rattle.so_ids.specs.declared.AgentId.{AgentId}
 use Rattle.so_ids.specs.declared.CoopId.{CoopId}
+use Rattle.so_ids.specs.declared.DispId.{DispId}
 use Rattle.so_ids.specs.declared.MboxId.{MboxId}
 use Rattle.so_ids.specs.declared.MsgId.{MsgId}
 use Rattle.so_ids.specs.declared.TextId.{TextId}
 use Rattle.so_code.specs.declared.instr.Instr.{Instr}
 use Rattle.so_scene.specs.declared.parts.MessageDef.{MessageDef}
 use Rattle.so_scene.specs.declared.parts.CoopDef.{CoopDef}
+use Rattle.so_scene.specs.declared.parts.DispDef.{DispDef}
+use Rattle.so_scene.specs.declared.parts.DispKind.TheVariants.{OneThread}
+use Rattle.so_scene.specs.declared.parts.Fifo.TheVariants.{Cooperation}
 use Rattle.so_scene.specs.declared.parts.FilterDef.{FilterDef}
 use Rattle.so_ids.specs.declared.Vars.{Vars}
 use Rattle.so_state.specs.declared.states.State.{State}
@@ -25,7 +30,7 @@ abbrev pub message_of : SceneParts → MsgId → MessageDef
 message_of s m = slice_index_or s.messages m.0 no_message
 
 abbrev pub no_agent : AgentDef
-no_agent = record { name = []; coop = record { 0 = 0 }; vars = record { 0 = replicate 16 (pos 0) }; state_names = []; tree = []; rows = []; row_ids = []; filters = []; code = [] }
+no_agent = record { name = []; coop = record { 0 = 0 }; disp = record { 0 = 0 }; group = None; priority = record { level = 0; in_range = omega arith }; vars = record { 0 = replicate 16 (pos 0) }; state_names = []; tree = []; rows = []; row_ids = []; filters = []; code = [] }
 
 abbrev pub agent_of : SceneParts → AgentId → AgentDef
 agent_of s a = slice_index_or s.agents a.0 no_agent
@@ -35,6 +40,17 @@ no_coop = record { name = []; first = record { 0 = 0 }; count = 0 }
 
 abbrev pub coop_of : SceneParts → CoopId → CoopDef
 coop_of s c = slice_index_or s.coops c.0 no_coop
+
+-- the dispatcher `default`
+abbrev pub default_disp : DispDef
+default_disp = record { name = codes "default"; kind = OneThread; slots = 4096; threads = 4; fifo = Cooperation; quotes = replicate 8 20 }
+
+abbrev pub disp_of : SceneParts → DispId → DispDef
+disp_of s d = slice_index_or s.dispatchers d.0 default_disp
+
+-- the names of a dispatcher's groups
+abbrev pub groups_of : SceneParts → DispId → List (List ℕ)
+groups_of s d = slice_index_or s.groups d.0 []
 
 -- so many agents, from the first on
 abbrev pub agents_from : AgentId → ℕ → List AgentId
@@ -73,6 +89,9 @@ direct_mbox a = record { 0 = a.0 }
 
 abbrev pub message_name : MessageDef → List ℕ
 message_name m = m.name
+
+abbrev pub disp_name : DispDef → List ℕ
+disp_name d = d.name
 
 abbrev pub agent_name : AgentDef → List ℕ
 agent_name a = a.name

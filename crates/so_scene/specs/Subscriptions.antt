@@ -1,5 +1,6 @@
 -- Which rows and filters of an agent are active: a list with one Bool for each row, and one with one for each filter.
-use Rattle.std.specs.Prelude.{ℕ, zero, suc, pos, List, length, map, zip, replicate, slice_set, slice_index_or, Bool, true, false, not, ◌&&◌, None, if◌then◌else◌}
+use Rattle.std.specs.Prelude.{ℕ, pos, List, [], ◌∷◌, map, zip, slice_set, slice_index_or, Bool, true, false, not, ◌&&◌, None}
+use Rattle.std.specs.List.{list_any}
 use Rattle.so_ids.specs.declared.AgentId.{AgentId}
 use Rattle.so_ids.specs.declared.RowId.{RowId}
 use Rattle.so_ids.specs.declared.FilterId.{FilterId}
@@ -61,15 +62,11 @@ filter_set filters k active = slice_set (beside filters (filter_at filters k) ac
 abbrev pub filter_dropped : ℕ → List Bool → List Bool
 filter_dropped k active = slice_set active k false
 
--- a filter that is active from the start is set
-abbrev pub filter_taken : List FilterDef → ℕ → List Bool → List Bool
-filter_taken filters k active = if (filter_at filters k).active then filter_set filters k active else active
+-- a later filter that is active from the start replaces this one
+abbrev pub replaces : FilterDef → FilterDef → Bool
+replaces f later = later.active && is_filter_for f.mbox f.msg later
 
--- after the first n filters were taken in order
-abbrev pub filters_taken : List FilterDef → ℕ → List Bool
-filters_taken filters zero = replicate (length filters) false
-filters_taken filters (suc n) = filter_taken filters n (filters_taken filters n)
-
--- at the registration
+-- at the registration: a filter is active where it says so, and no later one replaces it
 abbrev pub filters_first : List FilterDef → List Bool
-filters_first filters = filters_taken filters (length filters)
+filters_first [] = []
+filters_first (f ∷ later) = (f.active && not (list_any (replaces f) later)) ∷ filters_first later

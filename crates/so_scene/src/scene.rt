@@ -1,38 +1,54 @@
 //! A scene whose parts were checked.
 
-ghost use Rattle.std.specs.Prelude.{◌≡◌, ◌<◌, ◌≤◌, ◌+◌, length};
-ghost use Rattle.so_scene.specs.Parts.{message_of, agent_of, coop_of, text_of, direct_mbox, mboxes, mbox_name};
+ghost use Rattle.std.specs.Prelude.{◌≡◌, ◌<◌, ◌≤◌, ◌+◌, [], length, slice_index_or, IfOk};
+ghost use Rattle.so_scene.specs.Parts.{message_of, agent_of, coop_of, disp_of, groups_of, text_of, direct_mbox, mboxes, mbox_name};
 ghost use Rattle.so_scene.specs.Checked.{IsScene};
 
-use crate::parts::{AgentDef, CoopDef, MessageDef, SceneParts};
+use crate::items::Items;
+use crate::lanes::Layout;
+use crate::parts::{AgentDef, CoopDef, DispDef, MessageDef, SceneParts};
 use crate::words::Name;
-use so_ids::{AgentId, CoopId, MboxId, MsgId, TextId};
+use so_ids::{AgentId, CoopId, DispId, MboxId, MsgId, NoMemory, TextId};
+use std::alloc::Global;
 use std::marker::Model;
 
 /// A scene: agents of one cooperation, the mboxes by which they talk, and the texts that they log.
 #[derive(Debug, Drop)]
 pub struct Scene {
     parts: SceneParts,
+    pub(crate) layout: Layout,
 }
 
 impl Model for Scene {
     ghost use Rattle.so_scene.specs.declared.parts.SceneParts.{SceneParts};
     ghost use Rattle.so_scene.specs.Checked.{IsScene};
+    ghost use Rattle.so_scene.specs.Lanes.{IsLaidOut};
 
     ghost Value = { SceneParts };
 
     ghost view = { λ scene. scene.parts };
 
-    ghost invariant = { λ scene. IsScene scene.parts };
+    ghost invariant = { λ scene. IsScene scene.parts × IsLaidOut scene.parts scene.layout };
+}
+
+impl SceneParts {
+    /// The names of a dispatcher's groups.
+    fn group_names(&self, disp: DispId) -> &Items<Name>
+        requires { disp.0 < length self.now.groups }
+        ensures { result.now ≡ groups_of self.now disp }
+    {
+        &self.groups.as_slice()[disp.0 as usize]
+    }
 }
 
 impl Scene {
     /// The scene of these parts.
-    pub fn new(parts: SceneParts) -> Scene
+    pub fn new(alloc: Global, parts: SceneParts) -> Result<Scene, NoMemory>
         requires { IsScene parts }
-        ensures { result ≡ parts }
+        ensures { IfOk result (λ scene. scene ≡ parts) }
     {
-        Scene { parts }
+        let layout = Layout::of(alloc, &parts)?;
+        Ok(Scene { parts, layout })
     }
 
     /// Its parts.
@@ -76,6 +92,38 @@ impl Scene {
         ensures { result ≡ length self.now.texts }
     {
         self.parts.texts.len() as u32
+    }
+
+    /// How many dispatchers there are, `default` among them.
+    pub fn dispatchers(&self) -> u32
+        ensures { result ≡ length self.now.dispatchers }
+    {
+        self.parts.dispatchers.len() as u32
+    }
+
+    /// How many groups a dispatcher has.
+    pub fn groups(&self, disp: DispId) -> u32
+        requires { disp.0 < length self.now.dispatchers }
+        ensures { result ≡ length (groups_of self.now disp) }
+    {
+        self.parts().group_names(disp).len() as u32
+    }
+
+    /// A dispatcher by its number.
+    pub fn dispatcher(&self, disp: DispId) -> &DispDef
+        requires { disp.0 < length self.now.dispatchers }
+        ensures { result.now ≡ disp_of self.now disp }
+    {
+        &self.parts.dispatchers.as_slice()[disp.0 as usize]
+    }
+
+    /// The name of a dispatcher's group, by its number there.
+    pub fn group(&self, disp: DispId, group: u32) -> &Name
+        requires disp { disp.0 < length self.now.dispatchers }
+        requires group { group < length (groups_of self.now disp) }
+        ensures { result.now ≡ slice_index_or (groups_of self.now disp) group [] }
+    {
+        &self.parts().group_names(disp).as_slice()[group as usize]
     }
 
     /// A type of messages by its number.
