@@ -1,19 +1,20 @@
 -- The events of a delivery are put into the queues one after the other.
-use Rattle.std.proofs.Common.{◌≡◌, ℕ, zero, suc, ◌+◌, ◌<◌, ◌≤◌, List, [], ◌∷◌, ◌++◌, length, drop, get_or, Some, None, true, arith, refl, sym, ◌∙◌, ap, subst, inl, inr, add-one}
+use Rattle.std.proofs.Common.{◌≡◌, ℕ, zero, suc, ◌+◌, ◌<◌, ◌≤◌, List, [], ◌∷◌, ◌++◌, length, drop, get_or, Some, None, true, arith, refl, sym, ◌∙◌, ap, subst, inl, inr, zero-le}
 use Rattle.std.specs.Prelude.{slice_set, slice_get}
-use Rattle.std.proofs.Math.Seq.{drop-cons}
+use Rattle.std.specs.List.{All}
 use Rattle.std.proofs.lemmas.Bool.{cases_lt, lt-ltb}
 use Rattle.std.proofs.lemmas.List.{set_past, drop_all}
-use Rattle.std.proofs.lemmas.Option.{slice_get-get_or}
+use Rattle.so_ids.specs.declared.AgentId.{AgentId}
 use Rattle.so_ids.specs.declared.DemandId.{DemandId}
 use Rattle.so_ids.specs.declared.Place.{Place}
+use Rattle.so_ids.specs.declared.Priority.{Priority}
 use Rattle.so_ids.specs.declared.Queued.{Queued}
 use Rattle.so_ids.specs.Ids.{is_earlier}
 use Rattle.so_scene.specs.declared.parts.SceneParts.{SceneParts}
 use Rattle.so_queue.specs.Queues.{QueueTable, list_at, IsAmong, IsAfterAll}
 use Rattle.so_queue.proofs.OrderLaws.{earlier_trans, earlier_there, earlier_at_once}
 use Rattle.so_queue.proofs.QueueLaws.{push_old}
-use Rattle.so_deliver.specs.Commit.{after_demand, committed_from, IsPlaceAfter}
+use Rattle.so_deliver.specs.Commit.{priority_of, after_demand, committed_from, IsPlaceAfter}
 
 -- what comes after all comes after all once another has come in between
 pub after_pushed : (lists : List (List DemandId)) (t : ℕ) (d e : DemandId) → IsAfterAll lists d → is_earlier d e ≡ true → IsAfterAll (slice_set lists t (list_at lists t ++ d ∷ [])) e
@@ -40,7 +41,7 @@ pub record IsCommitting (s : SceneParts) (place : Place) (events : List Queued) 
   pub room : length events ≤ q.room + k
   pub last : IsAfterAll q.lists (record { place = place; k = k })
 
-committed-safe : (s : SceneParts) (place : Place) (k : ℕ) (events : List Queued) (q : QueueTable) → length (committed_from s place k events q).safe ≡ length q.safe
+pub committed-safe : (s : SceneParts) (place : Place) (k : ℕ) (events : List Queued) (q : QueueTable) → length (committed_from s place k events q).safe ≡ length q.safe
 committed-safe s place k [] q = refl
 committed-safe s place k (event ∷ events) q = committed-safe s place (k + 1) events (after_demand s event.agent (record { place = place; k = k }) q)
 
@@ -55,7 +56,7 @@ commit_begins s place events q room later = record {
 next_events : (events : List Queued) (k : ℕ) (event : Queued) → slice_get events k ≡ Some event → drop k events ≡ event ∷ drop (k + 1) events
 next_events [] k event here = absurd cc
 next_events (x ∷ events) zero event here = let same : x ≡ event = cc in ap (λ y. y ∷ events) same
-next_events (x ∷ events) (suc k) event here = next_events events k event here ∙ ap (λ n. event ∷ drop n (x ∷ events)) (omega arith)
+next_events (x ∷ events) (suc k) event here = let n : suc (k + 1) ≡ suc k + 1 = omega arith in next_events events k event here ∙ ap (λ m. event ∷ drop m (x ∷ events)) n
 
 within_events : (events : List Queued) (k : ℕ) (event : Queued) → slice_get events k ≡ Some event → k < length events
 within_events [] k event here = absurd cc
@@ -76,3 +77,29 @@ commit_goes {s} {place} {events} {whole} {q} {k} event here c = record {
 
 pub commit_ends : {s : SceneParts} {place : Place} {events : List Queued} {whole q : QueueTable} {k : ℕ} → length events ≤ k → IsCommitting s place events whole q k → q ≡ whole
 commit_ends {s} {place} {events} {whole} {q} {k} past c = sym (ap (λ xs. committed_from s place k xs q) (drop_all k events past)) ∙ c.runs
+
+pub not_past : (events : List Queued) (k : ℕ) → k < length events → slice_get events k ≡ None → ⊥
+not_past [] k l none = absurd (omega arith)
+not_past (x ∷ events) zero l none = cc
+not_past (x ∷ events) (suc k) l none = not_past events k (omega (arith, l)) none
+
+-- what holds of each event holds of the one at a number
+event_at : (events : List Queued) (k : ℕ) (event : Queued) → slice_get events k ≡ Some event → get_or events k event ≡ event
+event_at [] k event here = absurd cc
+event_at (x ∷ events) zero event here = let same : x ≡ event = cc in same
+event_at (x ∷ events) (suc k) event here = event_at events k event here
+
+pub event_known : (s : SceneParts) (events : List Queued) (k : ℕ) (event : Queued) → All (λ (q : Queued). q.agent.0 < length s.agents) events → slice_get events k ≡ Some event → event.agent.0 < length s.agents
+event_known s events k event all here = subst (λ (q : Queued). q.agent.0 < length s.agents) (event_at events k event here) (all k event (within_events events k event here))
+
+-- the lowest priority
+lowest_is : (l : ℕ) (r : l ≤ 7) → l ≡ 0 → ◌≡◌ {A = Priority} (record { level = l; in_range = r }) (record { level = 0; in_range = zero-le })
+lowest_is zero zero-le e = refl
+lowest_is (suc l) r e = absurd (omega arith)
+
+pub lowest : (s : SceneParts) (a : AgentId) (p : Priority) → p.level ≡ 0 → p ≡ priority_of s a
+unfolding priority_of
+lowest s a p e = lowest_is p.level p.in_range e
+
+pub low : (s : SceneParts) (a : AgentId) → (priority_of s a).level ≤ 7
+low s a = (priority_of s a).in_range
