@@ -1,0 +1,8 @@
+use Rattle.so_disp_excl.proofs.WalkLaws.{IsWalk, left}
+use Rattle.so_disp_excl.proofs.ring.pick.Given as goal
+
+abbrev pub invariant-loop-at : goal.invariant-loop-at
+invariant-loop-at l = IsWalk l.scene l.queues l.lane l.at
+
+abbrev pub decreases-loop-at : goal.decreases-loop-at
+decreases-loop-at l = left l.queues l.at

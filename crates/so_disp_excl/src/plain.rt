@@ -1,0 +1,36 @@
+//! The pick of a lane, queue by queue.
+ghost use Rattle.std.specs.Prelude.{◌≡◌, ◌<◌};
+ghost use Rattle.so_scene.specs.Lanes.{lanes, keys};
+ghost use Rattle.so_queue.specs.Queues.{keys_of};
+ghost use Rattle.so_disp_excl.specs.Pick.{open_front, pick};
+
+use crate::ring::is_open;
+use so_ids::{DemandId, KeyId, LaneId};
+use so_queue::{Queues, lesser_of};
+use so_scene::Scene;
+
+/// The demand that a lane may take. Slow: it is what the other pick is compared with.
+#[tactic(auto, unfolding(crate::specs::Pick::least_below, crate::specs::Pick::pick))]
+pub fn plain_pick(scene: &Scene, queues: &Queues, lane: LaneId) -> Option<DemandId>
+    requires lane { lane.0 < lanes scene.now }
+    requires keys { keys_of queues.now ≡ keys scene.now }
+    ensures { result ≡ pick scene.now queues.now lane }
+{
+    let mut best = None;
+    for key in 0..scene.keys() {
+        best = lesser_of(best, open_front(scene, queues, lane, KeyId(key)));
+    }
+    best
+}
+
+/// The front of a queue, where the lane may take from it.
+fn open_front(scene: &Scene, queues: &Queues, lane: LaneId, key: KeyId) -> Option<DemandId>
+    requires { key.0 < keys_of queues.now }
+    ensures { result ≡ open_front scene.now queues.now lane key.0 }
+{
+    if is_open(scene, queues, lane, key) {
+        queues.front(key)
+    } else {
+        None
+    }
+}

@@ -1,0 +1,6 @@
+pub mod Asking
+pub mod ListLaws
+pub mod NameOrder
+pub mod HeldLaws
+pub mod TiedLaws
+pub mod PickLaws

@@ -1,0 +1,181 @@
+//! The demands of a run.
+ghost use Rattle.std.specs.Prelude.{◌≡◌, ◌<◌, ◌≤◌, ◌+◌, ◌^◌, [], ◌∷◌, ◌++◌, true, Some, length, map, vec_capacity, IfOk, List};
+ghost use Rattle.std.specs.List.{All, AllByRecursion, find};
+ghost use Rattle.so_ids.specs.Ids.{is_earlier};
+ghost use Rattle.so_ids.specs.declared.Queued.{Queued as Event};
+ghost use Rattle.so_history.specs.declared.entry.Demand.{Demand as AnyDemand};
+ghost use Rattle.so_lists.specs.Lists.{is_empty};
+ghost use Rattle.so_scene.specs.Lanes.{lanes, keys};
+ghost use Rattle.so_scene.specs.Parts.{agents_from};
+ghost use Rattle.so_history.specs.Demands.{ask, ask_each, demand_of, demands_from};
+ghost use Rattle.so_events.specs.Events.{no_events, after_demands, after_taking, turns_with, after_start, after_end, may_take_by, is_beside};
+
+use crate::find::find_demand;
+use so_deliver::{Outcomes, commit, priority_of, queue_demand};
+use so_disp_excl::pick;
+use so_history::{Demand, DemandKind};
+use so_ids::{AgentId, DemandId, KeyId, LaneId, NoMemory, Place, Queued};
+use so_queue::Queues;
+use so_scene::Scene;
+use std::alloc::Global;
+use std::marker::Model;
+
+/// All demands that were queued, in order, and the queues in which those wait that were not taken. Nothing
+/// after its making takes memory.
+#[derive(Drop)]
+pub struct Events<'a> {
+    scene: &'a Scene,
+    queued: Vec<Demand>,
+    queues: Queues,
+    room: u32,
+}
+
+impl<'a> Model for Events<'a> {
+    ghost use Rattle.std.specs.Prelude.{◌≤◌, ◌<◌, ◌^◌, vec_capacity};
+    ghost use Rattle.so_events.specs.Events.{EventTable};
+    ghost use Rattle.so_events.specs.Tied.{waiting_in, IsTied};
+
+    ghost Value = { EventTable };
+
+    ghost view = { λ e. record {
+      scene = e.scene.now;
+      queued = e.queued.items;
+      waiting = waiting_in e.scene.now e.queues.lists e.queued.items;
+      running = e.queues.exclusive;
+      room = e.room;
+    } };
+
+    ghost invariant = { λ e. IsTied e.scene.now e.queued.items (waiting_in e.scene.now e.queues.lists e.queued.items) e.queues e.room
+        × (e.room ≤ vec_capacity e.queued) × (e.room < 2 ^ 32) };
+}
+
+impl<'a> Events<'a> {
+    /// None, with room for so many in all.
+    pub fn with(alloc: Global, scene: &'a Scene, room: u32) -> Result<Events<'a>, NoMemory>
+        ensures { IfOk result (λ e. e ≡ no_events scene.now room) }
+    {
+        let queues = Queues::with(alloc, scene.keys(), room)?;
+        let Ok(queued) = Vec::with_capacity(alloc, room as usize) else {
+            return Err(NoMemory);
+        };
+        Ok(Events {
+            scene,
+            queued,
+            queues,
+            room,
+        })
+    }
+
+    /// Tells whether none waits.
+    pub fn is_empty(&self) -> bool
+        ensures { result ≡ is_empty self.now.waiting }
+    {
+        self.queues.ready().is_none()
+    }
+
+    /// Queues a demand, which is later than all before.
+    pub fn push(&mut self, demand: Demand)
+        requires agent { demand.agent.0 < length self.old.scene.agents }
+        requires room { length self.old.queued < self.old.room }
+        requires last { AllByRecursion (λ (d : AnyDemand). is_earlier d.id demand.id ≡ true) self.old.queued }
+        ensures { self.new ≡ after_demands (demand ∷ []) self.old }
+    {
+        queue_demand(self.scene, demand.agent, demand.id, &mut self.queues);
+        self.queued.push_reserved(demand);
+    }
+
+    /// Queues a demand for each of the agents from `first` on, as the demands of a place.
+    pub fn push_each(&mut self, place: Place, kind: DemandKind, first: AgentId, count: u32)
+        requires agents { first.0 + count ≤ length self.old.scene.agents }
+        requires numbers { first.0 + count < 2 ^ 32 }
+        requires room { length self.old.queued + count ≤ self.old.room }
+        requires later { AllByRecursion (λ (d : AnyDemand). d.id.place.0 < place.0) self.old.queued }
+        ensures { self.new ≡ after_demands (demands_from place.0 0 (ask_each kind (agents_from first count))) self.old }
+    {
+        for k in 0..count {
+            self.push(Demand {
+                id: DemandId { place, k },
+                agent: AgentId(first.0 + k),
+                kind,
+            });
+        }
+    }
+
+    /// Queues the events of a delivery, as the demands of a place.
+    pub fn push_events(&mut self, place: Place, outcomes: &Outcomes)
+        requires agents { All (λ (event : Event). event.agent.0 < length self.old.scene.agents) outcomes.now.queued }
+        requires room { length self.old.queued + length outcomes.now.queued ≤ self.old.room }
+        requires later { AllByRecursion (λ (d : AnyDemand). d.id.place.0 < place.0) self.old.queued }
+        ensures { self.new ≡ after_demands (demands_from place.0 0 (map ask outcomes.now.queued)) self.old }
+    {
+        commit(self.scene, outcomes, &mut self.queues, place);
+        extend(&mut self.queued, place, outcomes);
+    }
+
+    /// The first demand that the lane may take: it serves the demand's queue, and no turn of that queue runs.
+    pub fn pick(&self, lane: LaneId) -> Option<Demand>
+        requires { lane.0 < lanes self.now.scene }
+        ensures { result ≡ find (may_take_by self.now.scene self.now.running lane) self.now.waiting }
+    {
+        match pick(self.scene, &self.queues, lane) {
+            Some(id) => find_demand(&self.queued, id),
+            None => None,
+        }
+    }
+
+    /// Takes a demand out, the first that waits in its queue with its priority.
+    pub fn take(&mut self, demand: Demand)
+        requires { find (is_beside self.old.scene demand) self.old.waiting ≡ Some demand }
+        ensures { self.new ≡ after_taking demand.id self.old }
+    {
+        let key = self.scene.key(demand.agent);
+        let _id = self.queues.take(key, priority_of(self.scene, demand.agent));
+    }
+
+    /// A turn begins with a queue, of which none runs.
+    pub fn started(&mut self, key: KeyId)
+        requires key { key.0 < keys self.old.scene }
+        requires free { turns_with self.old.running key ≡ 0 }
+        ensures { self.new ≡ after_start key self.old }
+    {
+        self.queues.started(key, false);
+    }
+
+    /// A turn with the queue has ended.
+    pub fn ended(&mut self, key: KeyId)
+        requires key { key.0 < keys self.old.scene }
+        requires runs { 0 < turns_with self.old.running key }
+        ensures { self.new ≡ after_end key self.old }
+    {
+        self.queues.ended(key, false);
+    }
+}
+
+/// Adds the events of a delivery to the demands that were queued.
+fn extend(queued: &mut Vec<Demand>, place: Place, outcomes: &Outcomes)
+    requires { length queued.old.items + length outcomes.now.queued ≤ vec_capacity queued.old }
+    ensures items { queued.new.items ≡ queued.old.items ++ demands_from place.0 0 (map ask outcomes.now.queued) }
+    ensures room { vec_capacity queued.old ≤ vec_capacity queued.new }
+{
+    for k in 0..outcomes.len() {
+        match outcomes.queued_at(k) {
+            Some(event) => queued.push_reserved(demand_of(place, k, event)),
+            None => unreachable!(),
+        }
+    }
+}
+
+/// The demand of an event, the `k`-th that the entry at a place queues.
+fn demand_of(place: Place, k: u32, event: Queued) -> Demand
+    ensures { result ≡ demand_of place.0 k (ask event) }
+{
+    Demand {
+        id: DemandId { place, k },
+        agent: event.agent,
+        kind: DemandKind::Event {
+            mbox: event.mbox,
+            msg: event.msg,
+            payload: event.payload,
+        },
+    }
+}
