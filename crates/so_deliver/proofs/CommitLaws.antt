@@ -14,7 +14,7 @@ use Rattle.so_scene.specs.declared.parts.SceneParts.{SceneParts}
 use Rattle.so_queue.specs.Queues.{QueueTable, list_at, IsAmong, IsAfterAll}
 use Rattle.so_queue.proofs.OrderLaws.{earlier_trans, earlier_there, earlier_at_once}
 use Rattle.so_queue.proofs.QueueLaws.{push_old}
-use Rattle.so_deliver.specs.Commit.{priority_of, after_demand, committed_from, IsPlaceAfter}
+use Rattle.so_deliver.specs.Commit.{after_demand, committed_from, IsPlaceAfter}
 
 -- what comes after all comes after all once another has come in between
 pub after_pushed : (lists : List (List DemandId)) (t : ℕ) (d e : DemandId) → IsAfterAll lists d → is_earlier d e ≡ true → IsAfterAll (slice_set lists t (list_at lists t ++ d ∷ [])) e
@@ -91,15 +91,6 @@ event_at (x ∷ events) (suc k) event here = event_at events k event here
 
 pub event_known : (s : SceneParts) (events : List Queued) (k : ℕ) (event : Queued) → All (λ (q : Queued). q.agent.0 < length s.agents) events → slice_get events k ≡ Some event → event.agent.0 < length s.agents
 event_known s events k event all here = subst (λ (q : Queued). q.agent.0 < length s.agents) (event_at events k event here) (all k event (within_events events k event here))
-
--- the lowest priority
-lowest_is : (l : ℕ) (r : l ≤ 7) → l ≡ 0 → ◌≡◌ {A = Priority} (record { level = l; in_range = r }) (record { level = 0; in_range = zero-le })
-lowest_is zero zero-le e = refl
-lowest_is (suc l) r e = absurd (omega arith)
-
-pub lowest : (s : SceneParts) (a : AgentId) (p : Priority) → p.level ≡ 0 → p ≡ priority_of s a
-unfolding priority_of
-lowest s a p e = lowest_is p.level p.in_range e
 
 pub low : (s : SceneParts) (a : AgentId) → (priority_of s a).level ≤ 7
 low s a = (priority_of s a).in_range

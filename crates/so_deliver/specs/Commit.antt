@@ -1,18 +1,13 @@
 -- What a delivery makes of the queues.
 use Rattle.std.specs.Prelude.{ℕ, ◌+◌, ◌<◌, List, [], ◌∷◌}
-use Rattle.std.proofs.Common.{zero-le}
 use Rattle.so_ids.specs.declared.AgentId.{AgentId}
 use Rattle.so_ids.specs.declared.DemandId.{DemandId}
 use Rattle.so_ids.specs.declared.Place.{Place}
-use Rattle.so_ids.specs.declared.Priority.{Priority}
 use Rattle.so_ids.specs.declared.Queued.{Queued}
 use Rattle.so_scene.specs.declared.parts.SceneParts.{SceneParts}
+use Rattle.so_scene.specs.Parts.{priority_of}
 use Rattle.so_scene.specs.Lanes.{key_of}
 use Rattle.so_queue.specs.Queues.{QueueTable, list_at, IsAmong, after_push}
-
--- the priority of an agent's demands: all have the lowest, so far
-unfoldable pub priority_of : SceneParts → AgentId → Priority
-priority_of s a = record { level = 0; in_range = zero-le }
 
 -- a demand is put last in its agent's queue
 abbrev pub after_demand : SceneParts → AgentId → DemandId → QueueTable → QueueTable

@@ -5,10 +5,10 @@ ghost use Rattle.std.specs.List.{All};
 ghost use Rattle.so_ids.specs.declared.Queued.{Queued as Event};
 ghost use Rattle.so_scene.specs.Lanes.{keys};
 ghost use Rattle.so_queue.specs.Queues.{keys_of, IsAfterAll};
-ghost use Rattle.so_deliver.specs.Commit.{priority_of, after_demand, committed, IsPlaceAfter};
+ghost use Rattle.so_deliver.specs.Commit.{after_demand, committed, IsPlaceAfter};
 
 use crate::outcomes::Outcomes;
-use so_ids::{AgentId, DemandId, Place, Priority};
+use so_ids::{AgentId, DemandId, Place};
 use so_queue::Queues;
 use so_scene::Scene;
 
@@ -37,18 +37,5 @@ pub fn queue_demand(scene: &Scene, agent: AgentId, demand: DemandId, queues: &mu
     requires last { IsAfterAll queues.old.lists demand }
     ensures { queues.new ≡ after_demand scene.now agent demand queues.old }
 {
-    queues.push(scene.key(agent), priority_of(scene, agent), demand);
-}
-
-/// The priority of an agent's demands.
-#[tactic(auto, unfolding(crate::specs::Commit::priority_of))]
-pub fn priority_of(scene: &Scene, agent: AgentId) -> Priority
-    requires { agent.0 < length scene.now.agents }
-    ensures { result ≡ priority_of scene.now agent }
-{
-    let _agent = scene.agent(agent);
-    match Priority::of(0) {
-        Some(priority) => priority,
-        None => unreachable!(),
-    }
+    queues.push(scene.key(agent), scene.priority(agent), demand);
 }

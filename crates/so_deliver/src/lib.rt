@@ -9,7 +9,7 @@ mod plan;
 #[cfg(test)]
 mod tests;
 
-pub use committing::{commit, priority_of, queue_demand};
+pub use committing::{commit, queue_demand};
 pub use outcomes::Outcomes;
 pub use plan::{Planned, plan_delivery};
 pub use so_ids::Queued;

@@ -25,7 +25,9 @@ pub fn plain_pick(scene: &Scene, queues: &Queues, lane: LaneId) -> Option<Demand
 
 /// The front of a queue, where the lane may take from it.
 fn open_front(scene: &Scene, queues: &Queues, lane: LaneId, key: KeyId) -> Option<DemandId>
-    requires { key.0 < keys_of queues.now }
+    requires lane { lane.0 < lanes scene.now }
+    requires keys { keys_of queues.now ≡ keys scene.now }
+    requires key { key.0 < keys scene.now }
     ensures { result ≡ open_front scene.now queues.now lane key.0 }
 {
     if is_open(scene, queues, lane, key) {

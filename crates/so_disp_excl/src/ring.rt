@@ -27,7 +27,9 @@ pub fn pick(scene: &Scene, queues: &Queues, lane: LaneId) -> Option<DemandId>
 
 /// Tells whether the lane may take from the queue.
 pub(crate) fn is_open(scene: &Scene, queues: &Queues, lane: LaneId, key: KeyId) -> bool
-    requires { key.0 < keys_of queues.now }
+    requires lane { lane.0 < lanes scene.now }
+    requires keys { keys_of queues.now ≡ keys scene.now }
+    requires key { key.0 < keys scene.now }
     ensures { result ≡ is_open scene.now queues.now lane key }
 {
     scene.serves(lane, key) && is_quiet(queues, key)

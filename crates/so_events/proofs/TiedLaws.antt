@@ -16,7 +16,8 @@ use Rattle.so_scene.specs.declared.parts.SceneParts.{SceneParts}
 use Rattle.so_scene.specs.Lanes.{keys, key_of}
 use Rattle.so_queue.specs.Queues.{QueueTable, no_demands, list_at, head_of, behind_head, IsAmong, IsAfterAll, after_take}
 use Rattle.so_queue.proofs.OrderLaws.{earlier_trans, earlier_at_once, earlier_there}
-use Rattle.so_deliver.specs.Commit.{priority_of, after_demand, committed_from, IsPlaceAfter}
+use Rattle.so_scene.specs.Parts.{priority_of}
+use Rattle.so_deliver.specs.Commit.{after_demand, committed_from, IsPlaceAfter}
 use Rattle.so_history.specs.declared.entry.Demand.{Demand}
 use Rattle.so_history.specs.Demands.{Asked, ask, demand_of, demands_from, without}
 use Rattle.so_history.proofs.NameLaws.{itself, filter-without, demands_from_sorted, named_here}

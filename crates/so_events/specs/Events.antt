@@ -6,7 +6,7 @@ use Rattle.so_ids.specs.declared.DemandId.{DemandId}
 use Rattle.so_scene.specs.declared.parts.SceneParts.{SceneParts}
 use Rattle.so_scene.specs.Lanes.{keys, key_of, serves}
 use Rattle.so_queue.specs.Queues.{slot_of}
-use Rattle.so_deliver.specs.Commit.{priority_of}
+use Rattle.so_scene.specs.Parts.{priority_of}
 use Rattle.so_history.specs.declared.entry.Demand.{Demand}
 use Rattle.so_history.specs.Demands.{without}
 

@@ -11,7 +11,7 @@ ghost use Rattle.so_history.specs.Demands.{ask, ask_each, demand_of, demands_fro
 ghost use Rattle.so_events.specs.Events.{no_events, after_demands, after_taking, turns_with, after_start, after_end, may_take_by, is_beside};
 
 use crate::find::find_demand;
-use so_deliver::{Outcomes, commit, priority_of, queue_demand};
+use so_deliver::{Outcomes, commit, queue_demand};
 use so_disp_excl::pick;
 use so_history::{Demand, DemandKind};
 use so_ids::{AgentId, DemandId, KeyId, LaneId, NoMemory, Place, Queued};
@@ -129,7 +129,7 @@ impl<'a> Events<'a> {
         ensures { self.new ≡ after_taking demand.id self.old }
     {
         let key = self.scene.key(demand.agent);
-        let _id = self.queues.take(key, priority_of(self.scene, demand.agent));
+        let _id = self.queues.take(key, self.scene.priority(demand.agent));
     }
 
     /// A turn begins with a queue, of which none runs.

@@ -7,6 +7,7 @@ use Rattle.so_ids.specs.declared.CoopId.{CoopId}
 use Rattle.so_ids.specs.declared.DispId.{DispId}
 use Rattle.so_ids.specs.declared.MboxId.{MboxId}
 use Rattle.so_ids.specs.declared.MsgId.{MsgId}
+use Rattle.so_ids.specs.declared.Priority.{Priority}
 use Rattle.so_ids.specs.declared.TextId.{TextId}
 use Rattle.so_code.specs.declared.instr.Instr.{Instr}
 use Rattle.so_scene.specs.declared.parts.MessageDef.{MessageDef}
@@ -63,6 +64,10 @@ agents_of s c = agents_from (coop_of s c).first (coop_of s c).count
 -- the code of an agent
 abbrev pub code_of : SceneParts → AgentId → List Instr
 code_of s a = (agent_of s a).code
+
+-- the priority of an agent's demands
+abbrev pub priority_of : SceneParts → AgentId → Priority
+priority_of s a = (agent_of s a).priority
 
 -- the variables with which an agent begins, its subscriptions, its filters and its declared states
 abbrev pub vars_of : SceneParts → AgentId → Vars

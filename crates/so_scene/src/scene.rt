@@ -1,14 +1,14 @@
 //! A scene whose parts were checked.
 
 ghost use Rattle.std.specs.Prelude.{◌≡◌, ◌<◌, ◌≤◌, ◌+◌, [], length, slice_index_or, IfOk};
-ghost use Rattle.so_scene.specs.Parts.{message_of, agent_of, coop_of, disp_of, groups_of, text_of, direct_mbox, mboxes, mbox_name};
+ghost use Rattle.so_scene.specs.Parts.{message_of, agent_of, priority_of, coop_of, disp_of, groups_of, text_of, direct_mbox, mboxes, mbox_name};
 ghost use Rattle.so_scene.specs.Checked.{IsScene};
 
 use crate::items::Items;
 use crate::lanes::Layout;
 use crate::parts::{AgentDef, CoopDef, DispDef, MessageDef, SceneParts};
 use crate::words::Name;
-use so_ids::{AgentId, CoopId, DispId, MboxId, MsgId, NoMemory, TextId};
+use so_ids::{AgentId, CoopId, DispId, MboxId, MsgId, NoMemory, Priority, TextId};
 use std::alloc::Global;
 use std::marker::Model;
 
@@ -142,6 +142,14 @@ impl Scene {
         ensures few_filters { length result.now.filters ≤ 32 }
     {
         &self.parts.agents.as_slice()[agent.0 as usize]
+    }
+
+    /// The priority of an agent's demands.
+    pub fn priority(&self, agent: AgentId) -> Priority
+        requires { agent.0 < length self.now.agents }
+        ensures { result ≡ priority_of self.now agent }
+    {
+        self.agent(agent).priority
     }
 
     /// The name of a mbox by its number. A direct one has its agent's.

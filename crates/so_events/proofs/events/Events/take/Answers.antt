@@ -10,8 +10,8 @@ key-key-requires c =
     let P : EventTable → Type 0 = λ v. find (is_beside v.scene c.args.demand) v.waiting ≡ Some c.args.demand in
     waiting_known c.self.inside.scene.now c.self.inside.queued.items c.self.inside.queues c.self.inside.room (is_beside c.self.inside.scene.now c.args.demand) c.args.demand c.self.invariant.0 (subst P (sym c.self.view_is) c.requires)
 
-pub priority_of-requires : goal.priority_of-requires
-priority_of-requires c =
+pub priority-requires : goal.priority-requires
+priority-requires c =
     let P : EventTable → Type 0 = λ v. find (is_beside v.scene c.args.demand) v.waiting ≡ Some c.args.demand in
     waiting_known c.self.inside.scene.now c.self.inside.queued.items c.self.inside.queues c.self.inside.room (is_beside c.self.inside.scene.now c.args.demand) c.args.demand c.self.invariant.0 (subst P (sym c.self.view_is) c.requires)
 
@@ -21,7 +21,7 @@ take-id-requires-clause-waits c =
     let is = subst P (sym c.self.view_is) c.requires in
     let known = waiting_known c.self.inside.scene.now c.self.inside.queued.items c.self.inside.queues c.self.inside.room (is_beside c.self.inside.scene.now c.args.demand) c.args.demand c.self.invariant.0 is in
     let head = taken_head c.self.inside.scene.now c.self.inside.queued.items c.self.inside.queues c.self.inside.room c.args.demand c.self.invariant.0 known is in
-    rw (c.key-key.ensures.value, c.priority_of.ensures, head) (search rules)
+    rw (c.key-key.ensures.value, c.priority.ensures, head) (search rules)
 
 pub invariant_of-self : goal.invariant_of-self
 invariant_of-self c =
@@ -29,7 +29,7 @@ invariant_of-self c =
     let is = subst P (sym c.self.view_is) c.requires in
     let known = waiting_known c.self.inside.scene.now c.self.inside.queued.items c.self.inside.queues c.self.inside.room (is_beside c.self.inside.scene.now c.args.demand) c.args.demand c.self.invariant.0 is in
     let t = taken c.self.inside.scene.now c.self.inside.queued.items c.self.inside.queues c.self.inside.room c.args.demand c.self.invariant.0 known is in
-    rw (c.take-id.ensures.after, c.key-key.ensures.value, c.priority_of.ensures, t.waiting) (t.tied, c.self.invariant.1, c.self.invariant.2)
+    rw (c.take-id.ensures.after, c.key-key.ensures.value, c.priority.ensures, t.waiting) (t.tied, c.self.invariant.1, c.self.invariant.2)
 
 pub returns : goal.returns
 returns c =
@@ -37,4 +37,4 @@ returns c =
     let is = subst P (sym c.self.view_is) c.requires in
     let known = waiting_known c.self.inside.scene.now c.self.inside.queued.items c.self.inside.queues c.self.inside.room (is_beside c.self.inside.scene.now c.args.demand) c.args.demand c.self.invariant.0 is in
     let t = taken c.self.inside.scene.now c.self.inside.queued.items c.self.inside.queues c.self.inside.room c.args.demand c.self.invariant.0 known is in
-    rw (← c.self.view_is, c.take-id.ensures.after, c.key-key.ensures.value, c.priority_of.ensures, t.waiting) refl
+    rw (← c.self.view_is, c.take-id.ensures.after, c.key-key.ensures.value, c.priority.ensures, t.waiting) refl
