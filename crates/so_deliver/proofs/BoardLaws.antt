@@ -1,18 +1,23 @@
 -- The scene of the tests is a scene.
-use Rattle.std.proofs.Common.{◌≡◌, ℕ, zero, suc, ◌<◌, ◌+◌, get_or, inl, List, [], ◌∷◌, length, None, arith, refl, rules}
+use Rattle.std.proofs.Common.{◌≡◌, ℕ, zero, suc, ◌<◌, ◌+◌, get_or, inl, List, [], ◌∷◌, map, None, arith, refl, rules}
 use Rattle.std.specs.Prelude.{ℤ, Bool, true, ◌≤◌}
 use Rattle.std.specs.List.{AllByRecursion, IsDistinct}
-use Rattle.std.proofs.lemmas.List.Elements.{All-from_recursion}
+use Rattle.std.proofs.lemmas.List.Elements.{All-from_recursion, All-nil}
+use Rattle.so_ids.specs.declared.DispId.{DispId}
+use Rattle.so_lists.specs.Lists.{each_below}
 use Rattle.so_code.specs.declared.instr.Body.TheVariants.{Start, Finish, Row as RowBody}
 use Rattle.so_code.specs.declared.instr.Cmp.{Cmp}
 use Rattle.so_code.specs.Shape.{IsCode}
 use Rattle.so_state.specs.declared.choice.Row.{Row}
 use Rattle.so_state.specs.declared.choice.RowKind.{RowKind}
-use Rattle.so_scene.specs.Checked.{IsScene, IsAgent, IsRow, IsKind, HasNoLimit, has_handler, IsFilter, IsCoop, NamesParts}
+use Rattle.so_scene.specs.Checked.{IsScene, IsAgent, IsRow, IsKind, HasNoLimit, has_handler, IsFilter, IsCoop, IsDisp, AreGroups, NamesParts}
+use Rattle.so_scene.specs.Words.{is_name, is_text}
+use Rattle.so_scene.specs.Parts.{message_name, default_disp}
+use Rattle.so_scene.specs.Lanes.{lanes, lane_list}
 use Rattle.so_state.specs.States.{default_state}
 use Rattle.so_state.proofs.TreeFacts.{IsTree-flat}
 use Rattle.so_scene.specs.Definition.{definition_fault}
-use Rattle.so_deliver.specs.Board.{idle_code, row, field_test, agent, board}
+use Rattle.so_deliver.specs.Board.{idle_code, row_for, field_test, agent, board}
 
 rising : (k : ℕ) → k + 1 < 2 → (get_or (0 ∷ 1 ∷ []) k 0) < (get_or (0 ∷ 1 ∷ []) (k + 1) 0)
 rising zero l = search rules
@@ -34,30 +39,36 @@ admitted_at (suc zero) l = refl
 admitted_at (suc (suc zero)) l = refl
 admitted_at (suc (suc (suc n))) l = absurd (omega arith)
 
-is_row : (mbox msg : ℕ) (kind : RowKind) (active : Bool) → mbox < 5 → msg < 3 → IsKind 0 default_state kind → IsRow board 0 (row mbox msg kind active)
+is_row : (mbox msg : ℕ) (kind : RowKind) (active : Bool) → mbox < 5 → msg < 3 → IsKind 0 default_state kind → IsRow board 0 (row_for mbox msg kind active)
 is_row mbox msg kind active m g k = record { mbox = m; msg = g; state = search rules; kind = k; not_safe = refl }
 
 is_filter : (mbox msg : ℕ) (cmp : Cmp) (value : ℤ) (active : Bool) → mbox < 5 → msg < 3 → IsFilter board (field_test mbox msg cmp value active)
 is_filter mbox msg cmp value active m g = record { mbox = m; msg = g; field = search rules }
 
 -- an agent of two rows and two filters without an id
-is_agent : (name : List ℕ) (r r' : Row) (mbox msg : ℕ) (cmp : Cmp) (value : ℤ) (active : Bool) (mbox' msg' : ℕ) (cmp' : Cmp) (value' : ℤ) (active' : Bool) → length name ≤ 32 → has_handler r.kind ≡ true → has_handler r'.kind ≡ true → IsRow board 0 r → IsRow board 0 r' → mbox < 5 → msg < 3 → mbox' < 5 → msg' < 3 →
+is_agent : (name : List ℕ) (r r' : Row) (mbox msg : ℕ) (cmp : Cmp) (value : ℤ) (active : Bool) (mbox' msg' : ℕ) (cmp' : Cmp) (value' : ℤ) (active' : Bool) → is_name name ≡ true → has_handler r.kind ≡ true → has_handler r'.kind ≡ true → IsRow board 0 r → IsRow board 0 r' → mbox < 5 → msg < 3 → mbox' < 5 → msg' < 3 →
     IsAgent board (agent name (r ∷ r' ∷ []) (field_test mbox msg cmp value active ∷ field_test mbox' msg' cmp' value' active' ∷ []))
 unfolding IsDistinct
 is_agent name r r' mbox msg cmp value active mbox' msg' cmp' value' active' n h h' a b m g m' g' = record {
   named = n;
   coop = refl;
+  disp = search rules;
+  group = refl;
+  priority = refl;
   vars = refl;
   tree = IsTree-flat;
   no_limits = All-from_recursion HasNoLimit [] tt;
   state_names = refl;
+  states_named = All-nil (λ name. is_name name ≡ true);
   each_state_once = tt;
   few_rows = search rules;
   rows = All-from_recursion (IsRow board 0) (r ∷ r' ∷ []) (a, (b, tt));
   row_ids = refl;
+  rows_named = All-nil (λ name. is_name name ≡ true);
   each_row_id_once = tt;
   few_filters = search rules;
   filters = All-from_recursion (IsFilter board) (field_test mbox msg cmp value active ∷ field_test mbox' msg' cmp' value' active' ∷ []) (is_filter mbox msg cmp value active m g, (is_filter mbox' msg' cmp' value' active' m' g', tt));
+  filters_named = All-nil (λ name. is_name name ≡ true);
   each_filter_id_once = tt;
   code = idle_is_code;
   bodies = rw (h, h') refl;
@@ -66,30 +77,60 @@ is_agent name r r' mbox msg cmp value active mbox' msg' cmp' value' active' n h 
 
 are_agents : AllByRecursion (IsAgent board) board.agents
 are_agents = (
-  is_agent _ _ _ _ _ _ _ _ _ _ _ _ _ (search rules) refl refl (is_row _ _ _ _ (search rules) (search rules) tt) (is_row _ _ _ _ (search rules) (search rules) tt) (search rules) (search rules) (search rules) (search rules),
+  is_agent _ _ _ _ _ _ _ _ _ _ _ _ _ refl refl refl (is_row _ _ _ _ (search rules) (search rules) tt) (is_row _ _ _ _ (search rules) (search rules) tt) (search rules) (search rules) (search rules) (search rules),
   (
-    is_agent _ _ _ _ _ _ _ _ _ _ _ _ _ (search rules) refl refl (is_row _ _ _ _ (search rules) (search rules) tt) (is_row _ _ _ _ (search rules) (search rules) refl) (search rules) (search rules) (search rules) (search rules),
+    is_agent _ _ _ _ _ _ _ _ _ _ _ _ _ refl refl refl (is_row _ _ _ _ (search rules) (search rules) tt) (is_row _ _ _ _ (search rules) (search rules) refl) (search rules) (search rules) (search rules) (search rules),
     (
-      is_agent _ _ _ _ _ _ _ _ _ _ _ _ _ (search rules) refl refl (is_row _ _ _ _ (search rules) (search rules) refl) (is_row _ _ _ _ (search rules) (search rules) tt) (search rules) (search rules) (search rules) (search rules),
+      is_agent _ _ _ _ _ _ _ _ _ _ _ _ _ refl refl refl (is_row _ _ _ _ (search rules) (search rules) refl) (is_row _ _ _ _ (search rules) (search rules) tt) (search rules) (search rules) (search rules) (search rules),
       tt,
     ),
   ),
 )
 
+-- ---- its one dispatcher
+
+is_default : IsDisp default_disp
+is_default = record { named = refl; kind = refl; slots = refl; some_threads = search rules; few_threads = search rules; no_pool = λ e. (refl, refl); quotes = refl }
+
+no_groups : AreGroups board (record { 0 = 0 })
+unfolding IsDistinct each_below
+no_groups = record { named = All-nil (λ name. is_name name ≡ true); each_once = tt; numbered = refl }
+
+groups_of_each : (n : ℕ) → n < 1 → AreGroups board (record { 0 = n })
+groups_of_each zero l = no_groups
+groups_of_each (suc n) l = absurd (omega arith)
+
+groups_at : (d : DispId) → d.0 < 1 → AreGroups board d
+groups_at d l = groups_of_each d.0 l
+
+few_lanes : lanes board ≤ 256
+unfolding lanes lane_list
+few_lanes = search rules
+
 pub board_is_scene : IsScene board
 unfolding IsDistinct
 board_is_scene = record {
   few_messages = search rules;
+  messages_named = All-from_recursion (λ name. is_name name ≡ true) (map message_name board.messages) (refl, (refl, (refl, tt)));
   message_names = ((refl, (refl, tt)), ((refl, tt), (tt, tt)));
   few_mboxes = search rules;
+  mboxes_named = All-from_recursion (λ name. is_name name ≡ true) board.mboxes (refl, (refl, tt));
+  default = refl;
+  few_dispatchers = search rules;
+  dispatchers = All-from_recursion IsDisp board.dispatchers (is_default, tt);
+  dispatcher_names = (tt, tt);
+  all_groups = refl;
+  groups = groups_at;
+  few_lanes = few_lanes;
   one_coop = refl;
-  coops = All-from_recursion (IsCoop board) board.coops (record { named = search rules; first = refl; count = refl }, tt);
+  coops = All-from_recursion (IsCoop board) board.coops (record { named = refl; first = refl; count = refl }, tt);
   some_agent = search rules;
   few_agents = search rules;
   agents = All-from_recursion (IsAgent board) board.agents are_agents;
   admitted = λ a l. admitted_at a.0 l;
   names = ((refl, (refl, (refl, (refl, tt)))), ((refl, (refl, (refl, tt))), ((refl, (refl, tt)), ((refl, tt), (tt, tt)))));
   few_texts = search rules;
-  texts = search rules;
+  texts = All-nil (λ t. is_text t ≡ true);
+  texts_numbered = refl;
   each_text_once = tt;
 }

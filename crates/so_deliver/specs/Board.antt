@@ -14,6 +14,7 @@ use Rattle.so_scene.specs.declared.parts.CoopDef.{CoopDef}
 use Rattle.so_scene.specs.declared.parts.FilterDef.{FilterDef}
 use Rattle.so_scene.specs.declared.parts.MessageDef.{MessageDef}
 use Rattle.so_scene.specs.declared.parts.SceneParts.{SceneParts}
+use Rattle.so_scene.specs.Parts.{no_agent, default_disp}
 
 -- no act, in the bodies of an agent with two rows
 abbrev pub idle_code : List Instr
@@ -22,15 +23,15 @@ idle_code = End Start ∷ End Finish ∷ End (RowBody (record { 0 = 0 })) ∷ En
 abbrev pub message : List ℕ → Bool → MessageDef
 message name signal = record { name = name; signal = signal }
 
-abbrev pub row : ℕ → ℕ → RowKind → Bool → Row
-row mbox msg kind active = record { mbox = record { 0 = mbox }; msg = record { 0 = msg }; state = default_state; kind = kind; safe = false; active = active }
+abbrev pub row_for : ℕ → ℕ → RowKind → Bool → Row
+row_for mbox msg kind active = record { mbox = record { 0 = mbox }; msg = record { 0 = msg }; state = default_state; kind = kind; safe = false; active = active }
 
 -- of field 0
 abbrev pub field_test : ℕ → ℕ → Cmp → ℤ → Bool → FilterDef
 field_test mbox msg cmp value active = record { id = None; mbox = record { 0 = mbox }; msg = record { 0 = msg }; field = 0; cmp = cmp; value = value; active = active }
 
 abbrev pub agent : List ℕ → List Row → List FilterDef → AgentDef
-agent name rows filters = record { name = name; coop = record { 0 = 0 }; vars = record { 0 = replicate 16 (pos 0) }; state_names = []; tree = []; rows = rows; row_ids = None ∷ None ∷ []; filters = filters; code = idle_code }
+agent name rows filters = record { name = name; coop = record { 0 = 0 }; disp = record { 0 = 0 }; group = None; priority = no_agent.priority; vars = record { 0 = replicate 16 (pos 0) }; state_names = []; tree = []; rows = rows; row_ids = None ∷ None ∷ []; filters = filters; code = idle_code }
 
 abbrev pub the_coop : CoopDef
 the_coop = record { name = 109 ∷ []; first = record { 0 = 0 }; count = 3 }
@@ -40,11 +41,13 @@ abbrev pub board : SceneParts
 board = record {
   messages = message (110 ∷ []) false ∷ message (103 ∷ []) true ∷ message (111 ∷ []) false ∷ [];
   mboxes = (98 ∷ []) ∷ (115 ∷ []) ∷ [];
+  dispatchers = default_disp ∷ [];
+  groups = [] ∷ [];
   coops = the_coop ∷ [];
   agents =
-      agent (114 ∷ []) (row 3 0 Run true ∷ row 3 0 Run false ∷ []) (field_test 3 0 Ge (pos 0) true ∷ field_test 3 0 Lt (pos 10) false ∷ [])
-      ∷ agent (113 ∷ []) (row 3 0 Run true ∷ row 3 2 Dead true ∷ []) (field_test 3 0 Ge (pos 100) true ∷ field_test 3 0 Ge (pos 5) true ∷ [])
-      ∷ agent (100 ∷ []) (row 3 0 Dead true ∷ row 3 0 Run false ∷ []) (field_test 3 2 Eq (pos 1) true ∷ field_test 4 0 Eq (pos 1) true ∷ [])
+      agent (114 ∷ []) (row_for 3 0 Run true ∷ row_for 3 0 Run false ∷ []) (field_test 3 0 Ge (pos 0) true ∷ field_test 3 0 Lt (pos 10) false ∷ [])
+      ∷ agent (113 ∷ []) (row_for 3 0 Run true ∷ row_for 3 2 Dead true ∷ []) (field_test 3 0 Ge (pos 100) true ∷ field_test 3 0 Ge (pos 5) true ∷ [])
+      ∷ agent (100 ∷ []) (row_for 3 0 Dead true ∷ row_for 3 0 Run false ∷ []) (field_test 3 2 Eq (pos 1) true ∷ field_test 4 0 Eq (pos 1) true ∷ [])
       ∷ [];
   texts = [];
 }

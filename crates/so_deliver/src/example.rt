@@ -1,12 +1,16 @@
 //! The scene of the tests: three agents, with subscriptions and filters on the mbox `b`.
 
 ghost use Rattle.std.specs.Prelude.{◌≡◌, true, IfOk};
+ghost use Rattle.so_scene.specs.Parts.{no_agent, default_disp};
 ghost use Rattle.so_scene.specs.Words.{is_name};
-ghost use Rattle.so_deliver.specs.Board.{idle_code, message, row, field_test, agent, the_coop, board};
+ghost use Rattle.so_deliver.specs.Board.{idle_code, message, row_for, field_test, agent, the_coop, board};
 
 use so_code::{Body, Cmp, Code, Instr};
-use so_ids::{AgentId, CoopId, MboxId, MsgId, RowId, StateId, Vars};
-use so_scene::{AgentDef, CoopDef, FilterDef, Items, MessageDef, Name, Scene, SceneParts};
+use so_ids::{AgentId, CoopId, DispId, MboxId, MsgId, NoMemory, Priority, RowId, StateId, Vars};
+use so_scene::{
+    AgentDef, CoopDef, DispDef, DispKind, Fifo, FilterDef, Items, MessageDef, Name, Scene,
+    SceneParts,
+};
 use so_state::{Row, RowKind, Tree};
 use std::alloc::{AllocError, Global};
 
@@ -68,8 +72,8 @@ fn message(text: &str, signal: bool) -> MessageDef
     }
 }
 
-fn row(mbox: u32, msg: u32, kind: RowKind, active: bool) -> Row
-    ensures { result ≡ row mbox msg kind active }
+fn row_for(mbox: u32, msg: u32, kind: RowKind, active: bool) -> Row
+    ensures { result ≡ row_for mbox msg kind active }
 {
     Row {
         mbox: MboxId(mbox),
@@ -96,6 +100,16 @@ fn field_test(mbox: u32, msg: u32, cmp: Cmp, value: i64, active: bool) -> Filter
     }
 }
 
+/// The priority of the agents.
+fn lowest() -> Priority
+    ensures { result ≡ no_agent.priority }
+{
+    match Priority::of(0) {
+        Some(priority) => priority,
+        None => unreachable!(),
+    }
+}
+
 fn agent(
     alloc: Global,
     text: &str,
@@ -105,9 +119,13 @@ fn agent(
     requires { is_name text.now ≡ true }
     ensures { IfOk result (λ def. def ≡ agent text.now rows filters) }
 {
+    let priority = lowest();
     Ok(AgentDef {
         name: name(text),
         coop: CoopId(0),
+        disp: DispId(0),
+        group: None,
+        priority,
         vars: Vars([0; 16]),
         state_names: Items::from_vec(Vec::new(alloc)),
         tree: Tree::flat(alloc),
@@ -125,8 +143,8 @@ fn agents(alloc: Global) -> Result<Items<AgentDef>, AllocError>
         alloc,
         "r",
         [
-            row(BOARD, NUM, RowKind::Run, true),
-            row(BOARD, NUM, RowKind::Run, false),
+            row_for(BOARD, NUM, RowKind::Run, true),
+            row_for(BOARD, NUM, RowKind::Run, false),
         ],
         [
             field_test(BOARD, NUM, Cmp::Ge, 0, true),
@@ -137,8 +155,8 @@ fn agents(alloc: Global) -> Result<Items<AgentDef>, AllocError>
         alloc,
         "q",
         [
-            row(BOARD, NUM, RowKind::Run, true),
-            row(BOARD, OTHER, RowKind::Dead, true),
+            row_for(BOARD, NUM, RowKind::Run, true),
+            row_for(BOARD, OTHER, RowKind::Dead, true),
         ],
         [
             field_test(BOARD, NUM, Cmp::Ge, 100, true),
@@ -149,8 +167,8 @@ fn agents(alloc: Global) -> Result<Items<AgentDef>, AllocError>
         alloc,
         "d",
         [
-            row(BOARD, NUM, RowKind::Dead, true),
-            row(BOARD, NUM, RowKind::Run, false),
+            row_for(BOARD, NUM, RowKind::Dead, true),
+            row_for(BOARD, NUM, RowKind::Run, false),
         ],
         [
             field_test(BOARD, OTHER, Cmp::Eq, 1, true),
@@ -170,6 +188,20 @@ fn the_coop() -> CoopDef
     }
 }
 
+/// The dispatcher `default`.
+fn default_disp() -> DispDef
+    ensures { result ≡ default_disp }
+{
+    DispDef {
+        name: name("default"),
+        kind: DispKind::OneThread,
+        slots: 4096,
+        threads: 4,
+        fifo: Fifo::Cooperation,
+        quotes: [20; 8],
+    }
+}
+
 fn parts(alloc: Global) -> Result<SceneParts, AllocError>
     ensures { IfOk result (λ parts. parts ≡ board) }
 {
@@ -177,6 +209,8 @@ fn parts(alloc: Global) -> Result<SceneParts, AllocError>
     Ok(SceneParts {
         messages: Items::from_vec(Vec::from_array(alloc, messages)?),
         mboxes: Items::from_vec(Vec::from_array(alloc, [name("b"), name("s")])?),
+        dispatchers: Items::from_vec(Vec::from_array(alloc, [default_disp()])?),
+        groups: Items::from_vec(Vec::from_array(alloc, [Items::from_vec(Vec::new(alloc))])?),
         coops: Items::from_vec(Vec::from_array(alloc, [the_coop()])?),
         agents: agents(alloc)?,
         texts: Items::from_vec(Vec::new(alloc)),
@@ -184,9 +218,11 @@ fn parts(alloc: Global) -> Result<SceneParts, AllocError>
 }
 
 /// The scene.
-pub(crate) fn board(alloc: Global) -> Result<Scene, AllocError>
+pub(crate) fn board(alloc: Global) -> Result<Scene, NoMemory>
     ensures { IfOk result (λ scene. scene ≡ board) }
 {
-    let parts = parts(alloc)?;
-    Ok(Scene::new(parts))
+    let Ok(parts) = parts(alloc) else {
+        return Err(NoMemory);
+    };
+    Scene::new(alloc, parts)
 }

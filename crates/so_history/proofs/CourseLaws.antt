@@ -7,9 +7,6 @@ use Rattle.so_ids.specs.declared.PartyId.{PartyId}
 use Rattle.so_ids.specs.declared.AgentId.{AgentId}
 use Rattle.so_code.specs.declared.effect.Answer.{Answer}
 use Rattle.so_code.specs.declared.effect.Effect.{Effect}
-use Rattle.so_ids.specs.declared.DemandId.{DemandId}
-use Rattle.so_ids.specs.declared.Payload.{Payload}
-use Rattle.so_ids.specs.declared.Vars.{Vars}
 use Rattle.so_code.specs.Openings.{begun}
 use Rattle.so_scene.specs.declared.parts.SceneParts.{SceneParts}
 use Rattle.so_history.specs.declared.entry.Entry.{Entry}

@@ -9,6 +9,7 @@ pub mod CourseLaws
 pub mod SoundLaws
 pub mod ChainLaws
 pub mod PlaceLaws
+pub mod SharingLaws
 pub mod OverlapLaws
 pub mod OrderLaws
 pub mod CoopLaws

@@ -15,6 +15,7 @@ use Rattle.so_lists.specs.Lists.{is_empty}
 use Rattle.so_lists.proofs.Filters.{each-weaker, find-filter, find_front}
 use Rattle.so_scene.specs.declared.parts.SceneParts.{SceneParts}
 use Rattle.so_scene.specs.Lanes.{key_of, serves}
+use Rattle.so_scene.proofs.LaneLaws.{same_queue-key}
 use Rattle.so_history.specs.declared.entry.Entry.{Entry}
 use Rattle.so_history.specs.declared.entry.EntryKind.{EntryKind}
 use Rattle.so_history.specs.declared.entry.EntryKind.TheVariants.{Register, Begin, Skip, Act, End, Leaving, Left, Stop, Abort}
@@ -25,7 +26,7 @@ use Rattle.so_history.specs.Demands.{queued_by, demands, takes, taken, waiting, 
 use Rattle.so_history.specs.Turns.{running_with}
 use Rattle.so_history.specs.Order.{may_take, pick, opening_of, skipped}
 use Rattle.so_history.specs.Steps.{IsTaking, IsRow, IsStep, Legal}
-use Rattle.so_history.specs.Facts.{StandsAt, TakesAt, TakenBefore, InOrder, BeginsWith, SkipsWith, ByChoice}
+use Rattle.so_history.specs.Facts.{StandsAt, ShareQueue, TakesAt, TakenBefore, InOrder, BeginsWith, SkipsWith, ByChoice}
 use Rattle.so_history.proofs.NameLaws.{same_place, found_by_name, found_least}
 use Rattle.so_history.proofs.DemandLaws.{queued_here, waiting_sorted, picked, takes_waiting, taken_early, demands_sorted}
 use Rattle.so_history.proofs.TakingLaws.{takes-taking, begins_as, skips_as}
@@ -133,21 +134,21 @@ now_case s e h c d legal step has_c has_d key earlier t =
     let picks : pick s h it.lane ≡ Some d = it.picked ∙ ap Some demand in
     wider e h c.id (length h) (omega arith) (taken_somewhere h c.id (earlier_taken s h it.lane c d picks there_c key earlier))
 
-order_case : (s : SceneParts) (e : Entry) (h : List Entry) (c d : Demand) (place : ℕ) → Legal s (e ∷ h) → named c.id (demands s (e ∷ h)) ≡ Some c → named d.id (demands s (e ∷ h)) ≡ Some d → key_of s c.agent ≡ key_of s d.agent →
+order_case : (s : SceneParts) (e : Entry) (h : List Entry) (c d : Demand) (place : ℕ) → Legal s (e ∷ h) → named c.id (demands s (e ∷ h)) ≡ Some c → named d.id (demands s (e ∷ h)) ≡ Some d → ShareQueue s c.agent d.agent →
     is_earlier c.id d.id ≡ true → (takes : TakesAt (e ∷ h) place d.id) → Where e h place takes.entry → InOrder s h → TakenBefore (e ∷ h) c.id place
-order_case s e h c d place legal has_c has_d key earlier t (is_last at same) ih =
+order_case s e h c d place legal has_c has_d share earlier t (is_last at same) ih =
     let P : Entry → Type 0 = λ y. takes y.kind d.id ≡ true in
-    let it = now_case s e h c d legal.0 legal.1 has_c has_d key earlier (subst P (sym same) t.takes) in
+    let it = now_case s e h c d legal.0 legal.1 has_c has_d (same_queue-key s c.agent d.agent share) earlier (subst P (sym same) t.takes) in
     record { when = it.when; earlier = omega (arith, it.earlier, at); takes = it.takes }
-order_case s e h c d place legal has_c has_d key earlier t (is_early early there) ih =
+order_case s e h c d place legal has_c has_d share earlier t (is_early early there) ih =
     let old : TakesAt h place d.id = record { entry = t.entry; here = there; takes = t.takes } in
     let before_d : d.id.place.0 < length h = taken_early s h legal.0 d.id (takes_taken h d.id place old) in
     let before_c : c.id.place.0 < length h = omega (arith, place_before c.id d.id earlier, before_d) in
-    wider e h c.id place (omega (arith, early)) (ih c d place (sym (named-early s e h c.id before_c) ∙ has_c) (sym (named-early s e h d.id before_d) ∙ has_d) key earlier old)
+    wider e h c.id place (omega (arith, early)) (ih c d place (sym (named-early s e h c.id before_c) ∙ has_c) (sym (named-early s e h d.id before_d) ∙ has_d) share earlier old)
 
 pub in_order : (s : SceneParts) (h : List Entry) → Legal s h → InOrder s h
-in_order s [] legal = λ c d place has_c has_d key earlier t. absurd (let e = t.here in cc)
-in_order s (e ∷ h) legal = λ c d place has_c has_d key earlier t. order_case s e h c d place legal has_c has_d key earlier t (place_of_entry e h place t.entry t.here) (in_order s h legal.0)
+in_order s [] legal = λ c d place has_c has_d share earlier t. absurd (let e = t.here in cc)
+in_order s (e ∷ h) legal = λ c d place has_c has_d share earlier t. order_case s e h c d place legal has_c has_d share earlier t (place_of_entry e h place t.entry t.here) (in_order s h legal.0)
 
 -- a demand that is picked waits under its name
 picked_waits : (s : SceneParts) (h : List Entry) (lane : LaneId) (d : Demand) → pick s h lane ≡ Some d → named d.id (waiting s h) ≡ Some d

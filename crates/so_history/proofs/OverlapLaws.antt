@@ -11,13 +11,14 @@ use Rattle.so_ids.specs.declared.Opening.{Opening}
 use Rattle.so_ids.specs.declared.PartyId.{PartyId}
 use Rattle.so_scene.specs.declared.parts.SceneParts.{SceneParts}
 use Rattle.so_scene.specs.Lanes.{key_of}
+use Rattle.so_scene.proofs.LaneLaws.{same_queue-key}
 use Rattle.so_history.specs.declared.entry.Entry.{Entry}
 use Rattle.so_history.specs.declared.entry.EntryKind.{EntryKind}
 use Rattle.so_history.specs.declared.entry.EntryKind.TheVariants.{Begin}
 use Rattle.so_history.specs.Places.{entry_at}
 use Rattle.so_history.specs.Turns.{Started, started_by, turns, ends, ended, running, running_at, key_number}
 use Rattle.so_history.specs.Steps.{IsRow, IsStep, Legal}
-use Rattle.so_history.specs.Facts.{BeginsAt, EndsBefore, NoOverlap}
+use Rattle.so_history.specs.Facts.{BeginsAt, EndsBefore, ShareQueue, NoOverlap}
 use Rattle.so_history.proofs.PlaceLaws.{Where, is_last, is_early, place_of_entry, entry_at-last, entry_at-early}
 use Rattle.so_history.proofs.TurnLaws.{ends_early, keys_free}
 
@@ -114,15 +115,15 @@ newest s h e i a b lane demand opening kind legal step begins key =
 earlier_begin : (e : Entry) (h : List Entry) (i : ℕ) (a : AgentId) → i < length h → BeginsAt (e ∷ h) i a → BeginsAt h i a
 earlier_begin e h i a l it = record { lane = it.lane; demand = it.demand; opening = it.opening; stands = record { entry = it.stands.entry; here = sym (entry_at-early e h i l) ∙ it.stands.here; is = it.stands.is } }
 
-overlap_case : (s : SceneParts) (e : Entry) (h : List Entry) (i j : ℕ) (a b : AgentId) → Legal s (e ∷ h) → i < j → BeginsAt (e ∷ h) i a → (begins : BeginsAt (e ∷ h) j b) → key_of s a ≡ key_of s b → Where e h j begins.stands.entry → NoOverlap s h → EndsBefore (e ∷ h) i j
-overlap_case s e h i j a b legal l first begins key (is_last at same) ih =
+overlap_case : (s : SceneParts) (e : Entry) (h : List Entry) (i j : ℕ) (a b : AgentId) → Legal s (e ∷ h) → i < j → BeginsAt (e ∷ h) i a → (begins : BeginsAt (e ∷ h) j b) → ShareQueue s a b → Where e h j begins.stands.entry → NoOverlap s h → EndsBefore (e ∷ h) i j
+overlap_case s e h i j a b legal l first begins share (is_last at same) ih =
     let early : i < length h = omega arith in
     let kind : e.kind ≡ Begin begins.lane begins.demand begins.opening b = ap (λ (y : Entry). y.kind) same ∙ begins.stands.is in
-    let it = newest s h e i a b begins.lane begins.demand begins.opening kind legal.0 legal.1 (earlier_begin e h i a early first) key in
+    let it = newest s h e i a b begins.lane begins.demand begins.opening kind legal.0 legal.1 (earlier_begin e h i a early first) (same_queue-key s a b share) in
     wider (e ∷ h) i (length h) j (omega arith) (later e h i (length h) (omega arith) it)
-overlap_case s e h i j a b legal l first begins key (is_early early there) ih =
-    later e h i j (omega arith) (ih i j a b l (earlier_begin e h i a (omega arith) first) (earlier_begin e h j b early begins) key)
+overlap_case s e h i j a b legal l first begins share (is_early early there) ih =
+    later e h i j (omega arith) (ih i j a b l (earlier_begin e h i a (omega arith) first) (earlier_begin e h j b early begins) share)
 
 pub no_overlap : (s : SceneParts) (h : List Entry) → Legal s h → NoOverlap s h
-no_overlap s [] legal = λ i j a b l first begins key. absurd (let e = begins.stands.here in cc)
-no_overlap s (e ∷ h) legal = λ i j a b l first begins key. overlap_case s e h i j a b legal l first begins key (place_of_entry e h j begins.stands.entry begins.stands.here) (no_overlap s h legal.0)
+no_overlap s [] legal = λ i j a b l first begins share. absurd (let e = begins.stands.here in cc)
+no_overlap s (e ∷ h) legal = λ i j a b l first begins share. overlap_case s e h i j a b legal l first begins share (place_of_entry e h j begins.stands.entry begins.stands.here) (no_overlap s h legal.0)

@@ -1,5 +1,5 @@
 -- What the frame of a turn keeps, and what its effects name.
-use Rattle.std.proofs.Common.{◌≡◌, ℕ, zero, suc, ◌<◌, ◌≤◌, List, [], ◌∷◌, length, reverse, Bool, true, false, not, cond, arith, Option, Some, None, is_some, refl, sym, ◌∙◌, ap, subst}
+use Rattle.std.proofs.Common.{◌≡◌, ℕ, zero, suc, ◌<◌, ◌≤◌, List, [], ◌∷◌, length, Bool, true, false, not, cond, arith, Option, Some, None, is_some, refl, sym, ◌∙◌, ap, subst}
 use Rattle.std.specs.Prelude.{◌==◌, slice_get, if◌then◌else◌}
 use Rattle.std.specs.Option.{option_map}
 use Rattle.std.specs.List.{filter, AllByRecursion}
@@ -30,7 +30,6 @@ use Rattle.so_code.specs.declared.effect.Answer.TheVariants as answer
 use Rattle.so_code.specs.declared.effect.Move.{Move}
 use Rattle.so_code.specs.declared.effect.Move.TheVariants.{Do, Done, Fail}
 use Rattle.so_code.specs.declared.frame.Frame.{Frame}
-use Rattle.so_code.specs.declared.frame.Todo.{Todo}
 use Rattle.so_code.specs.declared.frame.Todo.TheVariants as todo
 use Rattle.so_code.specs.declared.instr.Instr.{Instr}
 use Rattle.so_code.specs.declared.instr.Instr.TheVariants as instr
@@ -48,7 +47,7 @@ use Rattle.so_lists.proofs.Filters.{filter-short}
 use Rattle.so_state.specs.declared.states.State.{State}
 use Rattle.so_state.specs.Fault.{IsTree}
 use Rattle.so_state.specs.States.{same_state, is_on, path}
-use Rattle.so_state.specs.Plan.{resolve, exits, enters, plan_of, plan_to, plan}
+use Rattle.so_state.specs.Plan.{resolve, exits, enters, plan_of}
 use Rattle.so_state.proofs.TreeFacts.{path_fits}
 use Rattle.so_state.proofs.Resolved.{resolve-few}
 use Rattle.so_scene.specs.declared.parts.SceneParts.{SceneParts}
@@ -58,12 +57,11 @@ use Rattle.so_history.specs.declared.entry.Entry.{Entry}
 use Rattle.so_history.specs.declared.entry.EntryKind.{EntryKind}
 use Rattle.so_history.specs.declared.entry.EntryKind.TheVariants.{Register, Begin, Skip, Act, End, Leaving, Left, Stop, Abort}
 use Rattle.so_history.specs.declared.entry.EventSource.{EventSource}
-use Rattle.so_history.specs.declared.entry.Demand.{Demand}
 use Rattle.so_history.specs.Demands.{source_of, event_of}
 use Rattle.so_history.specs.Leaves.{leaves, leaf_of, switch_of}
 use Rattle.so_history.specs.Delivery.{active_rows, active_filters, chosen_for}
 use Rattle.so_history.specs.Order.{opening_of, skipped}
-use Rattle.so_history.specs.Turns.{Course, move_of, answer_to, advanced, vars, course}
+use Rattle.so_history.specs.Turns.{Course, move_of, answer_to, advanced, course}
 use Rattle.so_history.specs.Steps.{NamesEffect, answer_of, answer_to_send, answer_to_switch, choice_for, yes_where, may_subscribe, is_active, entry_of, IsRow, Legal}
 use Rattle.so_history.proofs.TakingLaws.{begins_as}
 use Rattle.so_history.proofs.OpeningLaws.{agent_tree, ChoosesWithin, OpensWithin, HasEvent, chosen_within, choice_fits, opening_within, opening_event}

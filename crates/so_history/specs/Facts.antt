@@ -11,7 +11,7 @@ use Rattle.so_ids.specs.Ids.{is_earlier}
 use Rattle.so_lists.specs.Lists.{head}
 use Rattle.so_scene.specs.declared.parts.SceneParts.{SceneParts}
 use Rattle.so_scene.specs.Parts.{agents_of}
-use Rattle.so_scene.specs.Lanes.{key_of}
+use Rattle.so_scene.specs.Lanes.{queue_of}
 use Rattle.so_history.specs.declared.entry.Entry.{Entry}
 use Rattle.so_history.specs.declared.entry.EntryKind.{EntryKind}
 use Rattle.so_history.specs.declared.entry.EntryKind.TheVariants.{Register, Begin, Skip, Leaving, Left}
@@ -45,10 +45,14 @@ pub record EndsBefore (h : List Entry) (i j : ℕ) : Type 0 where
   pub here : entry_at h place ≡ Some entry
   pub ends : ends entry.kind i ≡ true
 
--- no overlap: of two turns whose events stand in one queue, the earlier ends before the later begins
+-- two agents share a queue: they are bound to one dispatcher, and are of one part of its agents
+abbrev pub ShareQueue : SceneParts → AgentId → AgentId → Type 0
+ShareQueue s a b = queue_of s a ≡ queue_of s b
+
+-- no overlap: of two turns whose agents share a queue, the earlier ends before the later begins
 abbrev pub NoOverlap : SceneParts → List Entry → Type 0
 NoOverlap s h =
-    (i j : ℕ) (a b : AgentId) → i < j → BeginsAt h i a → BeginsAt h j b → key_of s a ≡ key_of s b → EndsBefore h i j
+    (i j : ℕ) (a b : AgentId) → i < j → BeginsAt h i a → BeginsAt h j b → ShareQueue s a b → EndsBefore h i j
 
 -- how often a demand was taken
 abbrev pub takings : List Entry → DemandId → ℕ
@@ -70,10 +74,10 @@ pub record TakenBefore (h : List Entry) (d : DemandId) (place : ℕ) : Type 0 wh
   pub earlier : when < place
   pub takes : TakesAt h when d
 
--- in order: of two demands of one queue the later is taken only after the earlier
+-- in order: of two demands whose agents share a queue, the later is taken only after the earlier
 abbrev pub InOrder : SceneParts → List Entry → Type 0
 InOrder s h =
-    (c d : Demand) (place : ℕ) → named c.id (demands s h) ≡ Some c → named d.id (demands s h) ≡ Some d → key_of s c.agent ≡ key_of s d.agent →
+    (c d : Demand) (place : ℕ) → named c.id (demands s h) ≡ Some c → named d.id (demands s h) ≡ Some d → ShareQueue s c.agent d.agent →
     is_earlier c.id d.id ≡ true → TakesAt h place d.id → TakenBefore h c.id place
 
 -- the demand that a turn takes waits, and the turn begins as that demand says

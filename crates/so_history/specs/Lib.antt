@@ -10,6 +10,7 @@ pub mod Order
 pub mod Steps
 pub mod Chain
 pub mod Facts
+pub mod Sharing
 pub mod Trace
 pub mod Rooms
 pub mod Text

@@ -1,14 +1,16 @@
 //! What holds of every legal history. Each law is the contract of a function that does nothing.
 
-ghost use Rattle.std.specs.Prelude.{◌≡◌, List, None, true};
+ghost use Rattle.std.specs.Prelude.{◌≡◌, ◌<◌, List, None, length, true};
+ghost use Rattle.so_ids.specs.declared.AgentId.{AgentId};
 ghost use Rattle.so_scene.specs.declared.parts.SceneParts.{SceneParts};
 ghost use Rattle.so_scene.specs.Checked.{IsScene};
 ghost use Rattle.so_history.specs.declared.entry.Entry.{Entry};
 ghost use Rattle.so_history.specs.Steps.{finished, Legal};
 ghost use Rattle.so_history.specs.Chain.{first};
 ghost use Rattle.so_history.specs.Facts.{NoOverlap, TakenOnce, InOrder, ByChoice, WholeCoops, StartsAndFinishes};
+ghost use Rattle.so_history.specs.Sharing.{SharesByRule, NumbersQueues};
 
-/// Of two turns whose events stand in one queue, the earlier ends before the later begins.
+/// Of two turns whose agents share a queue, the earlier ends before the later begins.
 pub fn no_overlap()
     ensures { (s : SceneParts) (h : List Entry) → Legal s h → NoOverlap s h }
 {}
@@ -18,7 +20,7 @@ pub fn taken_once()
     ensures { (s : SceneParts) (h : List Entry) → Legal s h → TakenOnce h }
 {}
 
-/// Of two demands of one queue the later is taken only after the earlier.
+/// Of two demands whose agents share a queue, the later is taken only after the earlier.
 pub fn in_order()
     ensures { (s : SceneParts) (h : List Entry) → Legal s h → InOrder s h }
 {}
@@ -36,6 +38,18 @@ pub fn whole_coops()
 /// An agent's first demand is to start, and its last is to finish.
 pub fn starts_and_finishes()
     ensures { (s : SceneParts) (h : List Entry) → Legal s h → StartsAndFinishes s h }
+{}
+
+/// Two agents of a scene share a queue exactly where they are bound to one dispatcher, and it puts them
+/// together: a one_thread any two, an active_obj none but an agent and itself, an active_group those of a group,
+/// and a pool those of a cooperation, or none but an agent and itself.
+pub fn shares_by_rule()
+    ensures { (s : SceneParts) (a b : AgentId) → IsScene s → a.0 < length s.agents → b.0 < length s.agents → SharesByRule s a b }
+{}
+
+/// The queues of two agents have one number exactly where the agents share a queue.
+pub fn numbers_queues()
+    ensures { (s : SceneParts) (a b : AgentId) → a.0 < length s.agents → b.0 < length s.agents → NumbersQueues s a b }
 {}
 
 /// A run that isn't over goes on: after its history there is a first step.

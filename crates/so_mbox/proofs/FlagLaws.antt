@@ -1,8 +1,10 @@
 -- Flags that are written anew one after the other.
-use Rattle.std.proofs.Common.{◌≡◌, ℕ, zero, suc, ◌<◌, List, [], ◌∷◌, length, map, Bool, false, arith, refl, ap}
-use Rattle.std.specs.Prelude.{slice_set, slice_index_or, zip}
+use Rattle.std.proofs.Common.{◌≡◌, ℕ, zero, suc, ◌<◌, List, [], ◌∷◌, length, map, Bool, false, ◌&&◌, drop, arith, refl, ap}
+use Rattle.std.specs.Prelude.{slice_set, slice_index_or, zip, not}
+use Rattle.std.specs.List.{list_any}
 use Rattle.so_state.specs.declared.choice.Row.{Row}
-use Rattle.so_scene.specs.Subscriptions.{rows_first, is_active_first}
+use Rattle.so_scene.specs.declared.parts.FilterDef.{FilterDef}
+use Rattle.so_scene.specs.Subscriptions.{rows_first, is_active_first, replaces, filters_first}
 
 -- the first n flags are written, each by the flag itself and what stands beside it
 abbrev pub written : {X : Type 0} → (X × Bool → Bool) → ℕ → List X → List Bool → List Bool
@@ -49,3 +51,26 @@ rows-written [] [] e = refl
 rows-written [] (b ∷ bs) e = absurd (omega arith)
 rows-written (row ∷ rows) [] e = absurd (omega arith)
 rows-written (row ∷ rows) (b ∷ bs) e = ap (λ r. row.active ∷ r) (rows-written rows bs (omega arith))
+
+-- flags that are copied from a list
+abbrev pub as_copied : Bool × Bool → Bool
+as_copied pair = pair.0
+
+pub all-copied : (xs : List Bool) (bs : List Bool) → length bs ≡ length xs → map as_copied (zip xs bs) ≡ xs
+all-copied [] [] e = refl
+all-copied [] (b ∷ bs) e = absurd (omega arith)
+all-copied (x ∷ xs) [] e = absurd (omega arith)
+all-copied (x ∷ xs) (b ∷ bs) e = ap (λ r. x ∷ r) (all-copied xs bs (omega arith))
+
+-- ---- filters
+
+pub length-filters_first : (filters : List FilterDef) → length (filters_first filters) ≡ length filters
+length-filters_first [] = refl
+length-filters_first (f ∷ later) = ap suc (length-filters_first later)
+
+-- a filter is active at first where it says so, and none of those after it replaces it
+pub first-at : (filters : List FilterDef) (k : ℕ) (f : FilterDef) → k < length filters → f ≡ slice_index_or filters k f →
+    slice_index_or (filters_first filters) k false ≡ (f.active && not (list_any (replaces f) (drop (suc k) filters)))
+first-at [] k f l e = absurd (omega arith)
+first-at (g ∷ later) zero f l e = rw (e) refl
+first-at (g ∷ later) (suc k) f l e = first-at later k f (omega arith) e

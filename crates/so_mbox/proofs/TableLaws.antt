@@ -18,7 +18,8 @@ use Rattle.so_ids.specs.declared.FilterId.{FilterId}
 use Rattle.so_scene.specs.declared.parts.FilterDef.{FilterDef}
 use Rattle.so_scene.specs.declared.parts.SceneParts.{SceneParts}
 use Rattle.so_scene.specs.Parts.{no_agent, rows_of, filters_of}
-use Rattle.so_scene.specs.Subscriptions.{rows_first, is_active_first, stays_beside, filter_at, filter_set, filters_taken, filters_first}
+use Rattle.so_scene.specs.Subscriptions.{rows_first, is_active_first, stays_beside, filter_at, filter_set, filters_first}
+use Rattle.so_mbox.proofs.FlagLaws.{length-filters_first}
 use Rattle.so_mbox.specs.Table.{Subscriptions, IsTable, IsAgentOf, same_agent, is_other, is_entered, active_filters, all_none, all_filters_first, nobody, none_active, with_rows, with_filters, with_order, after_enter, after_leave, after_set_filter}
 
 -- ---- nobody is registered twice
@@ -85,17 +86,6 @@ once-filter p (a ∷ agents) d =
 pub length-filter_set : (filters : List FilterDef) (k : ℕ) (flags : List Bool) → length flags ≡ length filters → length (filter_set filters k flags) ≡ length filters
 length-filter_set filters k flags e =
     length-set _ k true ∙ (length-map (zip filters flags) (stays_beside (filter_at filters k)) ∙ (let z = length-zip filters flags in omega (arith, z)))
-
-taken_case : (filters : List FilterDef) (k : ℕ) (flags : List Bool) (b : Bool) → length flags ≡ length filters → length (cond b (filter_set filters k flags) flags) ≡ length filters
-taken_case filters k flags true e = length-filter_set filters k flags e
-taken_case filters k flags false e = e
-
-length-filters_taken : (filters : List FilterDef) (n : ℕ) → length (filters_taken filters n) ≡ length filters
-length-filters_taken filters zero = length-replicate (length filters) false
-length-filters_taken filters (suc n) = taken_case filters n (filters_taken filters n) (filter_at filters n).active (length-filters_taken filters n)
-
-pub length-filters_first : (filters : List FilterDef) → length (filters_first filters) ≡ length filters
-length-filters_first filters = length-filters_taken filters (length filters)
 
 -- what stands at a number of the list
 pub flags_at : (lists : List (List Bool)) (i : ℕ) (flags : List Bool) → i < length lists → flags ≡ get_or lists i flags → flags ≡ get_or lists i []

@@ -1,7 +1,9 @@
 //! Which rows, or which filters, of an agent are active.
 
-ghost use Rattle.std.specs.Prelude.{◌≡◌, ◌<◌, length, replicate, slice_set, false, IfOk};
-ghost use Rattle.so_scene.specs.Subscriptions.{rows_first, stays_beside, beside, filter_set, filter_taken, filters_first};
+ghost use Rattle.std.specs.Prelude.{◌≡◌, ◌<◌, suc, length, drop, replicate, slice_index_or, slice_set, false, IfOk};
+ghost use Rattle.std.specs.List.{list_any};
+ghost use Rattle.so_scene.specs.Delivery.{is_filter_for};
+ghost use Rattle.so_scene.specs.Subscriptions.{rows_first, stays_beside, beside, filter_set, replaces, filters_first};
 
 use so_ids::NoMemory;
 use so_scene::FilterDef;
@@ -69,8 +71,7 @@ impl Flags {
         requires { length self.old ≡ length filters.now }
         ensures { self.new ≡ filters_first filters.now }
     {
-        self.clear();
-        take_filters(&mut self.flags, filters);
+        put_filters_first(&mut self.flags, filters);
     }
 
     /// Sets a filter, which replaces the one of the same mbox and type.
@@ -92,26 +93,49 @@ fn put_rows_first(flags: &mut [bool], rows: &[Row])
     }
 }
 
-/// Sets the filters that are active from the start, in order.
-fn take_filters(flags: &mut [bool], filters: &[FilterDef])
-    requires same { length flags.old ≡ length filters.now }
-    requires none { flags.old ≡ replicate (length filters.now) false }
+fn put_filters_first(flags: &mut [bool], filters: &[FilterDef])
+    requires { length flags.old ≡ length filters.now }
     ensures { flags.new ≡ filters_first filters.now }
 {
     for k in 0..filters.len() {
-        take_filter(flags, filters, k);
+        flags[k] = is_active_first(filters, k);
     }
 }
 
-/// Sets a filter where it is active from the start.
-fn take_filter(flags: &mut [bool], filters: &[FilterDef], k: usize)
-    requires within { k < length filters.now }
-    requires same { length flags.old ≡ length filters.now }
-    ensures { flags.new ≡ filter_taken filters.now k flags.old }
+/// Tells whether a filter is active at the registration: where it says so, and no later one replaces it.
+fn is_active_first(filters: &[FilterDef], k: usize) -> bool
+    requires { k < length filters.now }
+    ensures { result ≡ slice_index_or (filters_first filters.now) k false }
 {
-    if filters[k].active {
-        set_filter(flags, filters, k);
+    let filter = &filters[k];
+    if !filter.active {
+        return false;
     }
+    !is_replaced(filter, after(filters, k))
+}
+
+/// The filters after this number.
+fn after(filters: &[FilterDef], k: usize) -> &[FilterDef]
+    requires { k < length filters.now }
+    ensures { result.now ≡ drop (suc k) filters.now }
+{
+    &filters[k + 1..]
+}
+
+/// Tells whether one of the later filters is active from the start, and for the same messages.
+fn is_replaced(filter: &FilterDef, later: &[FilterDef]) -> bool
+    ensures { result ≡ list_any (replaces filter.now) later.now }
+{
+    later
+        .iter()
+        .any(|other| other.active && is_for_same(filter, other))
+}
+
+/// Tells whether the other filter is of the same mbox and type.
+fn is_for_same(filter: &FilterDef, other: &FilterDef) -> bool
+    ensures { result ≡ is_filter_for filter.now.mbox filter.now.msg other.now }
+{
+    other.mbox == filter.mbox && other.msg == filter.msg
 }
 
 /// Sets a filter, which replaces the one of the same mbox and type.
@@ -138,7 +162,7 @@ fn drop_replaced(flags: &mut [bool], filters: &[FilterDef], new: &FilterDef)
 fn stays_beside(new: &FilterDef, other: &FilterDef, active: bool) -> bool
     ensures { result ≡ stays_beside new.now (other.now, active) }
 {
-    active && !(other.mbox == new.mbox && other.msg == new.msg)
+    active && !is_for_same(new, other)
 }
 
 #[cfg(test)]
@@ -181,7 +205,7 @@ mod tests {
             filter(4, 0, false),
         ];
         let mut flags = [false; 4];
-        take_filters(&mut flags, &filters);
+        put_filters_first(&mut flags, &filters);
         assert_eq!(rt; flags, [false, true, true, false]);
         let cases = [
             (0, [true, false, true, false]),
