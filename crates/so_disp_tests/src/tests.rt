@@ -125,7 +125,7 @@ const PICKS: [(Step, Option<u32>); 12] = [
 #[test]
 fn picks_the_least_of_the_open_queues(rt: HostRuntime) -> Result<(), Fail> {
     let Ok(scene) = read_scene(rt.alloc(), SCENES[0].as_bytes()) else {
-        return Err(Fail);
+        panic!(rt; "no scene")
     };
     let count = scene.keys();
     let mut queues = Queues::with(rt.alloc(), count, 8)?;
@@ -171,7 +171,7 @@ fn drawn(draw: u32, place: u32, count: u32) -> Step
 /// Compares both picks after each of some hundred calls.
 fn compare_on(rt: &impl Abort, alloc: Global, text: &str) -> Result<(), Fail> {
     let Ok(scene) = read_scene(alloc, text.as_bytes()) else {
-        return Err(Fail);
+        panic!(rt; "no scene")
     };
     let count = scene.keys();
     let mut queues = Queues::with(alloc, count, 40)?;
