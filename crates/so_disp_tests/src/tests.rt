@@ -43,8 +43,9 @@ fn push(queues: &mut Queues, key: KeyId, level: u8, place: u32)
     ensures { keys_of queues.new ≡ keys_of queues.old }
 {
     if let Some(priority) = Priority::of(level) {
-        if queues.may_push(demand(place)) {
-            queues.push(key, priority, demand(place));
+        let next = demand(place);
+        if queues.may_push(next) {
+            queues.push(key, priority, next);
         }
     }
 }

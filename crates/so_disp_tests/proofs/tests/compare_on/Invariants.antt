@@ -4,4 +4,4 @@ use Rattle.so_queue.specs.Queues.{keys_of}
 use Rattle.so_disp_tests.proofs.tests.compare_on.Given as goal
 
 abbrev pub invariant-loop-place : goal.invariant-loop-place
-invariant-loop-place g l = keys_of l.queues ≡ keys l.scene
+invariant-loop-place g l = keys_of l.queues ≡ keys l.scene-inside.parts
