@@ -1,5 +1,6 @@
 -- What the kernel keeps goes on after one more entry.
-use Rattle.std.proofs.Common.{◌≡◌, ℕ, ◌+◌, ◌<◌, ◌≤◌, List, ◌∷◌, length, Bool, true, false, Option, Some, None, Ok, Err, arith, refl, sym, ◌∙◌, ap, subst, cond, inl, inr}
+use Rattle.std.proofs.Common.{◌≡◌, ℕ, ◌+◌, ◌<◌, ◌≤◌, List, [], ◌∷◌, length, Bool, true, false, Option, Some, None, Ok, Err, arith, refl, sym, ◌∙◌, ap, subst, cond, inl, inr}
+use Rattle.std.proofs.lemmas.List.{length-append}
 use Rattle.std.proofs.lemmas.Bool.{leb-true, cases_Bool, false≢true, or_parts}
 use Rattle.so_ids.specs.declared.LaneId.{LaneId}
 use Rattle.so_ids.specs.declared.CoopId.{CoopId}
@@ -19,11 +20,13 @@ use Rattle.so_history.specs.declared.entry.Entry.{Entry}
 use Rattle.so_history.specs.Units.{units, cost, fits}
 use Rattle.so_history.specs.Coops.{the_coop, present, aborted}
 use Rattle.so_history.specs.Steps.{finished, is_over, IsRow}
-use Rattle.so_history.proofs.DemandLaws.{waiting-units}
+use Rattle.so_history.specs.Demands.{demands, queued_by}
+use Rattle.so_history.proofs.DemandLaws.{demands_early, waiting-units}
 use Rattle.so_kernel.specs.declared.answers.Refused.TheVariants.{Full, Over}
 use Rattle.so_kernel.specs.declared.tables.Tables.{Tables}
 use Rattle.so_kernel.specs.Shapes.{Core}
-use Rattle.so_kernel.specs.Tables.{tables_of, HasRoom}
+use Rattle.so_kernel.specs.Tables.{tables_of, HasRoom, IsLater}
+use Rattle.so_ids.specs.declared.Place.{Place}
 use Rattle.so_kernel.specs.Kept.{IsKept, IsReady}
 use Rattle.so_kernel.specs.Gates.{gated, gated_entry}
 
@@ -40,13 +43,19 @@ kept_after e u kept ready tables =
       full = λ f. absurd (false≢true (sym ready.unmarked ∙ f));
     }
 
+-- the demands and the entries cost just what all cost
+demands-units : (s : SceneParts) (h : List Entry) → length (demands s h) + length h ≡ units s h
+unfolding demands units
+demands-units s [] = refl
+demands-units s (e ∷ h) = omega (arith, demands-units s h, length-append (demands s h) (queued_by s h e.kind))
+
 pub has_room : {s : SceneParts} {limit : ℕ} {h : List Entry} {t : Tables} {full : Bool} (e : Entry) (n : ℕ) → IsKept s limit h t full →
     IsReady (record { scene = s; limit = limit; history = h; full = full }) e → cost s h e ≡ 1 + n → HasRoom t n
 has_room {s} {limit} {h} e n kept ready c =
     let within : units s h + cost s h e ≤ limit = leb-true _ _ ready.fits in
     let few : limit ≤ 1000000 = kept.few in
     rw kept.tables record {
-      queue = omega (arith, waiting-units s h);
+      queue = omega (arith, demands-units s h);
       units = omega (arith, waiting-units s h);
     }
 
@@ -148,3 +157,7 @@ registered_one {s} {limit} {h} e coop kept ready is =
 -- no entry follows an abort
 pub going : {s : SceneParts} {limit : ℕ} {h : List Entry} {t : Tables} {full : Bool} (e : Entry) → IsKept s limit h t full → IsReady (record { scene = s; limit = limit; history = h; full = full }) e → aborted h ≡ false
 going {s} {limit} {h} e kept ready = (or_parts (finished s h) (aborted h) ready.step.goes_on).1
+
+-- all demands were queued before
+pub is_later : {s : SceneParts} {limit : ℕ} {h : List Entry} {t : Tables} {full : Bool} (place : Place) → IsKept s limit h t full → place.0 ≡ length h → IsLater place t
+is_later {s} {limit} {h} place kept at = rw (kept.tables, at) (demands_early s h)

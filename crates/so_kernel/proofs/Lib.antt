@@ -1,5 +1,4 @@
 pub mod KeptLaws
-pub mod Asking
 pub mod MboxLaws
 pub mod TableLaws
 pub mod StateLaws

@@ -1,7 +1,7 @@
 -- The subscriptions after one more entry.
 use Rattle.std.proofs.Common.{◌≡◌, ℕ, zero, suc, ◌+◌, ◌<◌, ◌≤◌, List, [], ◌∷◌, ◌++◌, length, take, set, get_or, map, zip, Bool, true, false, not, ◌||◌, cond, Option, Some, None, Result, Ok, Err, arith, refl, sym, ◌∙◌, ap, subst, inl, inr, append_assoc}
 use Rattle.std.specs.Prelude.{◌==◌, slice_set, slice_get, replicate, is_ok}
-use Rattle.std.specs.List.{filter, list_any, AllByRecursion}
+use Rattle.std.specs.List.{filter, list_any, All, AllByRecursion}
 use Rattle.std.proofs.lemmas.List.{append-nil, length-set, take_more_set, take_all, set-get_or}
 use Rattle.std.proofs.lemmas.Option.{slice_get-get_or}
 use Rattle.std.proofs.lemmas.Bool.{cases_Bool, cases_lt, ne_eqb, eq-eqb, eqb-true, false≢true}
@@ -38,12 +38,17 @@ use Rattle.so_history.specs.Steps.{yes_where, may_subscribe, is_active}
 use Rattle.so_mbox.specs.Table.{active_rows as table_rows, active_filters as table_filters, receivers as table_receivers, passes as table_passes, Subscriptions, nobody, none_active, all_none, all_filters_first, is_other, same_agent, is_entered, after_enter, after_leave, after_subscribe, after_unsubscribe, after_set_filter, after_drop_filter}
 use Rattle.so_mbox.specs.Answers.{subscribe_answer}
 use Rattle.so_deliver.specs.Planned.{outcomes_of}
-use Rattle.so_scene.specs.Delivery.{Outcome, is_subscribed, passes_with, outcome_for, outcomes}
+use Rattle.so_scene.specs.Delivery.{Outcome, events, is_subscribed, passes_with, outcome_for, outcomes}
 use Rattle.so_ids.specs.declared.MboxId.{MboxId}
 use Rattle.so_ids.specs.declared.MsgId.{MsgId}
 use Rattle.so_ids.specs.declared.Payload.{Payload}
+use Rattle.so_ids.specs.declared.Queued.{Queued}
+use Rattle.std.proofs.lemmas.List.Elements.{All-from_recursion}
+use Rattle.so_history.specs.declared.entry.Demand.{Demand}
+use Rattle.so_history.specs.Demands.{ask, demands_from}
+use Rattle.so_history.proofs.AskedLaws.{delivered_of}
 use Rattle.so_history.proofs.DemandLaws.{registered_of}
-use Rattle.so_kernel.proofs.Asking.{agents_from-next}
+use Rattle.so_events.proofs.Asking.{agents_from-next}
 use Rattle.so_kernel.specs.Tables.{rows_after, filters_after, subscriptions_of, entered, departed, subscribed}
 
 -- ---- the one cooperation
@@ -434,3 +439,13 @@ same_delivery s h mbox msg payload scene =
     ∙ map_each _ _ (receivers s h mbox msg)
     (each-weaker (λ (a : AgentId). a.0 < length s.agents) _ (λ a l. ap (λ f. outcome_for (passes_with s mbox msg payload a f) (leaving h) (record { agent = a; mbox = mbox; msg = msg; payload = payload })) (filters_known s h a l)) (receivers s h mbox msg)
     (each-filter (λ (a : AgentId). a.0 < length s.agents) _ (registered s h) known))
+
+-- a delivery queues events for agents of the scene
+agents_asked : (P : AgentId → Type 0) (place k : ℕ) (list : List Queued) → AllByRecursion (λ (d : Demand). P d.agent) (demands_from place k (map ask list)) → AllByRecursion (λ (q : Queued). P q.agent) list
+agents_asked P place k [] all = tt
+agents_asked P place k (q ∷ list) all = (all.0, agents_asked P place (k + 1) list all.1)
+
+pub events_known : (s : SceneParts) (h : List Entry) (mbox : MboxId) (msg : MsgId) (payload : Payload) → IsScene s → All (λ (q : Queued). q.agent.0 < length s.agents) (events (delivered s h mbox msg payload))
+events_known s h mbox msg payload scene =
+    All-from_recursion (λ (q : Queued). q.agent.0 < length s.agents) _
+    (agents_asked (λ a. a.0 < length s.agents) 0 0 (events (delivered s h mbox msg payload)) (delivered_of s h (λ a. a.0 < length s.agents) mbox msg payload 0 0 (registered_of s h scene)))

@@ -1,6 +1,6 @@
 -- The tables of a history, and what each entry makes of them.
 use Rattle.std.specs.Prelude.{ℕ, ◌+◌, ◌<◌, ◌≤◌, ◌^◌, ◌&&◌, List, [], ◌∷◌, ◌++◌, length, Bool, true, false, Option, Some, None, is_ok, if◌then◌else◌, slice_set, slice_index_or, replicate}
-use Rattle.std.specs.Option.{is_none}
+use Rattle.std.specs.List.{AllByRecursion}
 use Rattle.so_ids.specs.declared.AgentId.{AgentId}
 use Rattle.so_ids.specs.declared.KeyId.{KeyId}
 use Rattle.so_ids.specs.declared.LaneId.{LaneId}
@@ -10,11 +10,12 @@ use Rattle.so_ids.specs.declared.Vars.{Vars}
 use Rattle.so_lists.specs.Lists.{each_below}
 use Rattle.so_scene.specs.declared.parts.SceneParts.{SceneParts}
 use Rattle.so_scene.specs.Parts.{vars_of}
-use Rattle.so_scene.specs.Lanes.{lanes, keys, key_of, serves}
+use Rattle.so_scene.specs.Lanes.{lanes, keys}
 use Rattle.so_history.specs.declared.entry.Entry.{Entry}
 use Rattle.so_history.specs.declared.entry.Demand.{Demand}
 use Rattle.so_history.specs.declared.entry.DemandKind.TheVariants.{Start, Finish}
-use Rattle.so_history.specs.Demands.{Asked, ask_each, demands_from, without, waiting}
+use Rattle.so_history.specs.Demands.{Asked, ask_each, demands_from, demands, waiting}
+use Rattle.so_events.specs.Events.{EventTable, no_events, after_demands, after_taking, after_start as turn_started, after_end as turn_ended}
 use Rattle.so_mbox.specs.Table.{Subscriptions, nobody, after_enter, after_leave, after_subscribe}
 use Rattle.so_mbox.specs.Answers.{subscribe_answer}
 use Rattle.so_history.specs.Delivery.{registered, active_rows, active_filters}
@@ -33,9 +34,13 @@ first_place (t ∷ ts) = Some (record { 0 = t.place })
 abbrev pub places : (Started → ℕ) → List Entry → ℕ → List (Option Place)
 places f h n = each_below (λ i. first_place (running_at f h i)) n
 
--- the lane serves the demand's queue, and by these places no turn of that queue runs
-abbrev pub may_take_by : SceneParts → List (Option Place) → LaneId → Demand → Bool
-may_take_by s places lane d = serves s lane (key_of s d.agent) && is_none (slice_index_or places (key_of s d.agent).0 None)
+-- how many turns run at each number
+abbrev pub counts : (Started → ℕ) → List Entry → ℕ → List ℕ
+counts f h n = each_below (λ i. length (running_at f h i)) n
+
+-- the demands of a history, with room for so many
+abbrev pub events_of : SceneParts → ℕ → List Entry → EventTable
+events_of s room h = record { scene = s; queued = demands s h; waiting = waiting s h; running = counts (key_number s) h (keys s); room = room }
 
 abbrev pub marks_of : List Entry → Marks
 marks_of h = record { tried = tried h; present = present h; leaving = leaving h; asked = stop_asked h; stopped = stopped h; aborted = aborted h }
@@ -69,9 +74,8 @@ subscriptions_of s h = record {
 abbrev pub tables_of : SceneParts → ℕ → List Entry → Tables
 tables_of s room h =
     record {
-      waiting = record { items = waiting s h; room = room };
+      events = events_of s room h;
       lanes = places lane_number h (lanes s);
-      keys = places (key_number s) h (keys s);
       variables = variables_of s h;
       mboxes = subscriptions_of s h;
       marks = marks_of h;
@@ -82,9 +86,8 @@ tables_of s room h =
 abbrev pub fresh : SceneParts → ℕ → Tables
 fresh s room =
     record {
-      waiting = record { items = []; room = room };
+      events = no_events s room;
       lanes = replicate (lanes s) None;
-      keys = replicate (keys s) None;
       variables = initial s;
       mboxes = nobody s;
       marks = record { tried = false; present = false; leaving = false; asked = false; stopped = false; aborted = false };
@@ -93,14 +96,18 @@ fresh s room =
 
 -- an entry that queues this many demands fits
 pub record HasRoom (t : Tables) (n : ℕ) : Type 0 where
-  pub queue : length t.waiting.items + n ≤ t.waiting.room
+  pub queue : length t.events.queued + n ≤ t.events.room
   pub units : t.units + (1 + n) < 2 ^ 32
+
+-- all demands were queued before the entry at this place
+abbrev pub IsLater : Place → Tables → Type 0
+IsLater place t = AllByRecursion (λ (d : Demand). d.id.place.0 < place.0) t.events.queued
 
 -- what is asked is queued, and paid for with its entry
 abbrev pub queued : ℕ → List Asked → Tables → Tables
 queued place asked t =
     record t {
-      waiting = record t.waiting { items = t.waiting.items ++ demands_from place 0 asked };
+      events = after_demands (demands_from place 0 asked) t.events;
       units = t.units + (1 + length asked);
     }
 
@@ -120,14 +127,13 @@ after_register s place agents t =
 abbrev pub after_begin : Place → LaneId → KeyId → Demand → Tables → Tables
 after_begin place lane key d t =
     record t {
-      waiting = record t.waiting { items = without d.id t.waiting.items };
+      events = turn_started key (after_taking d.id t.events);
       lanes = slice_set t.lanes lane.0 (Some place);
-      keys = slice_set t.keys key.0 (Some place);
       units = t.units + 1;
     }
 
 abbrev pub after_skip : Demand → Tables → Tables
-after_skip d t = record t { waiting = record t.waiting { items = without d.id t.waiting.items }; units = t.units + 1 }
+after_skip d t = record t { events = after_taking d.id t.events; units = t.units + 1 }
 
 -- an act that changes the subscriptions so
 abbrev pub with_mboxes : Subscriptions → Tables → Tables
@@ -149,7 +155,7 @@ abbrev pub after_end : LaneId → KeyId → AgentId → Vars → Tables → Tabl
 after_end lane key agent vars t =
     record t {
       lanes = slice_set t.lanes lane.0 None;
-      keys = slice_set t.keys key.0 None;
+      events = turn_ended key t.events;
       variables = slice_set t.variables agent.0 vars;
       units = t.units + 1;
     }

@@ -45,7 +45,7 @@ impl<'a> Kernel<'a> {
         ensures { result ≡ finished self.now.scene self.now.history }
     {
         let marks = self.tables.marks;
-        marks.stopped && !marks.present && self.tables.waiting.is_empty()
+        marks.stopped && !marks.present && self.tables.events.is_empty()
     }
 
     /// What an entry costs.
@@ -98,7 +98,7 @@ impl<'a> Kernel<'a> {
     fn is_quiet(&self) -> bool
         ensures { result ≡ (is_empty (waiting self.now.scene self.now.history) && is_empty (running self.now.history)) }
     {
-        self.tables.waiting.is_empty() && self.tables.lanes.all_free()
+        self.tables.events.is_empty() && self.tables.lanes.all_free()
     }
 
     /// The demand that a lane may take.
@@ -108,9 +108,7 @@ impl<'a> Kernel<'a> {
         ensures { result ≡ pick self.now.scene self.now.history lane }
     {
         if self.tables.lanes.is_free(lane.0) {
-            self.tables
-                .waiting
-                .first_for(self.scene, &self.tables.keys, lane)
+            self.tables.events.pick(lane)
         } else {
             None
         }

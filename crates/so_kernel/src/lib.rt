@@ -15,7 +15,6 @@ mod tables;
 mod take_in;
 mod turns;
 mod variables;
-mod waiting;
 
 pub use answers::{Acted, Begun, Ended, Refused, RunState, Stepped, Turn};
 pub use kernel::Kernel;
@@ -25,4 +24,3 @@ pub use steps::{play, step};
 pub use tables::{Marks, Tables};
 pub use turns::Turns;
 pub use variables::Variables;
-pub use waiting::Waiting;

@@ -1,4 +1,4 @@
-//! Which turn runs at each number: on each lane, or with each queue.
+//! Which turn runs on each lane, by number.
 
 ghost use Rattle.std.specs.Prelude.{◌≡◌, ◌<◌, ◌↔◌, IsTrue, Some, None, length, replicate, IfOk, slice_set, slice_index_or};
 ghost use Rattle.std.specs.Option.{is_none};

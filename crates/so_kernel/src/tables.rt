@@ -1,6 +1,10 @@
 //! What the steps look up: tables that stand for what the history says. A table knows no history.
 
-ghost use Rattle.std.specs.Prelude.{◌≡◌, ◌<◌, ◌≤◌, ◌+◌, ◌^◌, [], length, map, None, IfOk};
+ghost use Rattle.std.specs.Prelude.{◌≡◌, ◌<◌, ◌≤◌, ◌+◌, ◌^◌, [], length, map, None, Some, IfOk};
+ghost use Rattle.std.specs.List.{All, find};
+ghost use Rattle.so_ids.specs.declared.Queued.{Queued as Event};
+ghost use Rattle.so_scene.specs.Lanes.{keys};
+ghost use Rattle.so_events.specs.Events.{turns_with, is_beside};
 ghost use Rattle.so_scene.specs.Parts.{agents_from, rows_of, filters_of};
 ghost use Rattle.so_scene.specs.Definition.{filter_fault_of};
 ghost use Rattle.so_scene.specs.Subscriptions.{filter_of};
@@ -9,8 +13,8 @@ ghost use Rattle.so_kernel.specs.Tables.{entered, departed};
 
 use crate::slots::Slots;
 use crate::variables::Variables;
-use crate::waiting::Waiting;
 use so_deliver::Outcomes;
+use so_events::Events;
 use so_history::{Demand, DemandKind};
 use so_ids::{AgentId, FilterId, KeyId, LaneId, NoMemory, Place, RowId, Vars};
 use so_mbox::Table;
@@ -37,9 +41,8 @@ pub struct Marks {
 /// The tables.
 #[derive(Drop)]
 pub struct Tables<'a> {
-    pub waiting: Waiting,
+    pub events: Events<'a>,
     pub lanes: Slots,
-    pub keys: Slots,
     pub variables: Variables,
     pub mboxes: Table<'a>,
     pub marks: Marks,
@@ -47,7 +50,7 @@ pub struct Tables<'a> {
 }
 
 impl<'a> Tables<'a> {
-    ghost use Rattle.so_kernel.specs.Tables.{fresh, queued, with_mboxes, subscribed, after_skip, after_register, after_begin, after_act, after_asking, after_abort, after_end, after_leaving, after_left, after_stop, HasRoom};
+    ghost use Rattle.so_kernel.specs.Tables.{fresh, queued, with_mboxes, subscribed, after_skip, after_register, after_begin, after_act, after_asking, after_abort, after_end, after_leaving, after_left, after_stop, HasRoom, IsLater};
     ghost use Rattle.so_history.specs.Demands.{ask, ask_each};
     ghost use Rattle.so_ids.specs.declared.AgentId.{AgentId as AgentNumber};
 
@@ -56,9 +59,8 @@ impl<'a> Tables<'a> {
         ensures { IfOk result (λ t. t ≡ fresh scene.now room) }
     {
         Ok(Tables {
-            waiting: Waiting::with(alloc, room)?,
+            events: Events::with(alloc, scene, room)?,
             lanes: Slots::with(alloc, scene.lanes())?,
-            keys: Slots::with(alloc, scene.keys())?,
             variables: Variables::with(alloc, scene)?,
             mboxes: Table::with(alloc, scene)?,
             marks: Marks {
@@ -79,6 +81,8 @@ impl<'a> Tables<'a> {
         requires variables { length self.old.variables ≡ length scene.now.agents }
         requires scene { self.old.mboxes.scene ≡ scene.now }
         requires range { first.0 + count ≤ length scene.now.agents }
+        requires events { self.old.events.scene ≡ scene.now }
+        requires later { IsLater place self.old }
         requires nobody { self.old.mboxes.order ≡ [] }
         requires room { HasRoom self.old count }
         ensures { self.new ≡ after_register scene.now place.0 (agents_from first count) self.old }
@@ -93,22 +97,25 @@ impl<'a> Tables<'a> {
     /// After a Begin.
     pub fn begun(&mut self, place: Place, lane: LaneId, key: KeyId, demand: Demand)
         requires lane { lane.0 < length self.old.lanes }
-        requires key { key.0 < length self.old.keys }
+        requires key { key.0 < keys self.old.events.scene }
+        requires free { turns_with self.old.events.running key ≡ 0 }
+        requires first { find (is_beside self.old.events.scene demand) self.old.events.waiting ≡ Some demand }
         requires room { HasRoom self.old 0 }
         ensures { self.new ≡ after_begin place lane key demand self.old }
     {
-        self.waiting.take(demand.id);
+        self.events.take(demand);
         self.lanes.start(lane.0, place);
-        self.keys.start(key.0, place);
+        self.events.started(key);
         self.units += 1;
     }
 
     /// After a demand that begins no turn.
     pub fn skipped(&mut self, demand: Demand)
-        requires { HasRoom self.old 0 }
+        requires first { find (is_beside self.old.events.scene demand) self.old.events.waiting ≡ Some demand }
+        requires room { HasRoom self.old 0 }
         ensures { self.new ≡ after_skip demand self.old }
     {
-        self.waiting.take(demand.id);
+        self.events.take(demand);
         self.units += 1;
     }
 
@@ -122,10 +129,12 @@ impl<'a> Tables<'a> {
 
     /// After the send of a message whose delivery queues these events.
     pub fn delivered(&mut self, place: Place, outcomes: &Outcomes)
-        requires { HasRoom self.old (length outcomes.now.queued) }
+        requires agents { All (λ (event : Event). event.agent.0 < length self.old.events.scene.agents) outcomes.now.queued }
+        requires later { IsLater place self.old }
+        requires room { HasRoom self.old (length outcomes.now.queued) }
         ensures { self.new ≡ queued place.0 (map ask outcomes.now.queued) self.old }
     {
-        self.waiting.push_events(place, outcomes);
+        self.events.push_events(place, outcomes);
         self.units += 1 + outcomes.len();
     }
 
@@ -201,20 +210,23 @@ impl<'a> Tables<'a> {
     /// After the End of an agent's turn that runs on a lane and with a queue, with the variables that it leaves.
     pub fn ended(&mut self, lane: LaneId, key: KeyId, agent: AgentId, vars: Vars)
         requires lane { lane.0 < length self.old.lanes }
-        requires key { key.0 < length self.old.keys }
+        requires key { key.0 < keys self.old.events.scene }
+        requires runs { 0 < turns_with self.old.events.running key }
         requires agent { agent.0 < length self.old.variables }
         requires room { HasRoom self.old 0 }
         ensures { self.new ≡ after_end lane key agent vars self.old }
     {
         self.variables.set(agent, vars);
         self.lanes.end(lane.0);
-        self.keys.end(key.0);
+        self.events.ended(key);
         self.units += 1;
     }
 
     /// After the Leaving of the agents from `first` on.
     pub fn leaving(&mut self, place: Place, first: AgentId, count: u32)
         requires agents { first.0 + count < 2 ^ 32 }
+        requires range { first.0 + count ≤ length self.old.events.scene.agents }
+        requires later { IsLater place self.old }
         requires room { HasRoom self.old count }
         ensures { self.new ≡ after_leaving place.0 (agents_from first count) self.old }
     {
@@ -245,13 +257,15 @@ impl<'a> Tables<'a> {
     }
 
     /// Queues a demand for each agent, and counts them and their entry.
-    #[tactic(auto, using(crate::proofs::Asking::asked))]
+    #[tactic(auto, using(so_events::proofs::Asking::asked))]
     fn ask_each(&mut self, place: Place, kind: DemandKind, first: AgentId, count: u32)
         requires agents { first.0 + count < 2 ^ 32 }
+        requires range { first.0 + count ≤ length self.old.events.scene.agents }
+        requires later { IsLater place self.old }
         requires room { HasRoom self.old count }
         ensures { self.new ≡ queued place.0 (ask_each kind (agents_from first count)) self.old }
     {
-        self.waiting.push_each(place, kind, first, count);
+        self.events.push_each(place, kind, first, count);
         self.units += 1 + count;
     }
 }

@@ -9,7 +9,7 @@ use Rattle.so_history.proofs.DemandLaws.{picked_of}
 use Rattle.so_kernel.specs.Shapes.{Core}
 use Rattle.so_kernel.specs.Gates.{is_skip}
 use Rattle.so_kernel.proofs.KeptLaws.{kept_after, has_room, has_place, begun_lane, going}
-use Rattle.so_kernel.proofs.TableLaws.{tables-begin, begins_turn}
+use Rattle.so_kernel.proofs.TableLaws.{tables-begin, begins_turn, count_free, picked_first}
 use Rattle.so_kernel.proofs.HeldLaws.{held_begun}
 use Rattle.so_kernel.proofs.StateLaws.{stands_same}
 use Rattle.so_kernel.proofs.kernel.Kernel.add_begin.Goals as goal
@@ -40,7 +40,17 @@ begun-requires-clause-lane c =
     rw (c.self.invariant.0.tables, length-each_below) (begun_lane c.args.entry c.args.lane c.args.demand c.self.invariant.0 (rw c.self.view_is c.requires.ready) (subst Q (sym c.self.view_is) c.requires.is))
 
 pub begun-requires-clause-key : goal.begun-requires-clause-key
-begun-requires-clause-key c = rw (c.self.invariant.0.tables, length-each_below) c.key-key.ensures.range
+begun-requires-clause-key c = rw c.self.invariant.0.tables c.key-key.ensures.range
+
+pub begun-requires-clause-free : goal.begun-requires-clause-free
+begun-requires-clause-free c =
+    let P : Core → Type 0 = λ k. pick k.scene k.history c.args.lane ≡ Some c.args.demand in
+    rw (c.self.invariant.0.tables, c.key-key.ensures.value) (count_free c.self.inside.scene.now c.self.inside.history.entries c.args.lane c.args.demand (subst P (sym c.self.view_is) c.requires.picked))
+
+pub begun-requires-clause-first : goal.begun-requires-clause-first
+begun-requires-clause-first c =
+    let P : Core → Type 0 = λ k. pick k.scene k.history c.args.lane ≡ Some c.args.demand in
+    rw c.self.invariant.0.tables (picked_first c.self.inside.scene.now c.self.inside.history.entries c.args.lane c.args.demand (subst P (sym c.self.view_is) c.requires.picked))
 
 pub invariant_of-self : goal.invariant_of-self
 invariant_of-self c =

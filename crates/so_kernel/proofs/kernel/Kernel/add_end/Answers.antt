@@ -1,4 +1,4 @@
-use Rattle.std.proofs.Common.{◌≡◌, ◌<◌, refl, sym, ◌∙◌, subst, ap}
+use Rattle.std.proofs.Common.{◌≡◌, ◌<◌, refl, sym, ◌∙◌, subst, ap, arith}
 use Rattle.so_code.specs.declared.effect.Move.{Move}
 use Rattle.so_code.specs.declared.effect.Move.TheVariants.{Done}
 use Rattle.so_code.specs.declared.frame.Frame.{Frame}
@@ -10,7 +10,7 @@ use Rattle.so_kernel.specs.Shapes.{Core}
 use Rattle.so_kernel.specs.Tables.{after_end}
 use Rattle.so_kernel.specs.Gates.{HasMoved}
 use Rattle.so_kernel.proofs.KeptLaws.{kept_after, has_room, has_place, going}
-use Rattle.so_kernel.proofs.TableLaws.{tables-end}
+use Rattle.so_kernel.proofs.TableLaws.{tables-end, count_runs}
 use Rattle.so_kernel.proofs.HeldLaws.{held_agent, held_whose}
 use Rattle.so_kernel.proofs.StateLaws.{stands_same}
 use Rattle.so_kernel.proofs.kernel.Kernel.add_end.Goals as goal
@@ -35,7 +35,15 @@ ended-requires-clause-lane c =
     rw (c.self.invariant.0.tables, length-each_below, ← moved.held.lane) in_range
 
 pub ended-requires-clause-key : goal.ended-requires-clause-key
-ended-requires-clause-key c = rw (c.self.invariant.0.tables, length-each_below) c.key-key.ensures.range
+ended-requires-clause-key c = rw c.self.invariant.0.tables c.key-key.ensures.range
+
+pub ended-requires-clause-runs : goal.ended-requires-clause-runs
+ended-requires-clause-runs c =
+    let P : Core → Type 0 = λ k. HasMoved k.scene k.history c.args.turn.now Done in
+    let moved : HasMoved c.self.inside.scene.now c.self.inside.history.entries c.args.turn.now Done = subst P (sym c.self.view_is) c.requires.moved in
+    let whose = held_whose c.self.inside.scene.now c.self.inside.history.entries _ moved.held in
+    let one = count_runs c.self.inside.scene.now c.self.inside.history.entries c.args.turn.now.begun moved.held.turn c.self.invariant.0.legal moved.held.runs in
+    rw (c.self.invariant.0.tables, c.key-key.ensures.value, ← whose, one) (omega arith)
 
 pub ended-requires-clause-agent : goal.ended-requires-clause-agent
 ended-requires-clause-agent c =

@@ -1,7 +1,7 @@
 use Rattle.std.proofs.Common.{refl, sym, ◌∙◌, arith}
 use Rattle.so_history.specs.declared.entry.DemandKind.TheVariants.{Finish}
 use Rattle.so_history.proofs.DemandLaws.{cost-asked}
-use Rattle.so_kernel.proofs.KeptLaws.{kept_after, has_room, has_place, leaving_coop, going}
+use Rattle.so_kernel.proofs.KeptLaws.{is_later, kept_after, has_room, has_place, leaving_coop, going}
 use Rattle.so_kernel.proofs.TableLaws.{tables-leaving}
 use Rattle.so_kernel.proofs.StateLaws.{stands_same}
 use Rattle.so_kernel.proofs.kernel.Kernel.add_leaving.Goals as goal
@@ -26,3 +26,9 @@ invariant_of-self c =
     let kept = kept_after c.args.entry c.leaving.new.self c.self.invariant.0 (rw c.self.view_is c.requires.ready)
     (c.leaving.ensures ∙ rw (c.len.ensures.value, c.coop-coop.ensures.value, c.self.invariant.0.tables) (sym (tables-leaving c.self.inside.scene.now c.self.inside.history.limit c.self.inside.history.entries c.args.entry c.args.coop c.args.reason c.requires.is c.self.invariant.0.legal (going c.args.entry c.self.invariant.0 (rw c.self.view_is c.requires.ready))))) in
     rw (c.push.ensures.entries, c.push.ensures.limit) (kept, c.self.invariant.1, stands_same c.self.inside.scene.now c.self.inside.history.entries c.args.entry c.self.inside.states (λ a l. rw c.requires.is refl) c.self.invariant.2)
+
+pub leaving-requires-clause-later : goal.leaving-requires-clause-later
+leaving-requires-clause-later c = is_later (record { 0 = c.len.result }) c.self.invariant.0 c.len.ensures.value
+
+pub leaving-requires-clause-range : goal.leaving-requires-clause-range
+leaving-requires-clause-range c = rw c.self.invariant.0.tables c.coop-coop.ensures.range

@@ -3,7 +3,7 @@ use Rattle.so_history.specs.declared.entry.DemandKind.TheVariants.{Start}
 use Rattle.so_history.proofs.DemandLaws.{cost-asked}
 use Rattle.so_lists.proofs.EachBelow.{length-each_below}
 use Rattle.so_kernel.specs.declared.tables.Tables.{Tables}
-use Rattle.so_kernel.proofs.KeptLaws.{kept_after, has_room, has_place, registered_coop, going, registered_one, absent_before}
+use Rattle.so_kernel.proofs.KeptLaws.{is_later, kept_after, has_room, has_place, registered_coop, going, registered_one, absent_before}
 use Rattle.so_kernel.proofs.TableLaws.{tables-register}
 use Rattle.so_kernel.proofs.StateLaws.{stands_registered}
 use Rattle.so_kernel.proofs.kernel.Kernel.add_register.Goals as goal
@@ -41,3 +41,9 @@ registered-requires-clause-range c = c.coop-coop.ensures.range
 pub registered-requires-clause-nobody : goal.registered-requires-clause-nobody
 registered-requires-clause-nobody c =
     rw (c.self.invariant.0.tables, absent_before c.args.entry c.args.coop c.self.invariant.0 (rw c.self.view_is c.requires.ready) c.requires.is) refl
+
+pub registered-requires-clause-later : goal.registered-requires-clause-later
+registered-requires-clause-later c = is_later (record { 0 = c.len.result }) c.self.invariant.0 c.len.ensures.value
+
+pub registered-requires-clause-events : goal.registered-requires-clause-events
+registered-requires-clause-events c = rw c.self.invariant.0.tables refl

@@ -10,20 +10,29 @@ use Rattle.so_deliver.specs.Planned.{OutcomeTable}
 use Rattle.so_kernel.specs.Shapes.{Core}
 use Rattle.so_kernel.specs.Gates.{IsActOf}
 use Rattle.so_kernel.specs.Tables.{queued}
-use Rattle.so_kernel.proofs.KeptLaws.{kept_after, has_room, has_place, going}
-use Rattle.so_kernel.proofs.MboxLaws.{same_delivery}
+use Rattle.so_kernel.proofs.KeptLaws.{is_later, kept_after, has_room, has_place, going}
+use Rattle.so_kernel.proofs.MboxLaws.{same_delivery, events_known}
 use Rattle.so_kernel.proofs.TableLaws.{tables-send, cost-sent}
 use Rattle.so_kernel.proofs.StateLaws.{stands_acted}
 use Rattle.so_kernel.proofs.kernel.Kernel.add_send.Goals as goal
 
-pub delivered-requires : goal.delivered-requires
-delivered-requires c =
+pub delivered-requires-clause-room : goal.delivered-requires-clause-room
+delivered-requires-clause-room c =
     let A : Core → Type 0 = λ k. IsActOf k.scene k.history c.args.entry c.args.agent (effect.Send (Mbox c.args.mbox) c.args.msg c.args.payload) in
     let acts = subst A (sym c.self.view_is) c.requires.acts in
     let planned : c.plan_delivery-planned.new.outcomes.queued ≡ events (delivered c.self.inside.scene.now c.self.inside.history.entries c.args.mbox c.args.msg c.args.payload) =
     ap (λ (o : OutcomeTable). o.queued) c.plan_delivery-planned.ensures.events ∙ rw c.self.invariant.0.tables (ap events (same_delivery c.self.inside.scene.now c.self.inside.history.entries c.args.mbox c.args.msg c.args.payload c.self.invariant.0.scene)) in
     has_room c.args.entry (length c.plan_delivery-planned.new.outcomes.queued) c.self.invariant.0 (rw c.self.view_is c.requires.ready)
     (rw (acts.is, planned) (ap (λ n. 1 + n) (cost-sent c.self.inside.scene.now c.self.inside.history.entries acts.turn c.args.mbox c.args.msg c.args.payload acts.answer)))
+
+pub delivered-requires-clause-later : goal.delivered-requires-clause-later
+delivered-requires-clause-later c = is_later (record { 0 = c.len.result }) c.self.invariant.0 c.len.ensures.value
+
+pub delivered-requires-clause-agents : goal.delivered-requires-clause-agents
+delivered-requires-clause-agents c =
+    let planned : c.plan_delivery-planned.new.outcomes.queued ≡ events (delivered c.self.inside.scene.now c.self.inside.history.entries c.args.mbox c.args.msg c.args.payload) =
+    ap (λ (o : OutcomeTable). o.queued) c.plan_delivery-planned.ensures.events ∙ rw c.self.invariant.0.tables (ap events (same_delivery c.self.inside.scene.now c.self.inside.history.entries c.args.mbox c.args.msg c.args.payload c.self.invariant.0.scene)) in
+    rw (planned, c.self.invariant.0.tables) (events_known c.self.inside.scene.now c.self.inside.history.entries c.args.mbox c.args.msg c.args.payload c.self.invariant.0.scene)
 
 pub push-requires : goal.push-requires
 push-requires c = has_place c.args.entry c.self.invariant.0 (rw c.self.view_is c.requires.ready)

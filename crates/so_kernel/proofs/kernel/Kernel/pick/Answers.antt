@@ -18,19 +18,18 @@ is_free-requires c =
     let P : Core → Type 0 = λ k. c.args.lane.0 < lanes k.scene in
     rw (c.self.invariant.0.tables, length-each_below) (subst P (sym c.self.view_is) c.requires)
 
-pub first_for-requires-clause-agents : goal.first_for-requires-clause-agents
-first_for-requires-clause-agents c = rw c.self.invariant.0.tables (All-from_recursion (λ d. d.agent.0 < length c.self.inside.scene.now.agents) _ (waiting_of c.self.inside.scene.now c.self.inside.history.entries c.self.invariant.0.scene))
-
-pub first_for-requires-clause-keys : goal.first_for-requires-clause-keys
-first_for-requires-clause-keys c = rw (c.self.invariant.0.tables, length-each_below) refl
+pub pick-requires : goal.pick-requires
+pick-requires c =
+    let P : Core → Type 0 = λ k. c.args.lane.0 < lanes k.scene in
+    rw c.self.invariant.0.tables (subst P (sym c.self.view_is) c.requires)
 
 pub returns-then-is_free : goal.returns-then-is_free
 returns-then-is_free c =
     let P : Core → Type 0 = λ k. c.args.lane.0 < lanes k.scene in
     let in_range : c.args.lane.0 < lanes c.self.inside.scene.now = subst P (sym c.self.view_is) c.requires in
     let free : is_none (get_or (places lane_number c.self.inside.history.entries (lanes c.self.inside.scene.now)) c.args.lane.0 None) ≡ true = rw c.self.invariant.0.tables at (sym c.is_free.ensures ∙ c.if-is_free.true) in
-    let found : c.first_for.result ≡ find (may_take c.self.inside.scene.now c.self.inside.history.entries c.args.lane) (waiting c.self.inside.scene.now c.self.inside.history.entries) =
-    rw c.self.invariant.0.tables at c.first_for.ensures ∙ find-table c.self.inside.scene.now c.self.inside.history.entries c.args.lane (waiting c.self.inside.scene.now c.self.inside.history.entries) in
+    let found : c.pick.result ≡ find (may_take c.self.inside.scene.now c.self.inside.history.entries c.args.lane) (waiting c.self.inside.scene.now c.self.inside.history.entries) =
+    rw c.self.invariant.0.tables at c.pick.ensures ∙ find-table c.self.inside.scene.now c.self.inside.history.entries c.args.lane (waiting c.self.inside.scene.now c.self.inside.history.entries) in
     rw (← c.self.view_is) (found ∙ sym (pick-free c.self.inside.scene.now c.self.inside.history.entries c.args.lane (sym (free-place lane_number c.self.inside.history.entries (lanes c.self.inside.scene.now) c.args.lane.0 in_range) ∙ free)))
 
 pub returns-else-is_free : goal.returns-else-is_free

@@ -1,7 +1,0 @@
-use Rattle.std.proofs.Common.{◌≡◌, ◌++◌, map, take}
-use Rattle.so_history.specs.Demands.{ask, demands_from}
-use Rattle.so_kernel.proofs.waiting.Waiting.push_events.Given as goal
-
-abbrev pub invariant-loop-k : goal.invariant-loop-k
-invariant-loop-k l =
-    l.self ≡ record l.initial.self { items = l.initial.self.items ++ demands_from l.place.0 0 (map ask (take l.k l.outcomes.queued)) }
