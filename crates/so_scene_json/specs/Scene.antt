@@ -1,7 +1,6 @@
 -- The scene of bytes, or the first fault with its place.
 use Rattle.std.specs.Prelude.{ℕ, List, [], ◌∷◌, length, Bool, ◌||◌, nat_lt, is_some, if◌then◌else◌, Option, Some, None, Result, Ok, Err}
 use Rattle.std.specs.Str.{is_utf8}
-use Rattle.so_ids.specs.declared.AgentId.{AgentId}
 use Rattle.so_ids.specs.declared.DefFault.{DefFault}
 use Rattle.so_lists.specs.Lists.{is_empty, first_below}
 use Rattle.serde_json.specs.Data.{Data}
@@ -15,7 +14,7 @@ use Rattle.so_scene.specs.declared.fault.SceneFault.TheVariants as fault
 use Rattle.so_scene.specs.declared.parts.CoopDef.{CoopDef}
 use Rattle.so_scene.specs.declared.parts.SceneParts.{SceneParts}
 use Rattle.so_scene.specs.Definition.{definition_fault}
-use Rattle.so_scene.specs.Lanes.{lanes}
+use Rattle.so_scene.specs.Lanes.{agent_number, lanes}
 use Rattle.so_scene_json.specs.Groups.{group_lists}
 use Rattle.so_scene_json.specs.declared.build.Build.{Build}
 use Rattle.so_scene_json.specs.declared.shape.Shape.{Shape}
@@ -56,9 +55,6 @@ parts_of coop s = record {
 -- the totals of agents, texts and lanes
 abbrev pub exceeds : SceneParts → Bool
 exceeds s = nat_lt 4096 (length s.agents) || (nat_lt 4096 (length s.texts) || nat_lt 256 (lanes s))
-
-abbrev pub agent_number : ℕ → AgentId
-agent_number k = record { 0 = k }
 
 abbrev pub fault_of : SceneParts → ℕ → Option DefFault
 fault_of s k = definition_fault s (agent_number k)
