@@ -1,8 +1,8 @@
 -- Lists by number, which stand for a function.
-use Rattle.std.proofs.Common.{◌≡◌, ℕ, zero, suc, ◌+◌, List, ◌<◌, [], ◌∷◌, ◌++◌, length, arith, refl, sym, ◌∙◌, ap, get_or, inl, inr, add-one}
-use Rattle.std.specs.Prelude.{slice_set, replicate}
-use Rattle.std.proofs.lemmas.List.{append_assoc, length-append, set-append_left, get_or_append_left}
-use Rattle.std.proofs.Math.Seq.{set-append_seam, get_or-append_seam}
+use Rattle.std.proofs.Common.{◌≡◌, ℕ, zero, suc, ◌+◌, List, ◌<◌, ◌≤◌, [], ◌∷◌, ◌++◌, length, arith, refl, sym, ◌∙◌, ap, get_or, inl, inr, add-one}
+use Rattle.std.specs.Prelude.{slice_set, replicate, take}
+use Rattle.std.proofs.lemmas.List.{append_assoc, length-append, set-append_left, get_or_append_left, take_all}
+use Rattle.std.proofs.Math.Seq.{set-append_seam, get_or-append_seam, take-suc}
 use Rattle.std.proofs.lemmas.Grind.{replicate_next}
 use Rattle.std.proofs.lemmas.Bool.{cases_lt}
 use Rattle.std.specs.List.{AllByRecursion}
@@ -76,3 +76,12 @@ each_below-next f n = rw (add-one n) refl
 
 pub each_below-pushed : {X : Type 0} (f : ℕ → X) (n : ℕ) (ys xs : List X) → xs ≡ ys ++ each_below f n → xs ++ f n ∷ [] ≡ ys ++ each_below f (n + 1)
 each_below-pushed f n ys xs is = rw (is, each_below-next f n) (append_assoc ys (each_below f n) (f n ∷ []))
+
+-- the elements of a list, by number
+each_below-take : {X : Type 0} (xs : List X) (d : X) (n : ℕ) → n ≤ length xs → each_below (λ k. get_or xs k d) n ≡ take n xs
+unfolding each_below
+each_below-take xs d zero l = refl
+each_below-take xs d (suc n) l = ap (λ ys. ys ++ get_or xs n d ∷ []) (each_below-take xs d n (omega arith)) ∙ sym (take-suc xs n d (omega arith))
+
+pub each_below-elements : {X : Type 0} (xs : List X) (d : X) → each_below (λ k. get_or xs k d) (length xs) ≡ xs
+each_below-elements xs d = each_below-take xs d (length xs) (omega arith) ∙ take_all (length xs) xs (omega arith)

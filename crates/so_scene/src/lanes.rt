@@ -341,6 +341,18 @@ fn push_priorities(lanes: &mut Vec<Lane>, disp: DispId) -> Result<(), NoMemory>
     Ok(())
 }
 
+impl SceneParts {
+    /// How many lanes these parts have, which aren't yet known to be a scene's.
+    #[tactic(auto, unfolding(crate::specs::Lanes::lanes))]
+    pub fn lanes(&self, alloc: Global) -> Result<usize, NoMemory>
+        requires { AreBound self.now }
+        ensures { IfOk result (λ n. n ≡ lanes self.now) }
+    {
+        let lanes = lanes_of(alloc, self)?;
+        Ok(lanes.as_slice().len())
+    }
+}
+
 impl Scene {
     /// How many lanes there are: those of the dispatchers, in order.
     #[tactic(auto, unfolding(crate::specs::Lanes::lanes))]

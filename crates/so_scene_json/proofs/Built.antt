@@ -1,19 +1,28 @@
 -- What the four passes leave is what a scene keeps.
-use Rattle.std.proofs.Common.{◌≡◌, ℕ, suc, ◌+◌, ◌-◌, ◌<◌, ◌≤◌, ◌^◌, get_or, List, [], ◌∷◌, ◌++◌, length, map, Bool, true, false, not, ◌&&◌, ◌||◌, Option, Some, None, option_and_then, Result, Ok, Err, refl, sym, ap, ◌∙◌, subst, arith, codes, if◌then◌else◌, nat_le, nat_lt, is_some, length-append, append_assoc, bytes_eq}
+use Rattle.std.proofs.Common.{◌≡◌, ℕ, zero, suc, cond, append-nil, take, ◌+◌, ◌-◌, ◌<◌, ◌≤◌, ◌^◌, get_or, List, [], ◌∷◌, ◌++◌, length, map, Bool, true, false, not, ◌&&◌, ◌||◌, Option, Some, None, option_and_then, Result, Ok, Err, refl, sym, ap, ◌∙◌, subst, arith, codes, if◌then◌else◌, nat_le, nat_lt, is_some, length-append, append_assoc, bytes_eq}
 use Rattle.std.proofs.Math.Nat.{min-le_left}
-use Rattle.std.proofs.lemmas.Bool.{true≢false, leb-true, ltb-false}
-use Rattle.std.proofs.lemmas.List.{map_push}
+use Rattle.std.proofs.lemmas.Bool.{true≢false, leb-true, ltb-false, le-ltb}
+use Rattle.std.proofs.Math.Seq.{take-suc}
+use Rattle.std.proofs.lemmas.List.{map_push, take_all}
+use Rattle.std.proofs.lemmas.List.Elements.{filter-append, filter_map-append}
 use Rattle.std.proofs.lemmas.List.Quantifiers.{position-Some}
-use Rattle.std.specs.List.{All, AllByRecursion, IsDistinct, list_all, list_any}
+use Rattle.std.specs.Prelude.{slice_index_or}
+use Rattle.std.specs.List.{All, AllByRecursion, IsDistinct, list_any, filter, filter_map}
 use Rattle.serde_json.specs.Data.{Data, Items, no_items, item}
 use Rattle.serde_json.specs.Events.{items_len}
 use Rattle.serde_json.specs.Find.{get, as_str}
+use Rattle.so_ids.specs.declared.AgentId.{AgentId}
+use Rattle.so_ids.specs.declared.DispId.{DispId}
 use Rattle.so_ids.specs.declared.MboxId.{MboxId}
 use Rattle.so_code.specs.Shape.{agent_bodies}
-use Rattle.so_lists.specs.Lists.{is_empty}
-use Rattle.so_lists.proofs.Filters.{each-append, each-weaker}
+use Rattle.so_lists.specs.Lists.{is_empty, head, each_below, given_after, AreNumbered}
+use Rattle.so_lists.proofs.EachBelow.{length-each_below, get_or-each_below, each_below-elements}
+use Rattle.so_lists.proofs.Filters.{each-append, each-weaker, filter-short, filter_map-short, ap2_append}
+use Rattle.so_lists.proofs.Given.{given-append, given-few}
 use Rattle.so_lists.proofs.First.{none-first_below}
-use Rattle.so_scene.specs.Checked.{IsAgent, IsCoop, IsScene, IsKind, HasNoLimit, has_handler, handlers_from, row_number, given, filter_ids, filter_id}
+use Rattle.so_scene.specs.Checked.{IsAgent, IsCoop, IsDisp, IsGroup, AreGroups, IsScene, IsKind, HasNoLimit, has_handler, handlers_from, row_number, given, filter_ids, filter_id, is_pool, group_uses, text_uses, texts_to}
+use Rattle.so_scene.specs.Definition.{definition_fault}
+use Rattle.so_scene.specs.Lanes.{AreBound, agent_number, lanes}
 use Rattle.so_code.specs.declared.instr.Instr.{Instr}
 use Rattle.so_ids.specs.declared.RowId.{RowId}
 use Rattle.so_ids.specs.declared.StateId.{StateId}
@@ -23,15 +32,21 @@ use Rattle.so_state.specs.declared.states.State.{State}
 use Rattle.so_state.specs.Fault.{tree_fault}
 use Rattle.so_state.specs.States.{default_state}
 use Rattle.so_scene.specs.Names.{has_name, number_in}
-use Rattle.so_scene.specs.Parts.{message_name, agent_name}
-use Rattle.so_scene.specs.Words.{is_name, is_name_byte, is_text, is_text_byte}
+use Rattle.so_scene.specs.Parts.{message_name, agent_name, disp_name, default_disp, no_agent, agent_of as scene_agent, groups_of as scene_groups}
+use Rattle.so_scene.specs.Words.{is_name, is_text}
 use Rattle.so_scene.proofs.Positions.{absent_any, added_distinct, no_names as no_distinct}
 use Rattle.so_scene.specs.declared.fault.SceneFault.{SceneFault}
 use Rattle.so_scene.specs.declared.fault.SceneFault.TheVariants as fault
 use Rattle.so_scene.specs.declared.parts.AgentDef.{AgentDef}
 use Rattle.so_scene.specs.declared.parts.CoopDef.{CoopDef}
+use Rattle.so_scene.specs.declared.parts.DispDef.{DispDef}
+use Rattle.so_scene.specs.declared.parts.DispKind.{DispKind}
+use Rattle.so_scene.specs.declared.parts.DispKind.TheVariants.{OneThread, ActiveGroup}
+use Rattle.so_scene.specs.declared.parts.Fifo.TheVariants.{Cooperation}
+use Rattle.so_scene.specs.declared.parts.MessageDef.{MessageDef}
 use Rattle.so_scene.specs.declared.parts.SceneParts.{SceneParts}
 use Rattle.so_scene_json.specs.declared.build.Build.{Build}
+use Rattle.so_scene_json.specs.declared.groups.Group.{Group}
 use Rattle.so_scene_json.specs.declared.declare.Declared.{Declared}
 use Rattle.so_scene_json.specs.declared.known.Known.{Known}
 use Rattle.so_scene_json.specs.declared.scope.Scope.{Scope}
@@ -42,19 +57,21 @@ use Rattle.so_scene_json.specs.declared.table.ObjectKind.TheVariants as object
 use Rattle.so_scene_json.specs.declared.table.Space.TheVariants as space
 use Rattle.so_scene_json.specs.declared.values.Trouble.{Trouble}
 use Rattle.so_scene_json.specs.declared.values.Trouble.TheVariants.{WrongShape, OutOfRange}
-use Rattle.so_scene_json.specs.Values.{name_in, name_of, string_in, id_in, text_or_empty, integer_of, natural_up_to, from_low, number_of, checked, flag_of, read_or, ◌then◌, ◌else◌}
+use Rattle.so_scene_json.specs.Values.{name_in, name_of, string_in, id_in, group_in, disp_kind_in, fifo_of, integer_of, natural_up_to, from_low, number_of, checked, flag_of, read_or, ◌then◌, ◌else◌}
 use Rattle.so_scene_json.specs.Visits.{Visit, enters, tries, leaves, Place, run, ◌>>=◌, narrow, listed, list_of}
 use Rattle.so_scene_json.specs.Shape.{shape_step}
 use Rattle.so_scene_json.specs.Scope.{ids_of, state_items, row_items, filter_items, scope_of, state_number}
-use Rattle.so_scene_json.specs.Twice.{twice_step, no_names, names_in, with_name, entering, declared_name, with_mbox_read, with_mboxes, with_field}
-use Rattle.so_scene_json.specs.Known.{known_step, knows}
-use Rattle.so_scene_json.specs.Defs.{message_of, state_named, state_in, state_of, states_of, row_of, rows_of, mbox_in, handler_kind, kind_of, number_named, narrow_or_zero, filter_of, filters_of, field_in}
-use Rattle.so_scene_json.specs.Build.{build_step, no_parts, with_message, with_coop, is_long, unless_broken, tree_of, with_tree, with_code, with_agent, agent_with, agent_of, agent_written, fresh, written}
-use Rattle.so_scene_json.specs.Scene.{fields, no_state, exceeds, fault_of, first_fault, is_refused, coop_of, parts_of}
-use Rattle.so_scene_json.specs.Kept.{IsBuiltRow, IsBuiltFilter, IsBuiltAgent, named_among, IsBuilt, IsChecked}
-use Rattle.so_scene_json.proofs.Codes.{HasFewIds, Grows, IsWritten, allows, names_grow, state_below, one_number, handled, is_short, agent_is_written, agent_grows, agent_scope, agent_texts, OnOk, read_fine, then_fine, natural_fine}
+use Rattle.so_scene_json.specs.Twice.{twice_step, disp_number, disp_number_in, kinds_in, no_names, names_in, with_name, entering, declared_name, with_mbox_read, with_mboxes, with_field}
+use Rattle.so_scene_json.specs.Known.{known_step, knows, kind_at}
+use Rattle.so_scene_json.specs.Groups.{names_for, names_at, with_group, group_number, group_lists}
+use Rattle.so_scene_json.specs.Defs.{message_of, disp_of, disp_in, threads_in, state_named, state_in, state_of, states_of, row_of, rows_of, mbox_in, handler_kind, kind_of, number_named, narrow_or_zero, filter_of, filters_of, field_in}
+use Rattle.so_scene_json.specs.Build.{build_step, no_parts, agent_added, with_message, with_disp, with_coop, is_long, unless_broken, tree_of, with_tree, with_code, with_agent, agent_with, agent_of, agent_written, fresh, written}
+use Rattle.so_scene_json.specs.Scene.{fields, no_state, exceeds, fault_of, first_fault, is_refused, coops_of, only, parts_of}
+use Rattle.so_scene_json.specs.Kept.{IsBuiltRow, IsBuiltFilter, IsBuiltAgent, AreBuiltGroups, disp_kind, agent_group, is_on, uses_on, texts_of, named_among, IsBuilt, IsChecked}
+use Rattle.so_scene_json.proofs.Grouped.{AreNames, NamedIfGiven, few_more, names_more, number_below, numbered_more, group_names_more, no_group_names, no_group_uses}
+use Rattle.so_scene_json.proofs.Codes.{HasFewIds, Grows, IsWritten, allows, names_grow, state_below, one_number, handled, is_short, agent_is_written, agent_grows, agent_numbers, agent_scope, agent_texts, OnOk, read_fine, then_fine, natural_fine}
 use Rattle.so_scene_json.proofs.Ends.{all_of, length_map, length_listed}
-use Rattle.so_scene_json.proofs.Passed.{ok, ok_same, swapped, HasRow, HasFilter, IsFineAgent, EntersFine, passed_all, scene_fine, total, is_message, mboxes_in_field, mboxes_named, few_messages, few_mboxes}
+use Rattle.so_scene_json.proofs.Passed.{ok, ok_same, swapped, HasRow, HasFilter, HasGroup, HasDisp, IsFineDisp, IsFineAgent, EntersFine, passed_all, scene_fine, total, is_message, is_dispatcher, mboxes_in_field, mboxes_named, few_messages, few_mboxes, few_dispatchers}
 
 -- ---- what each step keeps, the whole run keeps
 
@@ -118,6 +135,7 @@ insert_distinct (x ∷ xs) ys name d e =
 
 record AreDistinct (s : Declared) : Type 0 where
   messages : IsDistinct bytes_eq s.messages
+  dispatchers : IsDistinct bytes_eq (codes "default" ∷ s.dispatchers)
   mboxes : IsDistinct bytes_eq (s.agents ++ s.mboxes)
   named : AllByRecursion (λ name. is_name name ≡ true) s.mboxes
 
@@ -125,6 +143,7 @@ mbox_distinct : (s : Declared) (name : List ℕ) (b : Bool) → is_name name ≡
 mbox_distinct s name true is e k = k
 mbox_distinct s name false is e k = record {
   messages = k.messages;
+  dispatchers = k.dispatchers;
   mboxes = added_distinct (s.agents ++ (s.mboxes ++ name ∷ [])) (s.agents ++ s.mboxes) name k.mboxes e (sym (append_assoc s.agents s.mboxes (name ∷ [])));
   named = each-append (λ name. is_name name ≡ true) s.mboxes (name ∷ []) k.named (is, tt);
 }
@@ -160,36 +179,39 @@ field_distinct other found s k = k
 -- names that ids leave as they are
 record SameNames (s t : Declared) : Type 0 where
   messages : t.messages ≡ s.messages
+  dispatchers : t.dispatchers ≡ s.dispatchers
+  kinds : t.kinds ≡ s.kinds
   agents : t.agents ≡ s.agents
   mboxes : t.mboxes ≡ s.mboxes
 
 same_names : (s t : Declared) → s ≡ t → SameNames s t
-same_names s t e = record { messages = ap (λ (x : Declared). x.messages) (sym e); agents = ap (λ (x : Declared). x.agents) (sym e); mboxes = ap (λ (x : Declared). x.mboxes) (sym e) }
+same_names s t e = record { messages = ap (λ (x : Declared). x.messages) (sym e); dispatchers = ap (λ (x : Declared). x.dispatchers) (sym e); kinds = ap (λ (x : Declared). x.kinds) (sym e); agents = ap (λ (x : Declared). x.agents) (sym e); mboxes = ap (λ (x : Declared). x.mboxes) (sym e) }
 
 state_names : (place : Place) (o : Option (List ℕ)) (s t : Declared) → declared_name place space.States o s ≡ Ok t → SameNames s t
 state_names place None s t e = same_names s t (ok_same s t e)
 state_names place (Some name) s t e =
     let p = if_ok (has_name s.states name) _ (with_name space.States name s) t e in
     let q = same_names (with_name space.States name s) t p.1 in
-    record { messages = q.messages; agents = q.agents; mboxes = q.mboxes }
+    record { messages = q.messages; dispatchers = q.dispatchers; kinds = q.kinds; agents = q.agents; mboxes = q.mboxes }
 
 row_names : (place : Place) (o : Option (List ℕ)) (s t : Declared) → declared_name place space.Rows o s ≡ Ok t → SameNames s t
 row_names place None s t e = same_names s t (ok_same s t e)
 row_names place (Some name) s t e =
     let p = if_ok (has_name s.rows name) _ (with_name space.Rows name s) t e in
     let q = same_names (with_name space.Rows name s) t p.1 in
-    record { messages = q.messages; agents = q.agents; mboxes = q.mboxes }
+    record { messages = q.messages; dispatchers = q.dispatchers; kinds = q.kinds; agents = q.agents; mboxes = q.mboxes }
 
 filter_names : (place : Place) (o : Option (List ℕ)) (s t : Declared) → declared_name place space.Filters o s ≡ Ok t → SameNames s t
 filter_names place None s t e = same_names s t (ok_same s t e)
 filter_names place (Some name) s t e =
     let p = if_ok (has_name s.filters name) _ (with_name space.Filters name s) t e in
     let q = same_names (with_name space.Filters name s) t p.1 in
-    record { messages = q.messages; agents = q.agents; mboxes = q.mboxes }
+    record { messages = q.messages; dispatchers = q.dispatchers; kinds = q.kinds; agents = q.agents; mboxes = q.mboxes }
 
 distinct_same : (s t : Declared) → SameNames s t → AreDistinct s → AreDistinct t
 distinct_same s t q k = record {
   messages = subst (IsDistinct bytes_eq) (sym q.messages) k.messages;
+  dispatchers = subst (λ names. IsDistinct bytes_eq (codes "default" ∷ names)) (sym q.dispatchers) k.dispatchers;
   mboxes = subst (λ a. IsDistinct bytes_eq (a ++ t.mboxes)) (sym q.agents) (subst (λ m. IsDistinct bytes_eq (s.agents ++ m)) (sym q.mboxes) k.mboxes);
   named = subst (AllByRecursion (λ name. is_name name ≡ true)) (sym q.mboxes) k.named;
 }
@@ -197,13 +219,16 @@ distinct_same s t q k = record {
 distinct_step : (s t : Declared) (v : Visit) → Unit {0} → AreDistinct s → twice_step s v ≡ Ok t → AreDistinct t
 distinct_step s t (enters object.Message place d) q k e =
     let p = if_ok (has_name s.messages (name_in d)) _ (with_name space.Messages (name_in d) (entering object.Message d s)) t e in
-    subst AreDistinct p.1 (record { messages = added_distinct _ s.messages (name_in d) k.messages p.0 refl; mboxes = k.mboxes; named = k.named })
+    subst AreDistinct p.1 (record { messages = added_distinct _ s.messages (name_in d) k.messages p.0 refl; dispatchers = k.dispatchers; mboxes = k.mboxes; named = k.named })
+distinct_step s t (enters object.Dispatcher place d) q k e =
+    let p = if_ok (has_name (codes "default" ∷ s.dispatchers) (name_in d)) _ (with_name space.Dispatchers (name_in d) (entering object.Dispatcher d s)) t e in
+    subst AreDistinct p.1 (record { messages = k.messages; dispatchers = added_distinct _ (codes "default" ∷ s.dispatchers) (name_in d) k.dispatchers p.0 refl; mboxes = k.mboxes; named = k.named })
 distinct_step s t (enters object.Coop place d) q k e =
     let p = if_ok (has_name s.coops (name_in d)) _ (with_name space.Coops (name_in d) s) t e in
-    subst AreDistinct p.1 (record { messages = k.messages; mboxes = k.mboxes; named = k.named })
+    subst AreDistinct p.1 (record { messages = k.messages; dispatchers = k.dispatchers; mboxes = k.mboxes; named = k.named })
 distinct_step s t (enters object.Agent place d) q k e =
     let p = if_ok (has_name (s.agents ++ s.mboxes) (name_in d)) _ (with_name space.Mboxes (name_in d) (entering object.Agent d s)) t e in
-    subst AreDistinct p.1 (record { messages = k.messages; mboxes = insert_distinct s.agents s.mboxes (name_in d) k.mboxes (absent_any (s.agents ++ s.mboxes) (name_in d) p.0); named = k.named })
+    subst AreDistinct p.1 (record { messages = k.messages; dispatchers = k.dispatchers; mboxes = insert_distinct s.agents s.mboxes (name_in d) k.mboxes (absent_any (s.agents ++ s.mboxes) (name_in d) p.0); named = k.named })
 distinct_step s t (enters object.State place d) q k e = distinct_same s t (state_names place (Some (name_in d)) s t e) k
 distinct_step s t (enters object.Row place d) q k e = distinct_same s t (row_names place (id_in d) s t e) k
 distinct_step s t (enters object.Filter place d) q k e = distinct_same s t (filter_names place (id_in d) s t e) k
@@ -215,32 +240,34 @@ distinct_step s t (leaves kind place d) q k e = subst AreDistinct (ok_same s t e
 
 record HaveNames (s : Declared) (b : Build) : Type 0 where
   messages : map message_name b.messages ≡ s.messages
+  dispatchers : map disp_name b.dispatchers ≡ codes "default" ∷ s.dispatchers
+  kinds : map disp_kind b.dispatchers ≡ kinds_in s
   agents : map agent_name b.agents ≡ s.agents
 
 tree_in : Data → List State
 tree_in d = states_of (scope_of d) (state_items d)
 
 agent_made : Build → Data → AgentDef
-agent_made b d = agent_of (length b.agents) b.names d (tree_in d) (written b d)
+agent_made b d = agent_of (length b.agents) b.names b.groups d (tree_in d) (written b d)
 
-agent_added : Build → Data → Build
-agent_added b d = record b { agents = b.agents ++ agent_made b d ∷ []; texts = (written b d).texts }
+agent_after : Build → Data → Build
+agent_after b d = agent_added b d (tree_in d) (written b d)
 
 -- what is known of an agent that the fourth pass adds
 record IsAdded (d : Data) (s t : Build) : Type 0 where
   short : is_long d ≡ false
   sound : tree_fault (tree_in d) ≡ None
   few : length (written s d).code ≤ 1024
-  same : agent_added s d ≡ t
+  same : agent_after s d ≡ t
 
 code_ok : (b : Bool) (x : SceneFault) (n : ℕ) (s t : Build) → nat_lt 1024 n ≡ b → (if b then Err x else ok s) ≡ Ok t → (n ≤ 1024) × (s ≡ t)
 code_ok true x n s t l e = absurd cc
 code_ok false x n s t l e = (ltb-false 1024 n l, ok_same s t e)
 
 tree_ok : (place : Place) (s t : Build) (d : Data) (o : Option TreeFault) → is_long d ≡ false → tree_fault (tree_in d) ≡ o → (unless_broken place (tree_in d) o >>= λ tree. with_code place s d tree (written s d)) ≡ Ok t → IsAdded d s t
-unfolding agent_added agent_made
+unfolding agent_after agent_made
 tree_ok place s t d None short f e =
-    let p = code_ok (nat_lt 1024 (length (written s d).code)) _ (length (written s d).code) (agent_added s d) t refl e in
+    let p = code_ok (nat_lt 1024 (length (written s d).code)) _ (length (written s d).code) (agent_after s d) t refl e in
     record { short = short; sound = f; few = p.0; same = p.1 }
 tree_ok place s t d (Some x) short f e = absurd cc
 
@@ -255,74 +282,81 @@ agent_ok place s t d e = long_ok place s t d (is_long d) refl e
 -- mboxes that are named leave agents and messages as they are
 record SameAgents (s t : Declared) : Type 0 where
   messages : t.messages ≡ s.messages
+  dispatchers : t.dispatchers ≡ s.dispatchers
+  kinds : t.kinds ≡ s.kinds
   agents : t.agents ≡ s.agents
 
 mbox_agents : (b : Bool) (s : Declared) (name : List ℕ) → SameAgents s (if b then s else record s { mboxes = s.mboxes ++ name ∷ [] })
-mbox_agents true s name = record { messages = refl; agents = refl }
-mbox_agents false s name = record { messages = refl; agents = refl }
+mbox_agents true s name = record { messages = refl; dispatchers = refl; kinds = refl; agents = refl }
+mbox_agents false s name = record { messages = refl; dispatchers = refl; kinds = refl; agents = refl }
 
 read_agents : (r : Result (List ℕ) Trouble) (s : Declared) → SameAgents s (with_mbox_read r s)
 read_agents (Ok name) s = mbox_agents (has_name (names_in space.Mboxes s) name) s name
-read_agents (Err t) s = record { messages = refl; agents = refl }
+read_agents (Err t) s = record { messages = refl; dispatchers = refl; kinds = refl; agents = refl }
 
 mboxes_agents : (ds : Items) (s : Declared) → SameAgents s (with_mboxes ds s)
 unfolding with_mboxes
-mboxes_agents no_items s = record { messages = refl; agents = refl }
+mboxes_agents no_items s = record { messages = refl; dispatchers = refl; kinds = refl; agents = refl }
 mboxes_agents (item d ds) s =
     let one = read_agents (name_of d) s in
     let more = mboxes_agents ds (with_mbox_read (name_of d) s) in
-    record { messages = more.messages ∙ one.messages; agents = more.agents ∙ one.agents }
+    record { messages = more.messages ∙ one.messages; dispatchers = more.dispatchers ∙ one.dispatchers; kinds = more.kinds ∙ one.kinds; agents = more.agents ∙ one.agents }
 
 field_agents : (f : Form) (found : Option Data) (s : Declared) → SameAgents s (with_field f found s)
 field_agents (form.Mboxes limit) found s = mboxes_agents (list_of found) s
-field_agents other found s = record { messages = refl; agents = refl }
+field_agents other found s = record { messages = refl; dispatchers = refl; kinds = refl; agents = refl }
 
-have_same : (s t : Declared) (b : Build) → t.messages ≡ s.messages → t.agents ≡ s.agents → HaveNames s b → HaveNames t b
-have_same s t b e f k = record { messages = k.messages ∙ sym e; agents = k.agents ∙ sym f }
+have_same : (s t : Declared) (b : Build) → SameAgents s t → HaveNames s b → HaveNames t b
+have_same s t b q k = record {
+  messages = k.messages ∙ sym q.messages;
+  dispatchers = k.dispatchers ∙ ap (λ (names : List (List ℕ)). codes "default" ∷ names) (sym q.dispatchers);
+  kinds = k.kinds ∙ ap (λ (kinds : List DispKind). OneThread ∷ kinds) (sym q.kinds);
+  agents = k.agents ∙ sym q.agents;
+}
+
+agents_same : (s t : Declared) → SameNames s t → SameAgents s t
+agents_same s t q = record { messages = q.messages; dispatchers = q.dispatchers; kinds = q.kinds; agents = q.agents }
 
 names_step : (s u : Declared) (b c : Build) (v : Visit) → HaveNames s b → twice_step s v ≡ Ok u → build_step b v ≡ Ok c → HaveNames u c
-unfolding agent_added agent_made
+unfolding agent_after agent_made
 names_step s u b c (enters object.Message place d) k e f =
     let p = if_ok (has_name s.messages (name_in d)) _ (with_name space.Messages (name_in d) (entering object.Message d s)) u e in
     subst (λ y. HaveNames u y) (ok_same (with_message d b) c f) (subst (λ x. HaveNames x (with_message d b)) p.1
-    (record { messages = map_push message_name b.messages (message_of d) ∙ ap (λ l. l ++ name_in d ∷ []) k.messages; agents = k.agents }))
+    (record { messages = map_push message_name b.messages (message_of d) ∙ ap (λ l. l ++ name_in d ∷ []) k.messages; dispatchers = k.dispatchers; kinds = k.kinds; agents = k.agents }))
+names_step s u b c (enters object.Dispatcher place d) k e f =
+    let p = if_ok (has_name (codes "default" ∷ s.dispatchers) (name_in d)) _ (with_name space.Dispatchers (name_in d) (entering object.Dispatcher d s)) u e in
+    subst (λ y. HaveNames u y) (ok_same (with_disp d b) c f) (subst (λ x. HaveNames x (with_disp d b)) p.1
+    (record {
+      messages = k.messages;
+      dispatchers = map_push disp_name b.dispatchers (disp_of d) ∙ ap (λ l. l ++ name_in d ∷ []) k.dispatchers;
+      kinds = map_push disp_kind b.dispatchers (disp_of d) ∙ ap (λ l. l ++ disp_kind_in d ∷ []) k.kinds;
+      agents = k.agents;
+    }))
 names_step s u b c (enters object.Coop place d) k e f =
     let p = if_ok (has_name s.coops (name_in d)) _ (with_name space.Coops (name_in d) s) u e in
     subst (λ y. HaveNames u y) (ok_same (with_coop d b) c f) (subst (λ x. HaveNames x (with_coop d b)) p.1
-    (record { messages = k.messages; agents = k.agents }))
+    (record { messages = k.messages; dispatchers = k.dispatchers; kinds = k.kinds; agents = k.agents }))
 names_step s u b c (enters object.Agent place d) k e f =
     let p = if_ok (has_name (s.agents ++ s.mboxes) (name_in d)) _ (with_name space.Mboxes (name_in d) (entering object.Agent d s)) u e in
     let q = agent_ok place b c d f in
-    subst (λ y. HaveNames u y) q.same (subst (λ x. HaveNames x (agent_added b d)) p.1
-    (record { messages = k.messages; agents = map_push agent_name b.agents (agent_made b d) ∙ ap (λ l. l ++ name_in d ∷ []) k.agents }))
+    subst (λ y. HaveNames u y) q.same (subst (λ x. HaveNames x (agent_after b d)) p.1
+    (record { messages = k.messages; dispatchers = k.dispatchers; kinds = k.kinds; agents = map_push agent_name b.agents (agent_made b d) ∙ ap (λ l. l ++ name_in d ∷ []) k.agents }))
 names_step s u b c (enters object.State place d) k e f =
     let q = state_names place (Some (name_in d)) s u e in
-    subst (λ y. HaveNames u y) (ok_same b c f) (have_same s u b q.messages q.agents k)
+    subst (λ y. HaveNames u y) (ok_same b c f) (have_same s u b (agents_same s u q) k)
 names_step s u b c (enters object.Row place d) k e f =
     let q = row_names place (id_in d) s u e in
-    subst (λ y. HaveNames u y) (ok_same b c f) (have_same s u b q.messages q.agents k)
+    subst (λ y. HaveNames u y) (ok_same b c f) (have_same s u b (agents_same s u q) k)
 names_step s u b c (enters object.Filter place d) k e f =
     let q = filter_names place (id_in d) s u e in
-    subst (λ y. HaveNames u y) (ok_same b c f) (have_same s u b q.messages q.agents k)
+    subst (λ y. HaveNames u y) (ok_same b c f) (have_same s u b (agents_same s u q) k)
 names_step s u b c (enters other place d) k e f = subst (λ y. HaveNames u y) (ok_same b c f) (subst (λ x. HaveNames x b) (ok_same s u e) k)
 names_step s u b c (tries rule place found) k e f =
     let q = field_agents rule.form found s in
-    subst (λ y. HaveNames u y) (ok_same b c f) (subst (λ x. HaveNames x b) (ok_same (with_field rule.form found s) u e) (have_same s (with_field rule.form found s) b q.messages q.agents k))
+    subst (λ y. HaveNames u y) (ok_same b c f) (subst (λ x. HaveNames x b) (ok_same (with_field rule.form found s) u e) (have_same s (with_field rule.form found s) b q k))
 names_step s u b c (leaves kind place d) k e f = subst (λ y. HaveNames u y) (ok_same b c f) (subst (λ x. HaveNames x b) (ok_same s u e) k)
 
 -- ---- an agent
-
-second : (a b c : Bool) → (a && (b && c)) ≡ true → b ≡ true
-second true true c e = refl
-second true false c e = absurd (true≢false (sym e))
-second false b c e = absurd (true≢false (sym e))
-
-short : (b : Bool) (s : List ℕ) → is_name s ≡ b → length (text_or_empty (if b then Some s else None)) ≤ 32
-short true s e = leb-true (length s) 32 (second (not (is_empty s)) (nat_le (length s) 32) (list_all is_name_byte s) e)
-short false s e = omega arith
-
-short_name : (d : Data) → length (name_in d) ≤ 32
-short_name d = short (is_name (string_in (codes "name") d)) (string_in (codes "name") d) refl
 
 each_map : {X Y : Type 0} (P : X → Type 0) (Q : Y → Type 0) (f : X → Y) → ((x : X) → P x → Q (f x)) → (xs : List X) → AllByRecursion P xs → AllByRecursion Q (map f xs)
 each_map P Q f h [] a = tt
@@ -453,62 +487,119 @@ ids_of_filters : (names : Declared) (ds : List Data) → map filter_id (map (fil
 ids_of_filters names [] = refl
 ids_of_filters names (d ∷ ds) = ap (λ (l : List (Option (List ℕ))). id_in d ∷ l) (ids_of_filters names ds)
 
+-- ids that are given are names
+given_names : (b : Bool) (id : List ℕ) (ids : List (Option (List ℕ))) → is_name id ≡ b → AllByRecursion (λ name. is_name name ≡ true) (given ids) → AllByRecursion (λ name. is_name name ≡ true) (given ((if b then Some id else None) ∷ ids))
+given_names true id ids e a = (e, a)
+given_names false id ids e a = a
+
+ids_named : (ds : List Data) → AllByRecursion (λ name. is_name name ≡ true) (given (map id_in ds))
+ids_named [] = tt
+ids_named (d ∷ ds) = given_names (is_name (string_in (codes "id") d)) (string_in (codes "id") d) (map id_in ds) refl (ids_named ds)
+
+-- ---- dispatchers and groups
+
+-- the dispatchers can be numbered, and each has a kind
+record HasFewDisps (names : Declared) : Type 0 where
+  few : length names.dispatchers ≤ 63
+  kinds : length names.kinds ≡ length names.dispatchers
+
+number_there : (names : Declared) (o : Option (List ℕ)) (n : ℕ) → disp_number names o ≡ Some n → n < 1 + length names.dispatchers
+number_there names None n e = let first : 0 ≡ n = cc in omega (arith, first)
+number_there names (Some name) n e = omega (arith, (position-Some (bytes_eq name) (codes "default" ∷ names.dispatchers) n [] e).0)
+
+disp_is : (names : Declared) (d : Data) (on : HasDisp names d) → HasFewDisps names → (disp_in names d).0 ≡ on.number
+disp_is names d on h =
+    let below : on.number < 1 + length names.dispatchers = number_there names (option_and_then as_str (get (codes "disp") d)) on.number on.is in
+    let its : narrow on.number ≡ on.number = omega (arith, below, h.few) in
+    ap narrow_or_zero on.is ∙ its
+
+disp_there : (names : Declared) (d : Data) (on : HasDisp names d) → HasFewDisps names → (disp_in names d).0 < length (kinds_in names)
+disp_there names d on h = omega (arith, number_there names (option_and_then as_str (get (codes "disp") d)) on.number on.is, h.kinds, disp_is names d on h)
+
+group_fits : (kind : DispKind) (o : Option (List ℕ)) (d : DispId) (groups : List Group) → HasGroup kind o → IsGroup kind (length (names_for d (with_group d o groups))) (group_number d o groups)
+group_fits ActiveGroup (Some name) d groups h = number_below d name groups
+group_fits ActiveGroup None d groups h = absurd h
+group_fits other o d groups h = ap (λ x. group_number d x groups) h
+
+group_there : (names : Declared) (d : Data) (groups : List Group) (on : HasDisp names d) → HasFewDisps names
+    → IsGroup (slice_index_or (kinds_in names) (disp_in names d).0 OneThread) (length (names_for (disp_in names d) (with_group (disp_in names d) (group_in d) groups))) (group_number (disp_in names d) (group_in d) groups)
+group_there names d groups on h =
+    subst (λ k. IsGroup (slice_index_or (kinds_in names) k OneThread) (length (names_for (disp_in names d) (with_group (disp_in names d) (group_in d) groups))) (group_number (disp_in names d) (group_in d) groups)) (sym (disp_is names d on h))
+    (group_fits (kind_at names on.number) (group_in d) (disp_in names d) groups on.group)
+
+group_grows : (kind : DispKind) (n m : ℕ) (o : Option ℕ) → n ≤ m → IsGroup kind n o → IsGroup kind m o
+group_grows ActiveGroup n m (Some g) l h = omega (arith, l, h)
+group_grows ActiveGroup n m None l h = h
+group_grows other n m o l h = h
+
 few_ids : (names : Declared) (d : Data) → IsFineAgent names d → HasFewIds (scope_of d)
 few_ids names d fine = record {
   rows = omega (arith, length_map id_in (listed (row_items d)), length_listed (row_items d), fine.few_rows);
   filters = omega (arith, length_map id_in (listed (filter_items d)), length_listed (filter_items d), fine.few_filters);
 }
 
-built_with : (a : ℕ) (names : Declared) (d : Data) (code : List Instr) (texts : ℕ) → a < length names.agents → IsFineAgent names d → is_long d ≡ false → tree_fault (tree_in d) ≡ None → IsWritten names (scope_of d) d code texts
-    → IsBuiltAgent (length names.agents + length names.mboxes) (length names.messages) texts (agent_with a names d (tree_in d) (scope_of d) code)
+built_with : (a : ℕ) (names : Declared) (groups : List Group) (d : Data) (code : List Instr) (texts : ℕ) → HasFewDisps names → a < length names.agents → IsFineAgent names d → is_long d ≡ false → tree_fault (tree_in d) ≡ None → IsWritten names (scope_of d) d code texts
+    → IsBuiltAgent (length names.agents + length names.mboxes) (length names.messages) texts (kinds_in names) (with_group (disp_in names d) (group_in d) groups) (agent_with a names groups d (tree_in d) (scope_of d) code)
 unfolding tree_in
-built_with a names d code texts below fine long sound wrote =
+built_with a names groups d code texts disps below fine long sound wrote =
     let short = is_short d long in
     let filters : map filter_id (filters_of names (filter_items d)) ≡ ids_of (filter_items d) = ids_of_filters names (listed (filter_items d)) in
     let count : length (rows_of a names (scope_of d) (row_items d)) ≡ items_len (row_items d) = omega (arith, length_map (row_of a names (scope_of d)) (listed (row_items d)), length_listed (row_items d)) in
     let states : length (scope_of d).states ≡ length (states_of (scope_of d) (state_items d)) = length_states d ∙ sym (length_tree d) in
     let grows : Grows (allows names (scope_of d) texts) (named_among (length names.agents + length names.mboxes) (length names.messages) texts (length (states_of (scope_of d) (state_items d))) (ids_of (row_items d)) (map filter_id (filters_of names (filter_items d)))) = record { mboxes = omega arith; messages = refl; texts = omega arith; states = sym states; rows = refl; filters = filters } in
     record {
-      named = short_name d;
+      named = fine.named;
       coop = refl;
+      disp = disp_there names d fine.on disps;
+      group = group_there names d groups fine.on disps;
+      priority = refl;
       vars = refl;
       tree = record { few = omega (arith, length_tree d, short.states); sound = sound };
       no_limits = all_of _ _ (no_limits_in (scope_of d) (listed (state_items d)));
       state_names = states;
+      states_named = all_of (λ name. is_name name ≡ true) (scope_of d).states fine.states_named;
       each_state_once = fine.state_names;
       few_rows = omega (arith, count, fine.few_rows);
       rows = all_of _ _ (each_map (HasRow names) (IsBuiltRow (length names.agents + length names.mboxes) (length names.messages) (length (states_of (scope_of d) (state_items d)))) (row_of a names (scope_of d)) (λ x h. built_row a (length (states_of (scope_of d) (state_items d))) names (scope_of d) below states x h) (listed (row_items d)) fine.rows);
       row_ids = length_map id_in (listed (row_items d)) ∙ sym (length_map (row_of a names (scope_of d)) (listed (row_items d)));
+      rows_named = all_of (λ name. is_name name ≡ true) (given (ids_of (row_items d))) (ids_named (listed (row_items d)));
       each_row_id_once = fine.row_ids;
       few_filters = omega (arith, length_map (filter_of names) (listed (filter_items d)), length_listed (filter_items d), fine.few_filters);
       filters = all_of _ _ (each_map (HasFilter names) (IsBuiltFilter (length names.agents + length names.mboxes) (length names.messages)) (filter_of names) (λ x h. built_filter names x h) (listed (filter_items d)) fine.filters);
+      filters_named = subst (λ i. All (λ name. is_name name ≡ true) (given i)) (sym filters) (all_of (λ name. is_name name ≡ true) (given (ids_of (filter_items d))) (ids_named (listed (filter_items d))));
       each_filter_id_once = subst (λ i. IsDistinct bytes_eq (given i)) (sym filters) fine.filter_ids;
       code = wrote.code;
       bodies = wrote.bodies ∙ (ap (λ n. agent_bodies n (handled 0 (row_items d))) (sym (length_tree d)) ∙ ap (agent_bodies (length (states_of (scope_of d) (state_items d)))) (all_handled a names (scope_of d) 0 (row_items d)));
       parts = all_of _ _ (each-weaker _ _ (λ i h. names_grow _ _ i grows h) _ (wrote.named (few_ids names d fine)));
     }
 
-built_agent : (a : ℕ) (names : Declared) (texts : List (List ℕ)) (d : Data) → a < length names.agents → IsFineAgent names d → is_long d ≡ false → tree_fault (tree_in d) ≡ None → length (agent_written names (fresh texts d) d).code ≤ 1024
-    → IsBuiltAgent (length names.agents + length names.mboxes) (length names.messages) (length (agent_written names (fresh texts d) d).texts) (agent_of a names d (tree_in d) (agent_written names (fresh texts d) d))
-built_agent a names texts d below fine long sound l =
-    subst (λ x. IsBuiltAgent (length names.agents + length names.mboxes) (length names.messages) (length (agent_written names (fresh texts d) d).texts) (agent_with a names d (tree_in d) x (agent_written names (fresh texts d) d).code)) (sym (agent_scope names (fresh texts d) d))
-    (built_with a names d _ _ below fine long sound (agent_is_written names (fresh texts d) d (is_short d long) refl l))
+built_agent : (a : ℕ) (names : Declared) (groups : List Group) (texts : List (List ℕ)) (d : Data) → HasFewDisps names → a < length names.agents → IsFineAgent names d → is_long d ≡ false → tree_fault (tree_in d) ≡ None → length (agent_written names (fresh texts d) d).code ≤ 1024
+    → IsBuiltAgent (length names.agents + length names.mboxes) (length names.messages) (length (agent_written names (fresh texts d) d).texts) (kinds_in names) (with_group (disp_in names d) (group_in d) groups) (agent_of a names groups d (tree_in d) (agent_written names (fresh texts d) d))
+built_agent a names groups texts d disps below fine long sound l =
+    subst (λ x. IsBuiltAgent (length names.agents + length names.mboxes) (length names.messages) (length (agent_written names (fresh texts d) d).texts) (kinds_in names) (with_group (disp_in names d) (group_in d) groups) (agent_with a names groups d (tree_in d) x (agent_written names (fresh texts d) d).code)) (sym (agent_scope names (fresh texts d) d))
+    (built_with a names groups d _ _ disps below fine long sound (agent_is_written names (fresh texts d) d (is_short d long) refl l))
 
-grown : (mboxes messages t u : ℕ) (a : AgentDef) → t ≤ u → IsBuiltAgent mboxes messages t a → IsBuiltAgent mboxes messages u a
-grown mboxes messages t u a l h = record {
+grown : (mboxes messages t u : ℕ) (kinds : List DispKind) (groups : List Group) (e : DispId) (o : Option (List ℕ)) (a : AgentDef) → t ≤ u → IsBuiltAgent mboxes messages t kinds groups a → IsBuiltAgent mboxes messages u kinds (with_group e o groups) a
+grown mboxes messages t u kinds groups e o a l h = record {
   named = h.named;
   coop = h.coop;
+  disp = h.disp;
+  group = group_grows (slice_index_or kinds a.disp.0 OneThread) (length (names_for a.disp groups)) (length (names_for a.disp (with_group e o groups))) a.group (names_more a.disp e o groups) h.group;
+  priority = h.priority;
   vars = h.vars;
   tree = h.tree;
   no_limits = h.no_limits;
   state_names = h.state_names;
+  states_named = h.states_named;
   each_state_once = h.each_state_once;
   few_rows = h.few_rows;
   rows = h.rows;
   row_ids = h.row_ids;
+  rows_named = h.rows_named;
   each_row_id_once = h.each_row_id_once;
   few_filters = h.few_filters;
   filters = h.filters;
+  filters_named = h.filters_named;
   each_filter_id_once = h.each_filter_id_once;
   code = h.code;
   bodies = h.bodies;
@@ -517,39 +608,183 @@ grown mboxes messages t u a l h = record {
 
 -- ---- the fourth pass
 
--- While there are no more agents than were declared, each is among all mboxes.
+-- while there are no more agents than were declared, each is among all mboxes
+abbrev AreAgents : Declared → Build → Type 0
+AreAgents names s = AllByRecursion (IsBuiltAgent (length names.agents + length names.mboxes) (length names.messages) (length s.texts) (kinds_in names) s.groups) s.agents
+
+-- the agents, and the groups and texts in the order in which agents name them
 record AreKept (names : Declared) (s : Build) : Type 0 where
   known : s.names ≡ names
-  agents : length s.agents ≤ length names.agents → AllByRecursion (IsBuiltAgent (length names.agents + length names.mboxes) (length names.messages) (length s.texts)) s.agents
+  agents : length s.agents ≤ length names.agents → AreAgents names s
   texts : AllByRecursion (λ t. is_text t ≡ true) s.texts
+  texts_numbered : length s.texts ≤ 4096 → AreNumbered (texts_of s.agents) (length s.texts)
+  few_groups : length s.groups ≤ length s.agents
+  group_names : (d : DispId) → AreNames (names_for d s.groups)
+  groups_numbered : length s.agents ≤ 4096 → (d : DispId) → AreNumbered (uses_on d s.agents) (length (names_for d s.groups))
 
-agent_kept : (names : Declared) (s t : Build) (d : Data) → IsFineAgent names d → AreKept names s → IsAdded d s t → AreKept names (agent_added s d)
-unfolding agent_added agent_made
-agent_kept names s t d fine k q = record {
+agents_kept : (names : Declared) (s t : Build) (d : Data) → HasFewDisps names → IsFineAgent names d → AreKept names s → IsAdded d s t → length (agent_after s d).agents ≤ length names.agents → AreAgents names (agent_after s d)
+unfolding agent_after agent_made
+agents_kept names s t d disps fine k q few =
+    let one_less : length s.agents < length names.agents = omega (arith, few, length-append s.agents (agent_made s d ∷ [])) in
+    let new : IsBuiltAgent (length names.agents + length names.mboxes) (length names.messages) (length (written s d).texts) (kinds_in names) (with_group (disp_in s.names d) (group_in d) s.groups) (agent_made s d) =
+    subst (λ n. IsBuiltAgent (length names.agents + length names.mboxes) (length names.messages) (length (agent_written n (fresh s.texts d) d).texts) (kinds_in names) (with_group (disp_in n d) (group_in d) s.groups) (agent_of (length s.agents) n s.groups d (tree_in d) (agent_written n (fresh s.texts d) d))) (sym k.known)
+    (built_agent (length s.agents) names s.groups s.texts d disps one_less fine q.short q.sound (subst (λ n. length (agent_written n (fresh s.texts d) d).code ≤ 1024) k.known q.few)) in
+    each-append (IsBuiltAgent (length names.agents + length names.mboxes) (length names.messages) (length (written s d).texts) (kinds_in names) (with_group (disp_in s.names d) (group_in d) s.groups)) s.agents (agent_made s d ∷ [])
+    (each-weaker (IsBuiltAgent (length names.agents + length names.mboxes) (length names.messages) (length s.texts) (kinds_in names) s.groups) (IsBuiltAgent (length names.agents + length names.mboxes) (length names.messages) (length (written s d).texts) (kinds_in names) (with_group (disp_in s.names d) (group_in d) s.groups)) (λ a h. grown _ _ _ _ _ _ (disp_in s.names d) (group_in d) a (agent_grows s.names (fresh s.texts d) d) h) s.agents (k.agents (omega (arith, one_less))))
+    (new, tt)
+
+-- the texts of one more agent
+texts-push : (agents : List AgentDef) (a : AgentDef) → texts_of (agents ++ a ∷ []) ≡ texts_of agents ++ text_uses a.code
+texts-push [] a = append-nil (text_uses a.code)
+texts-push (b ∷ agents) a = ap (λ l. text_uses b.code ++ l) (texts-push agents a) ∙ sym (append_assoc (text_uses b.code) (texts_of agents) (text_uses a.code))
+
+texts_kept : (s : Build) (d : Data) → (length s.texts ≤ 4096 → AreNumbered (texts_of s.agents) (length s.texts)) → length (agent_after s d).texts ≤ 4096 → AreNumbered (texts_of (agent_after s d).agents) (length (agent_after s d).texts)
+unfolding agent_after agent_made
+texts_kept s d old few =
+    let before : length s.texts ≤ 4096 = omega (arith, few, agent_grows s.names (fresh s.texts d) d) in
+    ap (given_after 0) (texts-push s.agents (agent_made s d))
+    ∙ (given-append 0 (length s.texts) (texts_of s.agents) (text_uses (written s d).code) (old before) ∙ agent_numbers s.names (fresh s.texts d) d refl few)
+
+named_given : (b : Bool) (name : List ℕ) → is_name name ≡ b → NamedIfGiven (if b then Some name else None)
+named_given true name e = e
+named_given false name e = tt
+
+group_named : (d : Data) → NamedIfGiven (group_in d)
+group_named d = named_given (is_name (string_in (codes "group") d)) (string_in (codes "group") d) refl
+
+groups_kept : (s : Build) (d : Data) (e : DispId) → length s.groups ≤ length s.agents → (length s.agents ≤ 4096 → AreNumbered (uses_on e s.agents) (length (names_for e s.groups)))
+    → length (agent_after s d).agents ≤ 4096 → AreNumbered (uses_on e (agent_after s d).agents) (length (names_for e (agent_after s d).groups))
+unfolding agent_after agent_made
+groups_kept s d e groups old few =
+    let one_less : length s.agents < 4096 = omega (arith, few, length-append s.agents (agent_made s d ∷ [])) in
+    numbered_more e (disp_in s.names d) (group_in d) s.groups s.agents (agent_made s d) refl refl (omega (arith, one_less, groups)) (old (omega (arith, one_less)))
+
+agent_kept : (names : Declared) (s t : Build) (d : Data) → HasFewDisps names → IsFineAgent names d → AreKept names s → IsAdded d s t → AreKept names (agent_after s d)
+unfolding agent_after agent_made
+agent_kept names s t d disps fine k q = record {
   known = k.known;
-  agents = λ few.
-      let one_less : length s.agents < length names.agents = omega (arith, few, length-append s.agents (agent_made s d ∷ [])) in
-      let new : IsBuiltAgent (length names.agents + length names.mboxes) (length names.messages) (length (written s d).texts) (agent_made s d) =
-      subst (λ n. IsBuiltAgent (length names.agents + length names.mboxes) (length names.messages) (length (agent_written n (fresh s.texts d) d).texts) (agent_of (length s.agents) n d (tree_in d) (agent_written n (fresh s.texts d) d))) (sym k.known)
-      (built_agent (length s.agents) names s.texts d one_less fine q.short q.sound (subst (λ n. length (agent_written n (fresh s.texts d) d).code ≤ 1024) k.known q.few)) in
-      each-append (IsBuiltAgent (length names.agents + length names.mboxes) (length names.messages) (length (written s d).texts)) s.agents (agent_made s d ∷ [])
-      (each-weaker (IsBuiltAgent (length names.agents + length names.mboxes) (length names.messages) (length s.texts)) (IsBuiltAgent (length names.agents + length names.mboxes) (length names.messages) (length (written s d).texts)) (λ a h. grown _ _ _ _ a (agent_grows s.names (fresh s.texts d) d) h) s.agents (k.agents (omega (arith, one_less))))
-      (new, tt);
+  agents = agents_kept names s t d disps fine k q;
   texts = agent_texts s.names (fresh s.texts d) d k.texts;
+  texts_numbered = texts_kept s d k.texts_numbered;
+  few_groups = omega (arith, k.few_groups, few_more (disp_in s.names d) (group_in d) s.groups, length-append s.agents (agent_made s d ∷ []));
+  group_names = λ e. group_names_more e (disp_in s.names d) (group_in d) s.groups (group_named d) (k.group_names e);
+  groups_numbered = λ few e. groups_kept s d e k.few_groups (λ l. k.groups_numbered l e) few;
 }
 
-kept_step : (names : Declared) (s t : Build) (v : Visit) → EntersFine names v → AreKept names s → build_step s v ≡ Ok t → AreKept names t
-unfolding agent_added agent_made
-kept_step names s t (enters object.Message place d) fine k e = subst (AreKept names) (ok_same (with_message d s) t e) (record { known = k.known; agents = k.agents; texts = k.texts })
-kept_step names s t (enters object.Coop place d) fine k e = subst (AreKept names) (ok_same (with_coop d s) t e) (record { known = k.known; agents = k.agents; texts = k.texts })
-kept_step names s t (enters object.Agent place d) fine k e =
-    let q = agent_ok place s t d e in
-    subst (AreKept names) q.same (agent_kept names s t d fine k q)
-kept_step names s t (enters other place d) fine k e = subst (AreKept names) (ok_same s t e) k
-kept_step names s t (tries rule place found) fine k e = subst (AreKept names) (ok_same s t e) k
-kept_step names s t (leaves kind place d) fine k e = subst (AreKept names) (ok_same s t e) k
+-- what changes neither agents nor groups nor texts
+abbrev with_others : Build → List MessageDef → List DispDef → List (List ℕ) → Build
+with_others s messages dispatchers coops = record s { messages = messages; dispatchers = dispatchers; coops = coops }
 
--- ---- how many messages and mboxes
+others_kept : (names : Declared) (s : Build) (messages : List MessageDef) (dispatchers : List DispDef) (coops : List (List ℕ)) → AreKept names s → AreKept names (with_others s messages dispatchers coops)
+others_kept names s messages dispatchers coops k = record {
+  known = k.known;
+  agents = k.agents;
+  texts = k.texts;
+  texts_numbered = k.texts_numbered;
+  few_groups = k.few_groups;
+  group_names = k.group_names;
+  groups_numbered = k.groups_numbered;
+}
+
+kept_step : (names : Declared) → HasFewDisps names → (s t : Build) (v : Visit) → EntersFine names v → AreKept names s → build_step s v ≡ Ok t → AreKept names t
+unfolding agent_after agent_made
+kept_step names disps s t (enters object.Message place d) fine k e = subst (AreKept names) (ok_same (with_message d s) t e) (others_kept names s (s.messages ++ message_of d ∷ []) s.dispatchers s.coops k)
+kept_step names disps s t (enters object.Dispatcher place d) fine k e = subst (AreKept names) (ok_same (with_disp d s) t e) (others_kept names s s.messages (s.dispatchers ++ disp_of d ∷ []) s.coops k)
+kept_step names disps s t (enters object.Coop place d) fine k e = subst (AreKept names) (ok_same (with_coop d s) t e) (others_kept names s s.messages s.dispatchers (s.coops ++ name_in d ∷ []) k)
+kept_step names disps s t (enters object.Agent place d) fine k e =
+    let q = agent_ok place s t d e in
+    subst (AreKept names) q.same (agent_kept names s t d disps fine k q)
+kept_step names disps s t (enters other place d) fine k e = subst (AreKept names) (ok_same s t e) k
+kept_step names disps s t (tries rule place found) fine k e = subst (AreKept names) (ok_same s t e) k
+kept_step names disps s t (leaves kind place d) fine k e = subst (AreKept names) (ok_same s t e) k
+
+-- ---- messages, cooperations and dispatchers
+
+head-append : {X : Type 0} (xs ys : List X) (x : X) → head xs ≡ Some x → head (xs ++ ys) ≡ Some x
+head-append [] ys x e = absurd cc
+head-append (y ∷ xs) ys x e = e
+
+bounds_if : (b : Bool) (low n limit : ℕ) → nat_le low n ≡ b → n ≤ limit → OnOk (λ k. (low ≤ k) × (k ≤ limit)) (if b then Ok n else Err OutOfRange)
+unfolding OnOk
+bounds_if true low n limit e l = (leb-true low n e, l)
+bounds_if false low n limit e l = tt
+
+bounds : (low limit : ℕ) (r : Result ℕ Trouble) → OnOk (λ k. k ≤ limit) r → OnOk (λ k. (low ≤ k) × (k ≤ limit)) (r then from_low low)
+unfolding OnOk
+bounds low limit (Ok n) h = bounds_if (nat_le low n) low n limit refl h
+bounds low limit (Err t) h = tt
+
+few_threads : (d : Data) → (1 ≤ threads_in d) × (threads_in d ≤ 64)
+few_threads d =
+    read_fine (λ k. (1 ≤ k) × (k ≤ 64)) 4 (number_of 1 64) (get (codes "threads") d) (omega arith, omega arith)
+    (λ x. bounds 1 64 (integer_of x then natural_up_to 64) (then_fine (λ k. k ≤ 64) (integer_of x) (natural_up_to 64) (natural_fine 64)))
+
+no_fields : (a b : Bool) → nat_lt 0 ((if a then 1 else 0) + (if b then 1 else 0)) ≡ false → (a ≡ false) × (b ≡ false)
+no_fields true true e = absurd cc
+no_fields true false e = absurd cc
+no_fields false true e = absurd cc
+no_fields false false e = (refl, refl)
+
+unfit : (pool b : Bool) → pool ≡ false → (not pool && b) ≡ false → b ≡ false
+unfit true b p e = absurd (true≢false p)
+unfit false b p e = e
+
+absent : {X : Type 0} (x : X) (f : Data → Result X Trouble) (o : Option Data) → is_some o ≡ false → read_or x f o ≡ x
+absent x f None e = refl
+absent x f (Some d) e = absurd (true≢false e)
+
+is_disp : (d : Data) → IsFineDisp d → IsDisp (disp_of d)
+is_disp d h = record {
+  named = h.named;
+  kind = h.kind;
+  slots = refl;
+  some_threads = (few_threads d).0;
+  few_threads = (few_threads d).1;
+  no_pool = λ e.
+      let none = no_fields (is_some (get (codes "threads") d)) (is_some (get (codes "fifo") d)) (unfit (is_pool (disp_kind_in d)) _ e h.fits) in
+      (absent 4 (number_of 1 64) (get (codes "threads") d) none.0, absent Cooperation fifo_of (get (codes "fifo") d) none.1);
+  quotes = refl;
+}
+
+default_is_disp : IsDisp default_disp
+default_is_disp = record { named = refl; kind = refl; slots = refl; some_threads = omega arith; few_threads = omega arith; no_pool = λ e. (refl, refl); quotes = refl }
+
+-- names are legal, and the dispatchers are, of which `default` is the first
+record AreNamed (s : Build) : Type 0 where
+  messages : AllByRecursion (λ name. is_name name ≡ true) (map message_name s.messages)
+  coops : AllByRecursion (λ name. is_name name ≡ true) s.coops
+  default : head s.dispatchers ≡ Some default_disp
+  dispatchers : AllByRecursion IsDisp s.dispatchers
+
+named_step : (names : Declared) (s t : Build) (v : Visit) → EntersFine names v → AreNamed s → build_step s v ≡ Ok t → AreNamed t
+unfolding agent_after
+named_step names s t (enters object.Message place d) fine k e =
+    subst AreNamed (ok_same (with_message d s) t e)
+    (record {
+      messages = subst (AllByRecursion (λ name. is_name name ≡ true)) (sym (map_push message_name s.messages (message_of d))) (each-append (λ name. is_name name ≡ true) (map message_name s.messages) (name_in d ∷ []) k.messages (fine, tt));
+      coops = k.coops;
+      default = k.default;
+      dispatchers = k.dispatchers;
+    })
+named_step names s t (enters object.Dispatcher place d) fine k e =
+    subst AreNamed (ok_same (with_disp d s) t e)
+    (record {
+      messages = k.messages;
+      coops = k.coops;
+      default = head-append s.dispatchers (disp_of d ∷ []) default_disp k.default;
+      dispatchers = each-append IsDisp s.dispatchers (disp_of d ∷ []) k.dispatchers (is_disp d fine, tt);
+    })
+named_step names s t (enters object.Coop place d) fine k e =
+    subst AreNamed (ok_same (with_coop d s) t e)
+    (record { messages = k.messages; coops = each-append (λ name. is_name name ≡ true) s.coops (name_in d ∷ []) k.coops (fine, tt); default = k.default; dispatchers = k.dispatchers })
+named_step names s t (enters object.Agent place d) fine k e =
+    let q = agent_ok place s t d e in
+    subst AreNamed q.same (record { messages = k.messages; coops = k.coops; default = k.default; dispatchers = k.dispatchers })
+named_step names s t (enters other place d) fine k e = subst AreNamed (ok_same s t e) k
+named_step names s t (tries rule place found) fine k e = subst AreNamed (ok_same s t e) k
+named_step names s t (leaves kind place d) fine k e = subst AreNamed (ok_same s t e) k
+
+-- ---- how many messages, mboxes and dispatchers
 
 -- what a pass adds to a list at each visit is at most what is counted there
 bind_count : {S : Type 0} (size : S → ℕ) (r : Result S SceneFault) (f : S → Result S SceneFault) (t : S) (n m : ℕ) → ((u : S) → r ≡ Ok u → size u ≤ n) → ((u : S) → f u ≡ Ok t → size t ≤ size u + m) → (r >>= f) ≡ Ok t → size t ≤ n + m
@@ -567,8 +802,9 @@ messages_of : Build → ℕ
 messages_of b = length b.messages
 
 message_step : (s t : Build) (v : Visit) → build_step s v ≡ Ok t → messages_of t ≤ messages_of s + is_message v
-unfolding agent_added agent_made messages_of
+unfolding agent_after agent_made messages_of
 message_step s t (enters object.Message place d) e = omega (arith, ap (λ (x : Build). length x.messages) (ok_same (with_message d s) t e), length-append s.messages (message_of d ∷ []))
+message_step s t (enters object.Dispatcher place d) e = omega (arith, ap (λ (x : Build). length x.messages) (ok_same (with_disp d s) t e))
 message_step s t (enters object.Coop place d) e = omega (arith, ap (λ (x : Build). length x.messages) (ok_same (with_coop d s) t e))
 message_step s t (enters object.Agent place d) e =
     let q = agent_ok place s t d e in
@@ -602,6 +838,9 @@ unfolding mboxes_of
 mbox_step s t (enters object.Message place d) e =
     let p = if_ok (has_name s.messages (name_in d)) _ (with_name space.Messages (name_in d) (entering object.Message d s)) t e in
     omega (arith, ap (λ (x : Declared). length x.mboxes) p.1)
+mbox_step s t (enters object.Dispatcher place d) e =
+    let p = if_ok (has_name (codes "default" ∷ s.dispatchers) (name_in d)) _ (with_name space.Dispatchers (name_in d) (entering object.Dispatcher d s)) t e in
+    omega (arith, ap (λ (x : Declared). length x.mboxes) p.1)
 mbox_step s t (enters object.Coop place d) e =
     let p = if_ok (has_name s.coops (name_in d)) _ (with_name space.Coops (name_in d) s) t e in
     omega (arith, ap (λ (x : Declared). length x.mboxes) p.1)
@@ -615,37 +854,99 @@ mbox_step s t (enters other place d) e = omega (arith, ap (λ (x : Declared). le
 mbox_step s t (tries rule place found) e = omega (arith, ap (λ (x : Declared). length x.mboxes) (ok_same (with_field rule.form found s) t e), field_count rule.form found s)
 mbox_step s t (leaves kind place d) e = omega (arith, ap (λ (x : Declared). length x.mboxes) (ok_same s t e))
 
+disps_of : Declared → ℕ
+disps_of s = length s.dispatchers
+
+disp_step : (s t : Declared) (v : Visit) → twice_step s v ≡ Ok t → disps_of t ≤ disps_of s + is_dispatcher v
+unfolding disps_of
+disp_step s t (enters object.Message place d) e =
+    let p = if_ok (has_name s.messages (name_in d)) _ (with_name space.Messages (name_in d) (entering object.Message d s)) t e in
+    omega (arith, ap (λ (x : Declared). length x.dispatchers) p.1)
+disp_step s t (enters object.Dispatcher place d) e =
+    let p = if_ok (has_name (codes "default" ∷ s.dispatchers) (name_in d)) _ (with_name space.Dispatchers (name_in d) (entering object.Dispatcher d s)) t e in
+    omega (arith, ap (λ (x : Declared). length x.dispatchers) p.1, length-append s.dispatchers (name_in d ∷ []))
+disp_step s t (enters object.Coop place d) e =
+    let p = if_ok (has_name s.coops (name_in d)) _ (with_name space.Coops (name_in d) s) t e in
+    omega (arith, ap (λ (x : Declared). length x.dispatchers) p.1)
+disp_step s t (enters object.Agent place d) e =
+    let p = if_ok (has_name (s.agents ++ s.mboxes) (name_in d)) _ (with_name space.Mboxes (name_in d) (entering object.Agent d s)) t e in
+    omega (arith, ap (λ (x : Declared). length x.dispatchers) p.1)
+disp_step s t (enters object.State place d) e = omega (arith, ap length (state_names place (Some (name_in d)) s t e).dispatchers)
+disp_step s t (enters object.Row place d) e = omega (arith, ap length (row_names place (id_in d) s t e).dispatchers)
+disp_step s t (enters object.Filter place d) e = omega (arith, ap length (filter_names place (id_in d) s t e).dispatchers)
+disp_step s t (enters other place d) e = omega (arith, ap (λ (x : Declared). length x.dispatchers) (ok_same s t e))
+disp_step s t (tries rule place found) e = omega (arith, ap (λ (x : Declared). length x.dispatchers) (ok_same (with_field rule.form found s) t e), ap length (field_agents rule.form found s).dispatchers)
+disp_step s t (leaves kind place d) e = omega (arith, ap (λ (x : Declared). length x.dispatchers) (ok_same s t e))
+
 -- ---- all passes
 
-built_from : (names : Declared) (s : Build) → AreKept names s → HaveNames names s → AreDistinct names → length s.messages ≤ 256 → length names.mboxes ≤ 256 → IsBuilt s
-built_from names s k h a few boxes =
+few_disps : (names : Declared) (s : Build) → HaveNames names s → length names.dispatchers ≤ 63 → HasFewDisps names
+few_disps names s h few = record {
+  few = few;
+  kinds = omega (arith, ap length h.dispatchers, ap length h.kinds, length_map disp_name s.dispatchers, length_map disp_kind s.dispatchers);
+}
+
+built_from : (names : Declared) (s : Build) → AreKept names s → AreNamed s → HaveNames names s → AreDistinct names → HasFewDisps names → length s.messages ≤ 256 → length names.mboxes ≤ 256 → IsBuilt s
+built_from names s k m h a disps few boxes =
     let agents : length names.agents ≡ length s.agents = omega (arith, ap length h.agents, length_map agent_name s.agents) in
     let messages : length names.messages ≡ length s.messages = omega (arith, ap length h.messages, length_map message_name s.messages) in
     let mboxes : names.mboxes ≡ s.names.mboxes = ap (λ (x : Declared). x.mboxes) (sym k.known) in
     record {
       few_messages = few;
+      messages_named = all_of (λ name. is_name name ≡ true) (map message_name s.messages) m.messages;
       message_names = subst (IsDistinct bytes_eq) (sym h.messages) a.messages;
       few_mboxes = subst (λ (m : List (List ℕ)). length m ≤ 256) mboxes boxes;
       mboxes = subst (All (λ name. is_name name ≡ true)) mboxes (all_of (λ name. is_name name ≡ true) names.mboxes a.named);
-      agents = subst (λ (m : List (List ℕ)). All (IsBuiltAgent (length s.agents + length m) (length s.messages) (length s.texts)) s.agents) mboxes
-          (subst (λ n. All (IsBuiltAgent (n + length names.mboxes) (length s.messages) (length s.texts)) s.agents) agents
-          (subst (λ n. All (IsBuiltAgent (length names.agents + length names.mboxes) n (length s.texts)) s.agents) messages (all_of _ s.agents (k.agents (omega (arith, agents))))));
+      default = m.default;
+      few_dispatchers = omega (arith, ap length h.dispatchers, length_map disp_name s.dispatchers, disps.few);
+      dispatchers = all_of IsDisp s.dispatchers m.dispatchers;
+      dispatcher_names = subst (IsDistinct bytes_eq) (sym h.dispatchers) a.dispatchers;
+      groups = λ few d. record {
+        named = all_of (λ name. is_name name ≡ true) (names_for d s.groups) (k.group_names d).named;
+        each_once = (k.group_names d).each_once;
+        numbered = k.groups_numbered few d;
+      };
+      coops = all_of (λ name. is_name name ≡ true) s.coops m.coops;
+      agents = subst (λ (m : List (List ℕ)). All (IsBuiltAgent (length s.agents + length m) (length s.messages) (length s.texts) (map disp_kind s.dispatchers) s.groups) s.agents) mboxes
+          (subst (λ n. All (IsBuiltAgent (n + length names.mboxes) (length s.messages) (length s.texts) (map disp_kind s.dispatchers) s.groups) s.agents) agents
+          (subst (λ n. All (IsBuiltAgent (length names.agents + length names.mboxes) n (length s.texts) (map disp_kind s.dispatchers) s.groups) s.agents) messages
+          (subst (λ n. All (IsBuiltAgent (length names.agents + length names.mboxes) (length names.messages) (length s.texts) n s.groups) s.agents) (sym h.kinds) (all_of _ s.agents (k.agents (omega (arith, agents)))))));
       names = subst (λ (m : List (List ℕ)). IsDistinct bytes_eq (map agent_name s.agents ++ m)) mboxes (subst (λ n. IsDistinct bytes_eq (n ++ names.mboxes)) (sym h.agents) a.mboxes);
       texts = all_of (λ t. is_text t ≡ true) s.texts k.texts;
+      texts_numbered = k.texts_numbered;
     }
+
+one_distinct : (name : List ℕ) → IsDistinct bytes_eq (name ∷ [])
+unfolding IsDistinct
+one_distinct name = (tt, tt)
+
+nothing_kept : (names : Declared) → AreKept names (no_parts names)
+nothing_kept names = record {
+  known = refl;
+  agents = λ few. tt;
+  texts = tt;
+  texts_numbered = λ few. refl;
+  few_groups = omega arith;
+  group_names = λ d. no_group_names d;
+  groups_numbered = λ few d. no_group_uses d;
+}
 
 pub is_built : (d : Data) (shape : Shape) (names : Declared) (known : Known) (s : Build) → run shape_step no_state (fields d) ≡ Ok shape → run twice_step no_names (fields d) ≡ Ok names
     → run known_step (knows names) (fields d) ≡ Ok known → run build_step (no_parts known.names) (fields d) ≡ Ok s → IsBuilt s
-unfolding messages_of mboxes_of
+unfolding messages_of mboxes_of disps_of
 is_built d shape names known s e f g h =
     let passed = passed_all names no_names no_state shape (knows names) known (fields d) refl e f g in
     let build : run build_step (no_parts names) (fields d) ≡ Ok s = subst (λ n. run build_step (no_parts n) (fields d) ≡ Ok s) passed.0 h in
-    let distinct : AreDistinct names = run_keeps twice_step (λ v. Unit {0}) AreDistinct distinct_step no_names names (fields d) (any_visit (fields d)) (record { messages = no_distinct; mboxes = no_distinct; named = tt }) f in
-    let kept : AreKept names s = run_keeps build_step (EntersFine names) (AreKept names) (kept_step names) (no_parts names) s (fields d) (scene_fine names d passed.1) (record { known = refl; agents = λ few. tt; texts = tt }) build in
-    let named : HaveNames names s = run_both twice_step build_step HaveNames names_step no_names names (no_parts names) s (fields d) (record { messages = refl; agents = refl }) f build in
+    let fine = scene_fine names d passed.1 in
+    let distinct : AreDistinct names = run_keeps twice_step (λ v. Unit {0}) AreDistinct distinct_step no_names names (fields d) (any_visit (fields d)) (record { messages = no_distinct; dispatchers = one_distinct (codes "default"); mboxes = no_distinct; named = tt }) f in
+    let have : HaveNames names s = run_both twice_step build_step HaveNames names_step no_names names (no_parts names) s (fields d) (record { messages = refl; dispatchers = refl; kinds = refl; agents = refl }) f build in
     let messages : length s.messages ≤ total is_message (fields d) = omega (arith, counted build_step messages_of is_message message_step (no_parts names) s (fields d) build) in
     let mboxes : length names.mboxes ≤ total mboxes_named (fields d) = omega (arith, counted twice_step mboxes_of mboxes_named mbox_step no_names names (fields d) f) in
-    built_from names s kept named distinct (omega (arith, messages, few_messages names d passed.1)) (omega (arith, mboxes, few_mboxes names d passed.1))
+    let dispatchers : length names.dispatchers ≤ total is_dispatcher (fields d) = omega (arith, counted twice_step disps_of is_dispatcher disp_step no_names names (fields d) f) in
+    let disps : HasFewDisps names = few_disps names s have (omega (arith, dispatchers, few_dispatchers names d passed.1)) in
+    let kept : AreKept names s = run_keeps build_step (EntersFine names) (AreKept names) (kept_step names disps) (no_parts names) s (fields d) fine (nothing_kept names) build in
+    let named : AreNamed s = run_keeps build_step (EntersFine names) AreNamed (named_step names) (no_parts names) s (fields d) fine (record { messages = tt; coops = tt; default = refl; dispatchers = (default_is_disp, tt) }) build in
+    built_from names s kept named have distinct disps (omega (arith, messages, few_messages names d passed.1)) (omega (arith, mboxes, few_mboxes names d passed.1))
 
 -- ---- the scene of the parts
 
@@ -653,81 +954,195 @@ some_one : {X : Type 0} (xs : List X) → is_empty xs ≡ false → 0 < length x
 some_one [] e = absurd (true≢false e)
 some_one (x ∷ xs) e = omega arith
 
-is_agent : (s : SceneParts) (a : AgentDef) → IsBuiltAgent (length s.agents + length s.mboxes) (length s.messages) (length s.texts) a → IsAgent s a
-is_agent s a h = record {
-  named = h.named;
-  coop = h.coop;
-  vars = h.vars;
-  tree = h.tree;
-  no_limits = h.no_limits;
-  state_names = h.state_names;
-  each_state_once = h.each_state_once;
-  few_rows = h.few_rows;
-  rows = λ i d l. let row = h.rows i d l in record { mbox = row.mbox; msg = row.msg; state = row.state; kind = row.kind; not_safe = row.not_safe };
-  row_ids = h.row_ids;
-  each_row_id_once = h.each_row_id_once;
-  few_filters = h.few_filters;
-  filters = λ i d l. let filter = h.filters i d l in record { mbox = filter.mbox; msg = filter.msg; field = filter.field };
-  each_filter_id_once = h.each_filter_id_once;
-  code = h.code;
-  bodies = h.bodies;
-  parts = h.parts;
-}
+abbrev parts : Build → Option (List ℕ) → SceneParts
+parts b coop = parts_of coop b
 
-text_short : (b c : Bool) (n : ℕ) → nat_le n 64 ≡ b → (b && c) ≡ true → n ≤ 64
-text_short true c n l e = leb-true n 64 l
-text_short false c n l e = absurd (true≢false (sym e))
+kind_there : (ds : List DispDef) (n : ℕ) → slice_index_or (map disp_kind ds) n OneThread ≡ (slice_index_or ds n default_disp).kind
+kind_there [] zero = refl
+kind_there [] (suc n) = refl
+kind_there (d ∷ ds) zero = refl
+kind_there (d ∷ ds) (suc n) = kind_there ds n
 
-short_text : (t : List ℕ) → is_text t ≡ true → length t ≤ 64
-short_text t e = text_short (nat_le (length t) 64) (list_all is_text_byte t) (length t) refl e
+groups_there : (b : Build) (coop : Option (List ℕ)) (d : DispId) → d.0 < length b.dispatchers → scene_groups (parts b coop) d ≡ names_for d b.groups
+groups_there b coop d l = get_or-each_below (names_at b.groups) (length b.dispatchers) d.0 [] l
 
-checked_parts : (name : List ℕ) (b : Build) → IsBuilt b → exceeds b ≡ false → length name ≤ 32 → IsDistinct bytes_eq b.texts → IsChecked (parts_of name b)
-checked_parts name b built few short_one distinct =
-    let sizes = or_no (nat_lt 4096 (length b.agents)) (nat_lt 4096 (length b.texts)) few in
-    let agents : length b.agents ≤ 4096 = ltb-false 4096 (length b.agents) sizes.0 in
+is_agent : (b : Build) (coop : Option (List ℕ)) (a : AgentDef) → IsBuiltAgent (length b.agents + length b.names.mboxes) (length b.messages) (length b.texts) (map disp_kind b.dispatchers) b.groups a → IsAgent (parts b coop) a
+is_agent b coop a h =
+    let on : a.disp.0 < length b.dispatchers = omega (arith, h.disp, length_map disp_kind b.dispatchers) in
     record {
-      few_agents = agents;
-      scene = λ some_agent admitted. record {
-        few_messages = built.few_messages;
-        message_names = built.message_names;
-        few_mboxes = built.few_mboxes;
-        one_coop = refl;
-        coops = all_of (IsCoop (parts_of name b)) (coop_of name b ∷ []) (record { named = short_one; first = refl; count = omega (arith, agents) }, tt);
-        some_agent = some_agent;
-        few_agents = agents;
-        agents = λ i d l. is_agent (parts_of name b) (get_or b.agents i d) (built.agents i d l);
-        admitted = admitted;
-        names = built.names;
-        few_texts = ltb-false 4096 (length b.texts) sizes.1;
-        texts = λ i d l. short_text (get_or b.texts i d) (built.texts i d l);
-        each_text_once = distinct;
-      };
+      named = h.named;
+      coop = h.coop;
+      disp = on;
+      group = subst (λ k. IsGroup k (length (scene_groups (parts b coop) a.disp)) a.group) (kind_there b.dispatchers a.disp.0)
+          (subst (λ names. IsGroup (slice_index_or (map disp_kind b.dispatchers) a.disp.0 OneThread) (length names) a.group) (sym (groups_there b coop a.disp on)) h.group);
+      priority = h.priority;
+      vars = h.vars;
+      tree = h.tree;
+      no_limits = h.no_limits;
+      state_names = h.state_names;
+      states_named = h.states_named;
+      each_state_once = h.each_state_once;
+      few_rows = h.few_rows;
+      rows = λ i d l. let row = h.rows i d l in record { mbox = row.mbox; msg = row.msg; state = row.state; kind = row.kind; not_safe = row.not_safe };
+      row_ids = h.row_ids;
+      rows_named = h.rows_named;
+      each_row_id_once = h.each_row_id_once;
+      few_filters = h.few_filters;
+      filters = λ i d l. let filter = h.filters i d l in record { mbox = filter.mbox; msg = filter.msg; field = filter.field };
+      filters_named = h.filters_named;
+      each_filter_id_once = h.each_filter_id_once;
+      code = h.code;
+      bodies = h.bodies;
+      parts = h.parts;
     }
 
-abbrev pub counted_coop : List ℕ → ℕ → CoopDef
-counted_coop name n = record { name = name; first = record { 0 = 0 }; count = narrow n }
+-- ---- agents by number and agents in a list
 
-pub is_checked : (name : List ℕ) (b : Build) (n : ℕ) (coops : List CoopDef) (mboxes texts : List (List ℕ)) → IsBuilt b → exceeds b ≡ false → length name ≤ 32 → IsDistinct bytes_eq b.texts
-    → n ≡ length b.agents → counted_coop name n ∷ [] ≡ coops → b.names.mboxes ≡ mboxes → b.texts ≡ texts → IsChecked (record { messages = b.messages; mboxes = mboxes; coops = coops; agents = b.agents; texts = texts })
-is_checked name b n coops mboxes texts built few short_one distinct l c m t =
-    let same : coop_of name b ∷ [] ≡ coops = ap (λ (k : ℕ). counted_coop name k ∷ []) (sym l) ∙ c in
-    subst (λ q. IsChecked (record { messages = b.messages; mboxes = mboxes; coops = coops; agents = b.agents; texts = q })) t
-    (subst (λ q. IsChecked (record { messages = b.messages; mboxes = q; coops = coops; agents = b.agents; texts = b.texts })) m
-    (subst (λ q. IsChecked (record { messages = b.messages; mboxes = b.names.mboxes; coops = q; agents = b.agents; texts = b.texts })) same (checked_parts name b built few short_one distinct)))
+-- what a number stands for, instead of the number
+split_uses : {X Y : Type 0} (p : X → Bool) (f : X → Option Y) (x : X) (xs : List X) → filter_map f (filter p (x ∷ xs)) ≡ filter_map f (filter p (x ∷ [])) ++ filter_map f (filter p xs)
+split_uses p f x xs = ap (filter_map f) (filter-append p (x ∷ []) xs) ∙ filter_map-append f (filter p (x ∷ [])) (filter p xs)
 
-pub is_parts : (name : List ℕ) (b : Build) (n : ℕ) (coops : List CoopDef) (mboxes texts : List (List ℕ)) → n ≡ length b.agents → counted_coop name n ∷ [] ≡ coops → b.names.mboxes ≡ mboxes → b.texts ≡ texts
-    → parts_of name b ≡ record { messages = b.messages; mboxes = mboxes; coops = coops; agents = b.agents; texts = texts }
-is_parts name b n coops mboxes texts l c m t =
-    let same : coop_of name b ∷ [] ≡ coops = ap (λ (k : ℕ). counted_coop name k ∷ []) (sym l) ∙ c in
-    ap (λ q. record { messages = b.messages; mboxes = b.names.mboxes; coops = q; agents = b.agents; texts = b.texts }) same
-    ∙ (ap (λ q. record { messages = b.messages; mboxes = q; coops = coops; agents = b.agents; texts = b.texts }) m
-    ∙ ap (λ q. record { messages = b.messages; mboxes = mboxes; coops = coops; agents = b.agents; texts = q }) t)
+one_use : {X Y : Type 0} (g : ℕ → X) (f : X → Option Y) (i : ℕ) (b : Bool) → filter_map (λ k. f (g k)) (cond b (i ∷ []) []) ≡ filter_map f (cond b (g i ∷ []) [])
+one_use g f i true = refl
+one_use g f i false = refl
+
+uses_of : {X Y : Type 0} (g : ℕ → X) (p : X → Bool) (f : X → Option Y) (is : List ℕ) → filter_map (λ i. f (g i)) (filter (λ i. p (g i)) is) ≡ filter_map f (filter p (map g is))
+uses_of g p f [] = refl
+uses_of g p f (i ∷ is) =
+    split_uses (λ k. p (g k)) (λ k. f (g k)) i is
+    ∙ (ap2_append (one_use g f i (p (g i))) (uses_of g p f is) ∙ sym (split_uses p f (g i) (map g is)))
+
+map-each_below : {X Y : Type 0} (h : X → Y) (f : ℕ → X) (n : ℕ) → map h (each_below f n) ≡ each_below (λ k. h (f k)) n
+unfolding each_below
+map-each_below h f zero = refl
+map-each_below h f (suc n) = map_push h (each_below f n) (f n) ∙ ap (λ l. l ++ h (f n) ∷ []) (map-each_below h f n)
+
+texts_by_number : (s : SceneParts) (n : ℕ) → n ≤ length s.agents → texts_to s n ≡ texts_of (take n s.agents)
+texts_by_number s zero l = refl
+texts_by_number s (suc n) l =
+    ap (λ t. t ++ text_uses (scene_agent s (agent_number n)).code) (texts_by_number s n (omega arith))
+    ∙ (sym (texts-push (take n s.agents) (scene_agent s (agent_number n))) ∙ ap texts_of (sym (take-suc s.agents n no_agent (omega arith))))
+
+all_texts : (s : SceneParts) → texts_to s (length s.agents) ≡ texts_of s.agents
+all_texts s = texts_by_number s (length s.agents) (omega arith) ∙ ap texts_of (take_all (length s.agents) s.agents (omega arith))
+
+all_uses : (s : SceneParts) (d : DispId) → group_uses s d ≡ uses_on d s.agents
+all_uses s d =
+    uses_of (λ k. scene_agent s (agent_number k)) (is_on d) agent_group (each_below agent_number (length s.agents))
+    ∙ ap (uses_on d) (map-each_below (λ k. scene_agent s (agent_number k)) agent_number (length s.agents) ∙ each_below-elements s.agents no_agent)
+
+-- ---- groups, lanes and cooperations
+
+are_groups : (b : Build) (coop : Option (List ℕ)) (d : DispId) → d.0 < length b.dispatchers → AreBuiltGroups b d → AreGroups (parts b coop) d
+are_groups b coop d l h =
+    let same : scene_groups (parts b coop) d ≡ names_for d b.groups = groups_there b coop d l in
+    record {
+      named = subst (All (λ name. is_name name ≡ true)) (sym same) h.named;
+      each_once = subst (IsDistinct bytes_eq) (sym same) h.each_once;
+      numbered = ap (given_after 0) (all_uses (parts b coop) d) ∙ (h.numbered ∙ ap (λ names. Some (length names)) (sym same));
+    }
+
+few_uses : (d : DispId) (agents : List AgentDef) → length (uses_on d agents) ≤ length agents
+few_uses d agents = omega (arith, filter_map-short agent_group (filter (is_on d) agents), filter-short (is_on d) agents)
+
+few_groups : (b : Build) (coop : Option (List ℕ)) (d : DispId) → d.0 < length b.dispatchers → length b.agents ≤ 4096 → AreBuiltGroups b d → length (scene_groups (parts b coop) d) ≤ 4096
+few_groups b coop d l few h =
+    omega (arith, ap length (groups_there b coop d l), given-few 0 (length (names_for d b.groups)) (uses_on d b.agents) h.numbered, few_uses d b.agents, few)
+
+is_bound : (b : Build) (coop : Option (List ℕ)) → IsBuilt b → length b.agents ≤ 4096 → AreBound (parts b coop)
+is_bound b coop built few = record {
+  few = few;
+  few_dispatchers = built.few_dispatchers;
+  groups = length-each_below (names_at b.groups) (length b.dispatchers);
+  few_groups = λ d l. few_groups b coop d l few (built.groups few d);
+  agents = λ a l. omega (arith, (built.agents a.0 no_agent l).disp, length_map disp_kind b.dispatchers);
+}
+
+-- the one cooperation has all agents
+record IsOneCoop (s : SceneParts) (coops : List CoopDef) : Type 0 where
+  one : length coops ≡ 1
+  each : All (IsCoop s) coops
+
+is_one_coop : (s : SceneParts) (names : List (List ℕ)) → All (λ name. is_name name ≡ true) names → length s.agents ≤ 4096 → is_empty (coops_of (only names) (length s.agents)) ≡ false → IsOneCoop s (coops_of (only names) (length s.agents))
+is_one_coop s [] named few some = absurd (true≢false some)
+is_one_coop s (name ∷ []) named few some = record {
+  one = refl;
+  each = all_of (IsCoop s) (coops_of (Some name) (length s.agents)) (record { named = named 0 [] (omega arith); first = refl; count = omega (arith, few) }, tt);
+}
+is_one_coop s (name ∷ other ∷ more) named few some = absurd (true≢false some)
+
+all_parts : Build → SceneParts
+all_parts b = parts_of (only b.coops) b
+
+scene_of_parts : (b : Build) → IsBuilt b → IsDistinct bytes_eq b.texts → exceeds (all_parts b) ≡ false → is_empty (all_parts b).coops ≡ false → 0 < length b.agents → ((a : AgentId) → a.0 < length b.agents → definition_fault (all_parts b) a ≡ None) → IsScene (all_parts b)
+unfolding all_parts
+scene_of_parts b built distinct few coop some_agent admitted =
+    let first = or_no (nat_lt 4096 (length b.agents)) (nat_lt 4096 (length b.texts) || nat_lt 256 (lanes (all_parts b))) few in
+    let second = or_no (nat_lt 4096 (length b.texts)) (nat_lt 256 (lanes (all_parts b))) first.1 in
+    let agents : length b.agents ≤ 4096 = ltb-false 4096 (length b.agents) first.0 in
+    let texts : length b.texts ≤ 4096 = ltb-false 4096 (length b.texts) second.0 in
+    let one = is_one_coop (all_parts b) b.coops built.coops agents coop in
+    record {
+      few_messages = built.few_messages;
+      messages_named = built.messages_named;
+      message_names = built.message_names;
+      few_mboxes = built.few_mboxes;
+      mboxes_named = built.mboxes;
+      default = built.default;
+      few_dispatchers = built.few_dispatchers;
+      dispatchers = built.dispatchers;
+      dispatcher_names = built.dispatcher_names;
+      all_groups = length-each_below (names_at b.groups) (length b.dispatchers);
+      groups = λ d l. are_groups b (only b.coops) d l (built.groups agents d);
+      few_lanes = ltb-false 256 (lanes (all_parts b)) second.1;
+      one_coop = one.one;
+      coops = one.each;
+      some_agent = some_agent;
+      few_agents = agents;
+      agents = λ i d l. is_agent b (only b.coops) (get_or b.agents i d) (built.agents i d l);
+      admitted = admitted;
+      names = built.names;
+      few_texts = texts;
+      texts = built.texts;
+      texts_numbered = ap (given_after 0) (all_texts (all_parts b)) ∙ built.texts_numbered texts;
+      each_text_once = distinct;
+    }
+
+checked_parts : (b : Build) → IsBuilt b → IsDistinct bytes_eq b.texts → IsChecked (all_parts b)
+unfolding all_parts
+checked_parts b built distinct = record {
+  bound = λ few. is_bound b (only b.coops) built few;
+  scene = λ few coop some_agent admitted. scene_of_parts b built distinct few coop some_agent admitted;
+}
+
+-- the parts as they are put together
+abbrev pub made_of : Build → List (List ℕ) → List (List (List ℕ)) → List CoopDef → List (List ℕ) → SceneParts
+made_of b mboxes groups coops texts = record { messages = b.messages; mboxes = mboxes; dispatchers = b.dispatchers; groups = groups; coops = coops; agents = b.agents; texts = texts }
+
+pub is_parts : (b : Build) (o : Option (List ℕ)) (n m : ℕ) (coops : List CoopDef) (mboxes texts : List (List ℕ)) (groups : List (List (List ℕ)))
+    → o ≡ only b.coops → n ≡ length b.agents → m ≡ length b.dispatchers → coops_of o n ≡ coops → b.names.mboxes ≡ mboxes → b.texts ≡ texts → group_lists b.groups m ≡ groups
+    → parts_of (only b.coops) b ≡ made_of b mboxes groups coops texts
+is_parts b o n m coops mboxes texts groups c a d e f g h =
+    let same_coops : coops_of (only b.coops) (length b.agents) ≡ coops = ap (λ x. coops_of x (length b.agents)) (sym c) ∙ (ap (coops_of o) (sym a) ∙ e) in
+    let same_groups : group_lists b.groups (length b.dispatchers) ≡ groups = ap (group_lists b.groups) (sym d) ∙ h in
+    ap (λ x. made_of b b.names.mboxes (group_lists b.groups (length b.dispatchers)) x b.texts) same_coops
+    ∙ (ap (λ x. made_of b x (group_lists b.groups (length b.dispatchers)) coops b.texts) f
+    ∙ (ap (λ x. made_of b mboxes (group_lists b.groups (length b.dispatchers)) coops x) g
+    ∙ ap (λ x. made_of b mboxes x coops texts) same_groups))
+
+pub is_checked : (b : Build) (s : SceneParts) → IsBuilt b → IsDistinct bytes_eq b.texts → parts_of (only b.coops) b ≡ s → IsChecked s
+unfolding all_parts
+is_checked b s built distinct same = subst IsChecked same (checked_parts b built distinct)
 
 no_fault_there : {X : Type 0} (o : Option X) → is_some o ≡ false → o ≡ None
 no_fault_there None e = refl
 no_fault_there (Some x) e = absurd (true≢false e)
 
-pub admitted_scene : (s : SceneParts) → IsChecked s → is_refused s ≡ false → IsScene s
-admitted_scene s h e =
+pub admitted_scene : (s : SceneParts) → IsChecked s → exceeds s ≡ false → is_empty s.coops ≡ false → is_refused s ≡ false → IsScene s
+admitted_scene s h few coop e =
     let p = or_no (is_empty s.agents) (is_some (first_fault s)) e in
-    h.scene (some_one s.agents p.0) (λ a l. none-first_below (fault_of s) (length s.agents) (no_fault_there (first_fault s) p.1) a.0 l)
+    h.scene few coop (some_one s.agents p.0) (λ a l. none-first_below (fault_of s) (length s.agents) (no_fault_there (first_fault s) p.1) a.0 l)
+
+-- where there aren't too many agents, the lanes can be counted
+pub few_exceed : (s : SceneParts) → length s.agents ≤ 4096 → length s.texts ≤ 4096 → nat_lt 256 (lanes s) ≡ exceeds s
+few_exceed s few texts = rw (le-ltb 4096 (length s.agents) few, le-ltb 4096 (length s.texts) texts) refl

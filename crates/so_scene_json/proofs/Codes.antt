@@ -21,7 +21,9 @@ use Rattle.so_code.specs.declared.instr.Body.TheVariants as body
 use Rattle.so_code.specs.Bodies.{bodies_in}
 use Rattle.so_code.specs.Shape.{IsActBefore, AreActsBefore, Part, plain, acts_code, flatten, may_switch, IsPart, IsCode, AreInOrder, AreAgentBodies, body_of, agent_bodies, state_bodies, row_number as number_of_row}
 use Rattle.so_code.proofs.BuildLaws.{structured, plain_code, plain_acts, bodies_in-flatten}
+use Rattle.so_lists.specs.Lists.{given_after}
 use Rattle.so_lists.proofs.Filters.{each-append, each-weaker}
+use Rattle.so_lists.proofs.Given.{given-append, given-old, given-next}
 use Rattle.so_scene.specs.Words.{is_text}
 use Rattle.so_scene_json.specs.Acts.{act_parts}
 use Rattle.so_scene_json.specs.ActTable.{is_allowed}
@@ -33,7 +35,7 @@ use Rattle.so_ids.specs.declared.RowId.{RowId}
 use Rattle.so_ids.specs.declared.StateId.{StateId}
 use Rattle.so_ids.specs.declared.Target.{Target}
 use Rattle.so_ids.specs.declared.Target.TheVariants.{Mbox, Chain}
-use Rattle.so_scene.specs.Checked.{Named, IsTarget, HasId, NamesWithin, row_number}
+use Rattle.so_scene.specs.Checked.{Named, IsTarget, HasId, NamesWithin, row_number, text_uses}
 use Rattle.so_scene_json.specs.declared.scope.Scope.{Scope}
 use Rattle.so_scene_json.specs.declared.table.Space.TheVariants as space
 use Rattle.so_scene_json.specs.Kept.{named_among}
@@ -184,6 +186,23 @@ count_fine rest i ds =
     let read : read_or 0 (count_of rest) (get_item i ds) ≤ rest = read_fine (λ k. k ≤ rest) 0 (count_of rest) (get_item i ds) (omega arith) (λ d. then_fine (λ k. k ≤ rest) (integer_of d) (natural_up_to rest) (natural_fine rest)) in
     omega (arith, read, min-le_left (read_or 0 (count_of rest) (get_item i ds)) (2 ^ 32 - 1))
 
+-- ---- the texts of a code
+
+pub text_uses-append : (xs ys : List Instr) → text_uses (xs ++ ys) ≡ text_uses xs ++ text_uses ys
+text_uses-append [] ys = refl
+text_uses-append (instr.Log text args ∷ xs) ys = ap (λ l. text.0 ∷ l) (text_uses-append xs ys)
+text_uses-append (other ∷ xs) ys = text_uses-append xs ys
+
+numbers_join : (n k m : ℕ) (xs ys : List Instr) → given_after n (text_uses xs) ≡ Some k → given_after k (text_uses ys) ≡ Some m → given_after n (text_uses (xs ++ ys)) ≡ Some m
+numbers_join n k m xs ys e f = ap (given_after n) (text_uses-append xs ys) ∙ (given-append n k (text_uses xs) (text_uses ys) e ∙ f)
+
+-- an instruction that logs nothing
+abbrev IsQuiet : Instr → Type 0
+IsQuiet i = text_uses (i ∷ []) ≡ []
+
+none_given : (n : ℕ) (i : Instr) → IsQuiet i → given_after n (text_uses (i ∷ [])) ≡ Some n
+none_given n i q = ap (given_after n) q
+
 -- ---- one act
 
 -- what the acts of an agent may name, with so many texts
@@ -203,10 +222,11 @@ record Wrote (names : Declared) (may : Bool) (rest : ℕ) (w v : Writer) : Type 
   grows : length w.texts ≤ length v.texts
   scope : v.scope ≡ w.scope
   named : HasFewIds w.scope → NamesWithin (allows names w.scope (length v.texts)) one
+  numbered : length v.texts ≤ 4096 → given_after (length w.texts) (text_uses (one ∷ [])) ≡ Some (length v.texts)
   texts : AllByRecursion (λ t. is_text t ≡ true) w.texts → AllByRecursion (λ t. is_text t ≡ true) v.texts
 
-simple : (names : Declared) (may : Bool) (rest : ℕ) (w : Writer) (i : Instr) → IsActBefore may i rest → (HasFewIds w.scope → NamesWithin (allows names w.scope (length w.texts)) i) → Wrote names may rest w (with_instr i w)
-simple names may rest w i f n = record { one = i; same = refl; fine = f; grows = omega arith; scope = refl; named = n; texts = λ a. a }
+simple : (names : Declared) (may : Bool) (rest : ℕ) (w : Writer) (i : Instr) → IsQuiet i → IsActBefore may i rest → (HasFewIds w.scope → NamesWithin (allows names w.scope (length w.texts)) i) → Wrote names may rest w (with_instr i w)
+simple names may rest w i q f n = record { one = i; same = refl; fine = f; grows = omega arith; scope = refl; named = n; numbered = λ l. none_given (length w.texts) i q; texts = λ a. a }
 
 -- what is no switch
 never : (may : Bool) → false ≡ true → may ≡ true
@@ -219,6 +239,11 @@ send_fine : (may : Bool) (rest : ℕ) (a m : Option ℕ) (args : Args) → AreAr
 send_fine may rest (Some a) (Some m) args h = record { act = refl; switch = never may; parts = h; jumps = omega arith }
 send_fine may rest (Some a) None args h = idle_fine may rest
 send_fine may rest None m args h = idle_fine may rest
+
+send_quiet : (a m : Option ℕ) (args : Args) → IsQuiet (send_instr a m args)
+send_quiet (Some a) (Some m) args = refl
+send_quiet (Some a) None args = refl
+send_quiet None m args = refl
 
 send_named : (n : Named) (a m : Option ℕ) (args : Args) → OnSome (λ k. k < n.mboxes) a → OnSome (λ k. k < n.messages) m → NamesWithin n (send_instr a m args)
 unfolding OnSome
@@ -262,14 +287,14 @@ filter_there ids name None filter few e f = absurd cc
 filter_there ids name (Some k) filter few e f = let its : filter_number k ≡ filter = cc in subst (λ (r : FilterId). HasId ids r.0) its (id_there ids name k few e)
 
 -- an act on a row of the agent, and on a filter
-row_wrote : (names : Declared) (may : Bool) (rest : ℕ) (w : Writer) (ds : Items) (f : RowId → Instr) → ((row : RowId) → IsActBefore may (f row) rest) → ((n : Named) (row : RowId) → HasId n.rows row.0 → NamesWithin n (f row)) → Wrote names may rest w (with_instr (or_idle f (row_at w.scope ds)) w)
-row_wrote names may rest w ds f fine names_it =
-    simple names may rest w _ (or_fine (λ i. IsActBefore may i rest) f (row_at w.scope ds) (idle_fine may rest) (λ row e. fine row))
+row_wrote : (names : Declared) (may : Bool) (rest : ℕ) (w : Writer) (ds : Items) (f : RowId → Instr) → ((row : RowId) → IsQuiet (f row)) → ((row : RowId) → IsActBefore may (f row) rest) → ((n : Named) (row : RowId) → HasId n.rows row.0 → NamesWithin n (f row)) → Wrote names may rest w (with_instr (or_idle f (row_at w.scope ds)) w)
+row_wrote names may rest w ds f quiet fine names_it =
+    simple names may rest w _ (or_fine IsQuiet f (row_at w.scope ds) refl (λ row e. quiet row)) (or_fine (λ i. IsActBefore may i rest) f (row_at w.scope ds) (idle_fine may rest) (λ row e. fine row))
     (λ few. or_fine (NamesWithin (allows names w.scope (length w.texts))) f (row_at w.scope ds) tt (λ row e. names_it (allows names w.scope (length w.texts)) row (row_there w.scope.rows (string_at 0 ds) (number_with w.scope.rows (string_at 0 ds)) row few.rows refl e)))
 
-filter_wrote : (names : Declared) (may : Bool) (rest : ℕ) (w : Writer) (ds : Items) (f : FilterId → Instr) → ((filter : FilterId) → IsActBefore may (f filter) rest) → ((n : Named) (filter : FilterId) → HasId n.filters filter.0 → NamesWithin n (f filter)) → Wrote names may rest w (with_instr (or_idle f (filter_at w.scope ds)) w)
-filter_wrote names may rest w ds f fine names_it =
-    simple names may rest w _ (or_fine (λ i. IsActBefore may i rest) f (filter_at w.scope ds) (idle_fine may rest) (λ filter e. fine filter))
+filter_wrote : (names : Declared) (may : Bool) (rest : ℕ) (w : Writer) (ds : Items) (f : FilterId → Instr) → ((filter : FilterId) → IsQuiet (f filter)) → ((filter : FilterId) → IsActBefore may (f filter) rest) → ((n : Named) (filter : FilterId) → HasId n.filters filter.0 → NamesWithin n (f filter)) → Wrote names may rest w (with_instr (or_idle f (filter_at w.scope ds)) w)
+filter_wrote names may rest w ds f quiet fine names_it =
+    simple names may rest w _ (or_fine IsQuiet f (filter_at w.scope ds) refl (λ filter e. quiet filter)) (or_fine (λ i. IsActBefore may i rest) f (filter_at w.scope ds) (idle_fine may rest) (λ filter e. fine filter))
     (λ few. or_fine (NamesWithin (allows names w.scope (length w.texts))) f (filter_at w.scope ds) tt (λ filter e. names_it (allows names w.scope (length w.texts)) filter (filter_there w.scope.filters (string_at 0 ds) (number_with w.scope.filters (string_at 0 ds)) filter (omega (arith, few.filters)) refl e)))
 
 -- ---- a switch
@@ -284,10 +309,16 @@ state_there scope name (Some k) s e f = let its : state_id k ≡ s = cc in subst
 
 switch_wrote : (names : Declared) (may : Bool) (rest : ℕ) (w : Writer) (ds : Items) → may ≡ true → Wrote names may rest w (with_instr (or_idle instr.Switch (state_at w.scope ds)) w)
 switch_wrote names may rest w ds h =
-    simple names may rest w _ (or_fine (λ i. IsActBefore may i rest) instr.Switch (state_at w.scope ds) (idle_fine may rest) (λ s e. record { act = refl; switch = λ q. h; parts = tt; jumps = omega arith }))
+    simple names may rest w _ (or_fine IsQuiet instr.Switch (state_at w.scope ds) refl (λ s e. refl)) (or_fine (λ i. IsActBefore may i rest) instr.Switch (state_at w.scope ds) (idle_fine may rest) (λ s e. record { act = refl; switch = λ q. h; parts = tt; jumps = omega arith }))
     (λ few. or_fine (NamesWithin (allows names w.scope (length w.texts))) instr.Switch (state_at w.scope ds) tt (λ s e. state_there w.scope (string_at 0 ds) (state_number w.scope (string_at 0 ds)) s refl e))
 
 -- ---- a text
+
+-- a new text has the next number
+next_text : (n m : ℕ) → m ≡ n + 1 → m ≤ 4096 → given_after n (narrow n ∷ []) ≡ Some m
+next_text n m e few =
+    let its : narrow n ≡ n = omega (arith, e, few) in
+    ap (λ k. given_after n (k ∷ [])) its ∙ (given-next n ∙ ap Some (sym e))
 
 text_wrote : (names : Declared) (may : Bool) (rest : ℕ) (w : Writer) (t : List ℕ) (args : Args) (o : Option ℕ) → OnSome (λ k. k < length w.texts) o → is_text t ≡ true → AreArgs args
     → Wrote names may rest w (with_instr (instr.Log (record { 0 = number_or_next o w.texts }) args) (record w { texts = texts_with o t w.texts }))
@@ -299,6 +330,7 @@ text_wrote names may rest w t args (Some n) h is are = record {
   grows = omega arith;
   scope = refl;
   named = λ few. omega (arith, h, min-le_left n (2 ^ 32 - 1));
+  numbered = λ few. given-old (length w.texts) (narrow n) (omega (arith, h, min-le_left n (2 ^ 32 - 1)));
   texts = λ a. a;
 }
 text_wrote names may rest w t args None h is are = record {
@@ -308,6 +340,7 @@ text_wrote names may rest w t args None h is are = record {
   grows = omega (arith, length-append w.texts (t ∷ []));
   scope = refl;
   named = λ few. omega (arith, length-append w.texts (t ∷ []), min-le_left (length w.texts) (2 ^ 32 - 1));
+  numbered = λ few. next_text (length w.texts) (length (w.texts ++ t ∷ [])) (length-append w.texts (t ∷ [])) few;
   texts = λ a. each-append (λ t. is_text t ≡ true) w.texts (t ∷ []) a (is, tt);
 }
 
@@ -325,24 +358,24 @@ MaySwitch may other = Unit {0}
 
 wrote_word : (names : Declared) (may : Bool) (rest : ℕ) (w : Writer) (wd : Word) (ds : Items) → MaySwitch may wd → Wrote names may rest w (word_written names rest w wd ds)
 unfolding MaySwitch
-wrote_word names may rest w word.Set ds h = simple names may rest w _ (record { act = refl; switch = never may; parts = (dest_fine 0 ds, operand_fine 1 ds); jumps = omega arith }) (λ few. tt)
-wrote_word names may rest w word.Add ds h = simple names may rest w _ (record { act = refl; switch = never may; parts = (dest_fine 0 ds, operand_fine 1 ds, operand_fine 2 ds); jumps = omega arith }) (λ few. tt)
-wrote_word names may rest w word.Sub ds h = simple names may rest w _ (record { act = refl; switch = never may; parts = (dest_fine 0 ds, operand_fine 1 ds, operand_fine 2 ds); jumps = omega arith }) (λ few. tt)
-wrote_word names may rest w word.Mul ds h = simple names may rest w _ (record { act = refl; switch = never may; parts = (dest_fine 0 ds, operand_fine 1 ds, operand_fine 2 ds); jumps = omega arith }) (λ few. tt)
-wrote_word names may rest w word.If ds h = simple names may rest w _ (record { act = refl; switch = never may; parts = (operand_fine 0 ds, operand_fine 2 ds); jumps = count_fine rest 3 ds }) (λ few. tt)
-wrote_word names may rest w word.Skip ds h = simple names may rest w _ (record { act = refl; switch = never may; parts = tt; jumps = count_fine rest 0 ds }) (λ few. tt)
-wrote_word names may rest w word.Throw ds h = simple names may rest w _ (record { act = refl; switch = never may; parts = operand_fine 0 ds; jumps = omega arith }) (λ few. tt)
+wrote_word names may rest w word.Set ds h = simple names may rest w _ refl (record { act = refl; switch = never may; parts = (dest_fine 0 ds, operand_fine 1 ds); jumps = omega arith }) (λ few. tt)
+wrote_word names may rest w word.Add ds h = simple names may rest w _ refl (record { act = refl; switch = never may; parts = (dest_fine 0 ds, operand_fine 1 ds, operand_fine 2 ds); jumps = omega arith }) (λ few. tt)
+wrote_word names may rest w word.Sub ds h = simple names may rest w _ refl (record { act = refl; switch = never may; parts = (dest_fine 0 ds, operand_fine 1 ds, operand_fine 2 ds); jumps = omega arith }) (λ few. tt)
+wrote_word names may rest w word.Mul ds h = simple names may rest w _ refl (record { act = refl; switch = never may; parts = (dest_fine 0 ds, operand_fine 1 ds, operand_fine 2 ds); jumps = omega arith }) (λ few. tt)
+wrote_word names may rest w word.If ds h = simple names may rest w _ refl (record { act = refl; switch = never may; parts = (operand_fine 0 ds, operand_fine 2 ds); jumps = count_fine rest 3 ds }) (λ few. tt)
+wrote_word names may rest w word.Skip ds h = simple names may rest w _ refl (record { act = refl; switch = never may; parts = tt; jumps = count_fine rest 0 ds }) (λ few. tt)
+wrote_word names may rest w word.Throw ds h = simple names may rest w _ refl (record { act = refl; switch = never may; parts = operand_fine 0 ds; jumps = omega arith }) (λ few. tt)
 wrote_word names may rest w word.Log ds h = text_wrote names may rest w (text_at 0 ds) (args_from 1 ds) (number_in w.texts (text_at 0 ds)) (number_below w.texts (text_at 0 ds)) (text_at_fine 0 ds) (args_fine 1 ds)
 wrote_word names may rest w word.Send ds h =
-    simple names may rest w _ (send_fine may rest _ _ (args_from 2 ds) (args_fine 2 ds))
+    simple names may rest w _ (send_quiet (number_in (names_in space.Mboxes names) (string_at 0 ds)) (number_in names.messages (string_at 1 ds)) (args_from 2 ds)) (send_fine may rest _ _ (args_from 2 ds) (args_fine 2 ds))
     (λ few. send_named (allows names w.scope (length w.texts)) (number_in (names_in space.Mboxes names) (string_at 0 ds)) (number_in names.messages (string_at 1 ds)) (args_from 2 ds) (mbox_below names (string_at 0 ds)) (number_below names.messages (string_at 1 ds)))
 wrote_word names may rest w word.Switch ds h = switch_wrote names may rest w ds h
-wrote_word names may rest w word.Subscribe ds h = row_wrote names may rest w ds instr.Subscribe (λ row. record { act = refl; switch = never may; parts = tt; jumps = omega arith }) (λ n row h. h)
-wrote_word names may rest w word.Unsubscribe ds h = row_wrote names may rest w ds instr.Unsubscribe (λ row. record { act = refl; switch = never may; parts = tt; jumps = omega arith }) (λ n row h. h)
-wrote_word names may rest w word.SetFilter ds h = filter_wrote names may rest w ds instr.SetFilter (λ filter. record { act = refl; switch = never may; parts = tt; jumps = omega arith }) (λ n filter h. h)
-wrote_word names may rest w word.DropFilter ds h = filter_wrote names may rest w ds instr.DropFilter (λ filter. record { act = refl; switch = never may; parts = tt; jumps = omega arith }) (λ n filter h. h)
-wrote_word names may rest w word.Stop ds h = simple names may rest w _ (record { act = refl; switch = never may; parts = tt; jumps = omega arith }) (λ few. tt)
-wrote_word names may rest w other ds h = simple names may rest w _ (idle_fine may rest) (λ few. tt)
+wrote_word names may rest w word.Subscribe ds h = row_wrote names may rest w ds instr.Subscribe (λ row. refl) (λ row. record { act = refl; switch = never may; parts = tt; jumps = omega arith }) (λ n row h. h)
+wrote_word names may rest w word.Unsubscribe ds h = row_wrote names may rest w ds instr.Unsubscribe (λ row. refl) (λ row. record { act = refl; switch = never may; parts = tt; jumps = omega arith }) (λ n row h. h)
+wrote_word names may rest w word.SetFilter ds h = filter_wrote names may rest w ds instr.SetFilter (λ filter. refl) (λ filter. record { act = refl; switch = never may; parts = tt; jumps = omega arith }) (λ n filter h. h)
+wrote_word names may rest w word.DropFilter ds h = filter_wrote names may rest w ds instr.DropFilter (λ filter. refl) (λ filter. record { act = refl; switch = never may; parts = tt; jumps = omega arith }) (λ n filter h. h)
+wrote_word names may rest w word.Stop ds h = simple names may rest w _ refl (record { act = refl; switch = never may; parts = tt; jumps = omega arith }) (λ few. tt)
+wrote_word names may rest w other ds h = simple names may rest w _ refl (idle_fine may rest) (λ few. tt)
 
 -- where switches are allowed
 switches : Allowed → Bool
@@ -357,10 +390,10 @@ may_stand allowed other e = tt
 
 wrote_if : (names : Declared) (allowed : Allowed) (rest : ℕ) (w : Writer) (p : Word × Items) (b : Bool) → is_allowed allowed p.0 ≡ b → Wrote names (switches allowed) rest w (parts_written names rest w (if b then Some p else None))
 wrote_if names allowed rest w p true e = wrote_word names (switches allowed) rest w p.0 p.1 (may_stand allowed p.0 e)
-wrote_if names allowed rest w p false e = simple names (switches allowed) rest w _ (idle_fine (switches allowed) rest) (λ few. tt)
+wrote_if names allowed rest w p false e = simple names (switches allowed) rest w _ refl (idle_fine (switches allowed) rest) (λ few. tt)
 
 wrote_parts : (names : Declared) (allowed : Allowed) (rest : ℕ) (w : Writer) (o : Option (Word × Items)) → Wrote names (switches allowed) rest w (parts_written names rest w (if_allowed allowed o))
-wrote_parts names allowed rest w None = simple names (switches allowed) rest w _ (idle_fine (switches allowed) rest) (λ few. tt)
+wrote_parts names allowed rest w None = simple names (switches allowed) rest w _ refl (idle_fine (switches allowed) rest) (λ few. tt)
 wrote_parts names allowed rest w (Some p) = wrote_if names allowed rest w p (is_allowed allowed p.0) refl
 
 wrote_act : (names : Declared) (allowed : Allowed) (rest : ℕ) (w : Writer) (d : Data) → Wrote names (switches allowed) rest w (act_written names allowed rest w d)
@@ -410,6 +443,7 @@ record WroteActs (names : Declared) (may : Bool) (w v : Writer) (n : ℕ) : Type
   grows : length w.texts ≤ length v.texts
   scope : v.scope ≡ w.scope
   named : HasFewIds w.scope → AllByRecursion (NamesWithin (allows names w.scope (length v.texts))) acts
+  numbered : length v.texts ≤ 4096 → given_after (length w.texts) (text_uses acts) ≡ Some (length v.texts)
   texts : AllByRecursion (λ t. is_text t ≡ true) w.texts → AllByRecursion (λ t. is_text t ≡ true) v.texts
 
 same_few : (s t : Scope) → t ≡ s → HasFewIds s → HasFewIds t
@@ -427,12 +461,13 @@ one_more names may w u v rest n e one more = record {
     names_grow (allows names w.scope (length u.texts)) (allows names w.scope (length v.texts)) one.one (texts_grow names w.scope w.scope (length u.texts) (length v.texts) refl more.grows) (one.named few),
     subst (λ (x : Scope). AllByRecursion (NamesWithin (allows names x (length v.texts))) more.acts) one.scope (more.named (same_few w.scope u.scope one.scope few)),
   );
+  numbered = λ few. numbers_join (length w.texts) (length u.texts) (length v.texts) (one.one ∷ []) more.acts (one.numbered (omega (arith, few, more.grows))) (more.numbered few);
   texts = λ a. more.texts (one.texts a);
 }
 
 wrote_acts : (names : Declared) (allowed : Allowed) (w : Writer) (ds : Items) → WroteActs names (switches allowed) w (acts_written names allowed w ds) (items_len ds)
 unfolding acts_written
-wrote_acts names allowed w no_items = record { acts = []; same = sym (append-nil w.code); long = refl; fine = tt; grows = omega arith; scope = refl; named = λ few. tt; texts = λ a. a }
+wrote_acts names allowed w no_items = record { acts = []; same = sym (append-nil w.code); long = refl; fine = tt; grows = omega arith; scope = refl; named = λ few. tt; numbered = λ few. refl; texts = λ a. a }
 wrote_acts names allowed w (item d ds) = one_more names (switches allowed) w _ _ _ _ refl (wrote_act names allowed (items_len ds) w d) (wrote_acts names allowed (act_written names allowed (items_len ds) w d) ds)
 
 -- ---- bodies
@@ -445,6 +480,7 @@ record WroteParts (names : Declared) (w v : Writer) (bodies : List Body) : Type 
   grows : length w.texts ≤ length v.texts
   scope : v.scope ≡ w.scope
   named : HasFewIds w.scope → AllByRecursion (NamesWithin (allows names w.scope (length v.texts))) (flatten parts)
+  numbered : length v.texts ≤ 4096 → given_after (length w.texts) (text_uses (flatten parts)) ≡ Some (length v.texts)
   texts : AllByRecursion (λ t. is_text t ≡ true) w.texts → AllByRecursion (λ t. is_text t ≡ true) v.texts
 
 ended : (names : Declared) (may : Bool) (b : Body) (w u : Writer) (n : ℕ) → may ≡ may_switch b → WroteActs names may w u n → WroteParts names w (with_instr (instr.End b) u) (b ∷ [])
@@ -457,6 +493,8 @@ ended names may b w u n e wrote = record {
   scope = wrote.scope;
   named = λ few. subst (λ c. AllByRecursion (NamesWithin (allows names w.scope (length u.texts))) (c ++ instr.End b ∷ [])) (sym (plain_code wrote.acts))
       (each-append (NamesWithin (allows names w.scope (length u.texts))) wrote.acts (instr.End b ∷ []) (wrote.named few) (tt, tt));
+  numbered = λ few. subst (λ c. given_after (length w.texts) (text_uses (c ++ instr.End b ∷ [])) ≡ Some (length u.texts)) (sym (plain_code wrote.acts))
+      (numbers_join (length w.texts) (length u.texts) (length u.texts) wrote.acts (instr.End b ∷ []) (wrote.numbered few) refl);
   texts = wrote.texts;
 }
 
@@ -489,11 +527,13 @@ joined names w u v bs cs a b = record {
       (each-append (NamesWithin (allows names w.scope (length v.texts))) (flatten a.parts) (flatten b.parts)
       (each-weaker (NamesWithin (allows names w.scope (length u.texts))) (NamesWithin (allows names w.scope (length v.texts))) (λ i h. names_grow _ _ i (texts_grow names w.scope w.scope (length u.texts) (length v.texts) refl b.grows) h) (flatten a.parts) (a.named few))
       (subst (λ (x : Scope). AllByRecursion (NamesWithin (allows names x (length v.texts))) (flatten b.parts)) a.scope (b.named (same_few w.scope u.scope a.scope few))));
+  numbered = λ few. ap (λ c. given_after (length w.texts) (text_uses c)) (flatten-append a.parts b.parts)
+      ∙ numbers_join (length w.texts) (length u.texts) (length v.texts) (flatten a.parts) (flatten b.parts) (a.numbered (omega (arith, few, b.grows))) (b.numbered few);
   texts = λ t. b.texts (a.texts t);
 }
 
 no_bodies : (names : Declared) (w : Writer) → WroteParts names w w []
-no_bodies names w = record { parts = []; same = sym (append-nil w.code); made = refl; each = tt; grows = omega arith; scope = refl; named = λ few. tt; texts = λ a. a }
+no_bodies names w = record { parts = []; same = sym (append-nil w.code); made = refl; each = tt; grows = omega arith; scope = refl; named = λ few. tt; numbered = λ few. refl; texts = λ a. a }
 
 -- the bodies of so many states from number k on
 states_from : ℕ → ℕ → List Body
@@ -658,6 +698,14 @@ written_parts names w v d short p e l =
 pub agent_is_written : (names : Declared) (w : Writer) (d : Data) → IsShort d → w.code ≡ [] → length (agent_written names w d).code ≤ 1024
     → IsWritten names w.scope d (agent_written names w d).code (length (agent_written names w d).texts)
 agent_is_written names w d short e l = written_parts names w (agent_written names w d) d short (wrote_agent names w d) e l
+
+-- the texts of an agent are numbered in the order of its code, after those before
+pub agent_numbers : (names : Declared) (w : Writer) (d : Data) → w.code ≡ [] → length (agent_written names w d).texts ≤ 4096
+    → given_after (length w.texts) (text_uses (agent_written names w d).code) ≡ Some (length (agent_written names w d).texts)
+agent_numbers names w d e few =
+    let p = wrote_agent names w d in
+    let same : (agent_written names w d).code ≡ flatten p.parts = p.same ∙ ap (λ (c : List Instr). c ++ flatten p.parts) e in
+    ap (λ c. given_after (length w.texts) (text_uses c)) same ∙ p.numbered few
 
 pub agent_grows : (names : Declared) (w : Writer) (d : Data) → length w.texts ≤ length (agent_written names w d).texts
 agent_grows names w d = (wrote_agent names w d).grows

@@ -1,6 +1,7 @@
 pub mod Built
 pub mod Codes
 pub mod Ends
+pub mod Grouped
 pub mod Joined
 pub mod Passed
 pub mod Runs

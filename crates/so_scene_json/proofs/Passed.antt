@@ -3,11 +3,13 @@ use Rattle.std.proofs.Common.{◌≡◌, ℕ, zero, suc, ◌+◌, ◌<◌, ◌�
 use Rattle.std.proofs.lemmas.Bool.{leb-true, true≢false}
 use Rattle.std.proofs.lemmas.Slice.Eq.{bytes_eq-Decides}
 use Rattle.std.specs.List.{AllByRecursion, IsDistinct}
-use Rattle.std.specs.Option.{option_and_then}
+use Rattle.std.specs.Option.{option_and_then, option_map}
 use Rattle.serde_json.specs.Data.{Data, Items, no_items, item, null, boolean, number, string, array, object as object_data}
 use Rattle.serde_json.specs.Events.{items_len}
 use Rattle.serde_json.specs.Find.{as_str, as_array, get}
-use Rattle.so_scene.specs.Checked.{given}
+use Rattle.so_scene.specs.Checked.{given, is_built}
+use Rattle.so_scene.specs.declared.parts.DispKind.{DispKind}
+use Rattle.so_scene.specs.declared.parts.DispKind.TheVariants.{OneThread, ActiveGroup}
 use Rattle.so_scene.specs.Faults.{spelling}
 use Rattle.so_scene.specs.Names.{has_name}
 use Rattle.so_scene.specs.Words.{is_name}
@@ -26,14 +28,14 @@ use Rattle.so_scene_json.specs.declared.table.Form.{Form}
 use Rattle.so_scene_json.specs.declared.table.Form.TheVariants as form
 use Rattle.so_scene_json.specs.declared.table.Rule.{Rule}
 use Rattle.so_scene_json.specs.declared.values.Trouble.{Trouble}
-use Rattle.so_scene_json.specs.declared.values.Trouble.TheVariants.{WrongShape, UnknownName, OutOfRange}
+use Rattle.so_scene_json.specs.declared.values.Trouble.TheVariants.{WrongShape, UnknownName, OutOfRange, NotBuilt}
 use Rattle.so_scene_json.specs.Table.{rules_of, objects_of, required, optional, later}
-use Rattle.so_scene_json.specs.Values.{checked, trouble, name_of, name_in, text_or_empty, string_in, id_in, ◌else◌}
+use Rattle.so_scene_json.specs.Values.{checked, trouble, name_of, name_in, text_or_empty, string_in, id_in, group_in, disp_kind_of, disp_kind_in, ok_or, read_or, ◌else◌}
 use Rattle.so_scene_json.specs.Visits.{Visit, enters, tries, leaves, Place, visits, fields_of, field_visits, in_objects, items_from, at_item, at_key, list_of, listed, run, ◌>>=◌}
-use Rattle.so_scene_json.specs.Shape.{shape_step, shape_fault, unless_faulty, field_fault, trouble_at, list_trouble, first_of, object_trouble, is_row_breach, name_trouble as shape_name_trouble}
+use Rattle.so_scene_json.specs.Shape.{shape_step, shape_fault, unless_faulty, field_fault, trouble_at, list_trouble, first_of, object_trouble, is_row_breach, is_disp_breach, disp_kind_trouble, state_name_trouble, name_trouble as shape_name_trouble}
 use Rattle.so_scene_json.specs.Scope.{ids_of, names_of, state_items, row_items, filter_items}
-use Rattle.so_scene_json.specs.Twice.{twice_step, names_in, with_name, with_field, with_mbox_read, with_mboxes, declared_name}
-use Rattle.so_scene_json.specs.Known.{known_step, entered, field_unknown, name_trouble}
+use Rattle.so_scene_json.specs.Twice.{twice_step, disp_number, disp_number_in, names_in, with_name, with_field, with_mbox_read, with_mboxes, declared_name}
+use Rattle.so_scene_json.specs.Known.{known_step, entered, field_unknown, name_trouble, object_unknown, group_unfit, kind_at}
 use Rattle.so_lists.proofs.Filters.{each-append, each-weaker}
 use Rattle.so_scene.proofs.Positions.{absent_any, no_names as no_distinct}
 use Rattle.so_scene_json.proofs.Joined.{absent_first, absent_second}
@@ -64,9 +66,9 @@ abbrev pub AreKnown : Declared → Form → Place → Option Data → Type 0
 AreKnown names (form.NameIn space) place (Some d) = trouble_at place (name_trouble names space (as_str d)) ≡ None
 AreKnown names other place found = Unit {0}
 
--- a name that the field uses is declared
+-- a name that the field uses is declared, and an agent has a group where it should
 abbrev pub IsKnown : Declared → Visit → Type 0
-IsKnown names (enters kind place d) = Unit {0}
+IsKnown names (enters kind place d) = object_unknown kind names place d ≡ None
 IsKnown names (tries rule place found) = AreKnown names rule.form place found
 IsKnown names (leaves kind place d) = Unit {0}
 
@@ -87,9 +89,14 @@ known_form k (form.NameIn space) place (Some d) e = e
 known_form k (form.NameIn space) place None e = tt
 known_form k other place found e = tt
 
+same_names : (kind : ObjectKind) (d : Data) (k : Known) → (entered kind d k).names ≡ k.names
+same_names object.Agent d k = refl
+same_names other d k = refl
+
 knew : (k t : Known) (v : Visit) → known_step k v ≡ Ok t → Knew k t v
-knew k t (enters object.Agent place d) e = record { names = ap (λ (x : Known). x.names) (sym (ok_same (entered object.Agent d k) t e)); known = tt }
-knew k t (enters other place d) e = record { names = ap (λ (x : Known). x.names) (sym (ok_same k t e)); known = tt }
+knew k t (enters kind place d) e =
+    let p = no_fault (entered kind d k) t (object_unknown kind k.names place d) e in
+    record { names = ap (λ (x : Known). x.names) (sym p.same) ∙ same_names kind d k; known = p.none }
 knew k t (tries rule place found) e =
     let p = no_fault k t (field_unknown k rule.form place found) e in
     record { names = ap (λ (x : Known). x.names) (sym p.same); known = known_form k rule.form place found p.none }
@@ -220,6 +227,55 @@ known_if_there : (names : Declared) (space : Space) (f : Field) (place : Place) 
 known_if_there names space f place None h there = absurd (true≢false (sym there))
 known_if_there names space f place (Some d) h there = known_string names space place (as_str d) h.0 h.1
 
+known_disp : (names : Declared) (place : Place) (o : Option (List ℕ)) → trouble_at place (name_trouble names space.Dispatchers o) ≡ None → is_some (disp_number names o) ≡ true
+known_disp names place None h = refl
+known_disp names place (Some text) h = known_name names space.Dispatchers place text (has_name (names_in space.Dispatchers names) text) refl h
+
+-- the dispatcher of an agent is declared
+known_if_given : (names : Declared) (f : Field) (place : Place) (found : Option Data) → IsFine names (tries (optional f (form.NameIn space.Dispatchers)) place found) → is_some (disp_number names (option_and_then as_str found)) ≡ true
+known_if_given names f place None h = refl
+known_if_given names f place (Some d) h = known_disp names place (as_str d) h.1
+
+-- ---- names that objects declare
+
+named_if : (b : Bool) (place : Place) (s : List ℕ) → is_name s ≡ b → trouble_at place (trouble ((if b then Some s else None) else WrongShape)) ≡ None → is_name (text_or_empty (if b then Some s else None)) ≡ true
+named_if true place s e h = e
+named_if false place s e h = absurd cc
+
+named_string : (place : Place) (o : Option (List ℕ)) → trouble_at place (trouble (option_and_then (checked is_name) o else WrongShape)) ≡ None → is_name (text_or_empty (checked is_name (text_or_empty o))) ≡ true
+named_string place None h = absurd cc
+named_string place (Some s) h = named_if (is_name s) place s refl h
+
+-- a field that must have a name has one
+named_field : (place : Place) (found : Option Data) → field_fault (required field.Name form.Name) place found ≡ None → is_name (text_or_empty (checked is_name (text_or_empty (option_and_then as_str found)))) ≡ true
+named_field place None h = absurd cc
+named_field place (Some d) h = named_string place (as_str d) h
+
+named_state_if : (b : Bool) (place : Place) (s : List ℕ) → is_name s ≡ b → trouble_at place (state_name_trouble ((if b then Some s else None) else WrongShape)) ≡ None → is_name (text_or_empty (if b then Some s else None)) ≡ true
+named_state_if true place s e h = e
+named_state_if false place s e h = absurd cc
+
+named_state_string : (place : Place) (o : Option (List ℕ)) → trouble_at place (state_name_trouble (option_and_then (checked is_name) o else WrongShape)) ≡ None → is_name (text_or_empty (checked is_name (text_or_empty o))) ≡ true
+named_state_string place None h = absurd cc
+named_state_string place (Some s) h = named_state_if (is_name s) place s refl h
+
+named_state_field : (place : Place) (found : Option Data) → field_fault (required field.Name form.StateName) place found ≡ None → is_name (text_or_empty (checked is_name (text_or_empty (option_and_then as_str found)))) ≡ true
+named_state_field place None h = absurd cc
+named_state_field place (Some d) h = named_state_string place (as_str d) h
+
+-- a group is given exactly where its field is
+given_name_if : (b : Bool) (place : Place) (s : List ℕ) → is_name s ≡ b → trouble_at place (trouble ((if b then Some s else None) else WrongShape)) ≡ None → is_some (if b then Some s else None) ≡ true
+given_name_if true place s e h = refl
+given_name_if false place s e h = absurd cc
+
+given_string : (place : Place) (o : Option (List ℕ)) → trouble_at place (trouble (option_and_then (checked is_name) o else WrongShape)) ≡ None → is_some (checked is_name (text_or_empty o)) ≡ true
+given_string place None h = absurd cc
+given_string place (Some s) h = given_name_if (is_name s) place s refl h
+
+given_field : (f : Field) (place : Place) (found : Option Data) → field_fault (optional f form.Name) place found ≡ None → is_some (checked is_name (text_or_empty (option_and_then as_str found))) ≡ is_some found
+given_field f place None h = refl
+given_field f place (Some d) h = given_string place (as_str d) h
+
 -- ---- rows and filters
 
 pub record HasRow (names : Declared) (d : Data) : Type 0 where
@@ -237,6 +293,11 @@ no_rule = later field.Id
 fine_try : (names : Declared) (n : ℕ) (kind : ObjectKind) (k : ℕ) (place : Place) (d : Data) → k < length (rules_of kind) → ArePassed names (visits (suc n) kind place d)
     → IsFine names (tries (get_or (rules_of kind) k no_rule) (at_key place (get_or (rules_of kind) k no_rule)) (found_in (get_or (rules_of kind) k no_rule) d))
 fine_try names n kind k place d l p = passed_try names (visits n) (get_or (rules_of kind) k no_rule) place d (passed_field names (visits n) (rules_of kind) k no_rule place d l (passed_fields names n kind place d p))
+
+-- what is tried as an object begins
+passed_first : (names : Declared) (n : ℕ) (kind : ObjectKind) (place : Place) (d : Data) → ArePassed names (visits (suc n) kind place d) → IsFine names (enters kind place d)
+unfolding visits
+passed_first names n kind place d p = p.each.0
 
 -- what is tried as an object ends
 passed_last : (names : Declared) (n : ℕ) (kind : ObjectKind) (place : Place) (d : Data) → ArePassed names (visits (suc n) kind place d) → IsFine names (leaves kind place d)
@@ -266,6 +327,77 @@ fine_row names n place d p = record {
   msg = known_field names space.Messages field.Msg _ (get (codes "msg") d) (fine_try names n object.Row 1 place d (omega arith) p);
   mbox = λ there. known_if_there names space.Mboxes field.Mbox _ (get (codes "mbox") d) (fine_try names n object.Row 2 place d (omega arith) p) there;
 }
+
+fine_state : (names : Declared) (n : ℕ) (place : Place) (d : Data) → ArePassed names (visits (suc n) object.State place d) → is_name (name_in d) ≡ true
+fine_state names n place d p = named_state_field _ (get (codes "name") d) (fine_try names n object.State 0 place d (omega arith) p).0
+
+each_named : (ds : List Data) → AllByRecursion (λ d. is_name (name_in d) ≡ true) ds → AllByRecursion (λ name. is_name name ≡ true) (map name_in ds)
+each_named [] a = tt
+each_named (d ∷ ds) a = (a.0, each_named ds a.1)
+
+-- ---- dispatchers
+
+pub record IsFineDisp (d : Data) : Type 0 where
+  pub named : is_name (name_in d) ≡ true
+  pub kind : is_built (disp_kind_in d) ≡ true
+  pub fits : is_disp_breach d ≡ false
+
+built_if : (b : Bool) (place : Place) → trouble_at place (if b then None else Some NotBuilt) ≡ None → b ≡ true
+built_if true place h = refl
+built_if false place h = absurd cc
+
+built_kind : (place : Place) (r : Result DispKind Trouble) → trouble_at place (disp_kind_trouble r) ≡ None → is_built (ok_or OneThread r) ≡ true
+built_kind place (Ok kind) h = built_if (is_built kind) place h
+built_kind place (Err t) h = refl
+
+built_field : (place : Place) (found : Option Data) → field_fault (required field.Kind form.DispKind) place found ≡ None → is_built (read_or OneThread disp_kind_of found) ≡ true
+built_field place None h = absurd cc
+built_field place (Some d) h = built_kind place (disp_kind_of d) h
+
+fine_disp : (names : Declared) (n : ℕ) (place : Place) (d : Data) → ArePassed names (visits (suc n) object.Dispatcher place d) → IsFineDisp d
+fine_disp names n place d p = record {
+  named = named_field _ (get (codes "name") d) (fine_try names n object.Dispatcher 0 place d (omega arith) p).0;
+  kind = built_field _ (get (codes "kind") d) (fine_try names n object.Dispatcher 1 place d (omega arith) p).0;
+  fits = no_breach place (is_disp_breach d) (passed_last names n object.Dispatcher place d p).0;
+}
+
+-- an agent on an active_group dispatcher names a group, and no other does
+abbrev pub HasGroup : DispKind → Option (List ℕ) → Type 0
+HasGroup ActiveGroup (Some name) = Unit {0}
+HasGroup ActiveGroup None = ⊥
+HasGroup other o = o ≡ None
+
+-- the dispatcher of an agent, by its number
+pub record HasDisp (names : Declared) (d : Data) : Type 0 where
+  pub number : ℕ
+  pub is : disp_number_in names d ≡ Some number
+  pub group : HasGroup (kind_at names number) (group_in d)
+
+none_given : (o : Option (List ℕ)) → is_some o ≡ false → o ≡ None
+none_given None e = refl
+none_given (Some name) e = absurd (true≢false e)
+
+one_given : (o : Option (List ℕ)) → is_some o ≡ true → HasGroup ActiveGroup o
+one_given None e = absurd (true≢false (sym e))
+one_given (Some name) e = tt
+
+fits : (kind : DispKind) (place : Place) (given : Bool) (o : Option (List ℕ)) → is_some o ≡ given → group_unfit (Some kind) place given ≡ None → HasGroup kind o
+fits ActiveGroup place true o e h = one_given o e
+fits ActiveGroup place false o e h = absurd cc
+fits other place true o e h = absurd cc
+fits other place false o e h = none_given o e
+
+has_disp : (names : Declared) (place : Place) (d : Data) (o : Option ℕ) → disp_number_in names d ≡ o → is_some o ≡ true → is_some (group_in d) ≡ is_some (get (codes "group") d)
+    → group_unfit (option_map (kind_at names) o) place (is_some (get (codes "group") d)) ≡ None → HasDisp names d
+has_disp names place d None e there given h = absurd (true≢false (sym there))
+has_disp names place d (Some number) e there given h = record { number = number; is = e; group = fits (kind_at names number) place (is_some (get (codes "group") d)) (group_in d) given h }
+
+fine_on : (names : Declared) (n : ℕ) (place : Place) (d : Data) → ArePassed names (visits (suc n) object.Agent place d) → HasDisp names d
+fine_on names n place d p =
+    has_disp names place d (disp_number_in names d) refl
+    (known_if_given names field.Disp _ (get (codes "disp") d) (fine_try names n object.Agent 1 place d (omega arith) p))
+    (given_field field.Group _ (get (codes "group") d) (fine_try names n object.Agent 2 place d (omega arith) p).0)
+    (passed_first names n object.Agent place d p).1
 
 fine_filter : (names : Declared) (n : ℕ) (place : Place) (d : Data) → ArePassed names (visits (suc n) object.Filter place d) → HasFilter names d
 fine_filter names n place d p = record {
@@ -445,6 +577,9 @@ limit_mboxes f limit place (Some d) h = limit_value shape_name_trouble limit pla
 -- ---- an agent
 
 pub record IsFineAgent (names : Declared) (d : Data) : Type 0 where
+  pub named : is_name (name_in d) ≡ true
+  pub on : HasDisp names d
+  pub states_named : AllByRecursion (λ name. is_name name ≡ true) (names_of (state_items d))
   pub few_rows : items_len (row_items d) ≤ 128
   pub few_filters : items_len (filter_items d) ≤ 32
   pub rows : AllByRecursion (HasRow names) (listed (row_items d))
@@ -476,6 +611,9 @@ fine_agent names n place d p =
     let new_filters = ids_new object.Filter space.Filters id_in filters_declare n (at_key place filters_rule) 0 (filter_items d) in_filters.begins in_filters.ends in_filters.runs in
     let new_rows = ids_new object.Row space.Rows id_in rows_declare n (at_key place on_rule) 0 (row_items d) in_rows.begins in_rows.ends in_rows.runs in
     record {
+      named = named_field _ (get (codes "name") d) (fine_try names (suc n) object.Agent 0 place d (omega arith) p).0;
+      on = fine_on names (suc n) place d p;
+      states_named = each_named (listed (state_items d)) (each_item names (λ x. is_name (name_in x) ≡ true) (visits (suc n) object.State) (fine_state names n) (at_key place states_rule) 0 (state_items d) in_states);
       few_rows = limit_objects field.On object.Row 128 _ (get (codes "on") d) (passed_try names (visits (suc n)) on_rule place d rows).0;
       few_filters = limit_objects field.Filters object.Filter 32 _ (get (codes "filters") d) (passed_try names (visits (suc n)) filters_rule place d filters).0;
       rows = each_item names (HasRow names) (visits (suc n) object.Row) (fine_row names n) (at_key place on_rule) 0 (row_items d) in_rows;
@@ -486,6 +624,9 @@ fine_agent names n place d p =
     }
 
 abbrev pub EntersFine : Declared → Visit → Type 0
+EntersFine names (enters object.Message place d) = is_name (name_in d) ≡ true
+EntersFine names (enters object.Dispatcher place d) = IsFineDisp d
+EntersFine names (enters object.Coop place d) = is_name (name_in d) ≡ true
 EntersFine names (enters object.Agent place d) = IsFineAgent names d
 EntersFine names (enters other place d) = Unit {0}
 EntersFine names (tries rule place found) = Unit {0}
@@ -505,7 +646,7 @@ IsBelow h None = Unit {0}
 IsBelow h (Some kind) = height kind < h
 
 rules_below : (kind : ObjectKind) → AllByRecursion (λ rule. IsBelow (height kind) (objects_of rule.form)) (rules_of kind)
-rules_below object.Scene = (tt, (tt, (tt, (omega arith, (tt, (tt, (tt, (omega arith, (tt, tt)))))))))
+rules_below object.Scene = (tt, (tt, (tt, (omega arith, (tt, (tt, (omega arith, (omega arith, (tt, tt)))))))))
 rules_below object.Message = (tt, (tt, tt))
 rules_below object.Chain = (tt, (tt, (tt, (tt, tt))))
 rules_below object.Dispatcher = (tt, (tt, (tt, (tt, (tt, (tt, tt))))))
@@ -550,6 +691,9 @@ agent_fine names zero place d l p = absurd (omega arith)
 agent_fine names (suc n) place d l p = fine_agent names n place d p
 
 enter_fine : (names : Declared) (n : ℕ) (kind : ObjectKind) (place : Place) (d : Data) → height kind ≤ suc n → ArePassed names (visits (suc n) kind place d) → EntersFine names (enters kind place d)
+enter_fine names n object.Message place d l p = named_field _ (get (codes "name") d) (fine_try names n object.Message 0 place d (omega arith) p).0
+enter_fine names n object.Dispatcher place d l p = fine_disp names n place d p
+enter_fine names n object.Coop place d l p = named_field _ (get (codes "name") d) (fine_try names n object.Coop 0 place d (omega arith) p).0
 enter_fine names n object.Agent place d l p = agent_fine names n place d l p
 enter_fine names n other place d l p = tt
 
@@ -566,7 +710,7 @@ visits_fine names (suc n) kind place d l p = (
 pub scene_fine : (names : Declared) (d : Data) → ArePassed names (visits 4 object.Scene [] d) → AllByRecursion (EntersFine names) (visits 4 object.Scene [] d)
 scene_fine names d p = visits_fine names 4 object.Scene [] d (omega arith) p
 
--- ---- how many messages and how many names of mboxes there are
+-- ---- how many messages, names of mboxes and dispatchers there are
 
 abbrev pub total : (Visit → ℕ) → List Visit → ℕ
 total m [] = 0
@@ -582,6 +726,12 @@ is_message (enters other place d) = 0
 is_message (tries rule place found) = 0
 is_message (leaves kind place d) = 0
 
+abbrev pub is_dispatcher : Visit → ℕ
+is_dispatcher (enters object.Dispatcher place d) = 1
+is_dispatcher (enters other place d) = 0
+is_dispatcher (tries rule place found) = 0
+is_dispatcher (leaves kind place d) = 0
+
 abbrev pub mboxes_in_field : Form → Option Data → ℕ
 mboxes_in_field (form.Mboxes limit) found = items_len (list_of found)
 mboxes_in_field other found = 0
@@ -591,7 +741,7 @@ mboxes_named (enters kind place d) = 0
 mboxes_named (tries rule place found) = mboxes_in_field rule.form found
 mboxes_named (leaves kind place d) = 0
 
--- a field that names no mboxes, and an object that is no scene and no message
+-- a field that names no mboxes, and an object that is no scene, no message and no dispatcher
 abbrev NamesNone : Form → Type 0
 NamesNone (form.Mboxes limit) = ⊥
 NamesNone other = Unit {0}
@@ -599,13 +749,14 @@ NamesNone other = Unit {0}
 abbrev IsQuiet : ObjectKind → Type 0
 IsQuiet object.Scene = ⊥
 IsQuiet object.Message = ⊥
+IsQuiet object.Dispatcher = ⊥
 IsQuiet other = Unit {0}
 
 abbrev AreQuiet : Option ObjectKind → Type 0
 AreQuiet None = Unit {0}
 AreQuiet (Some kind) = IsQuiet kind
 
--- what counts messages or names of mboxes
+-- what counts messages, names of mboxes or dispatchers
 record Counts (m : Visit → ℕ) : Type 0 where
   entering : (kind : ObjectKind) (place : Place) (d : Data) → IsQuiet kind → m (enters kind place d) ≡ 0
   scene : (place : Place) (d : Data) → m (enters object.Scene place d) ≡ 0
@@ -619,7 +770,7 @@ quiet_rules : (kind : ObjectKind) → IsQuiet kind → AllByRecursion QuietRule 
 quiet_rules object.Scene q = absurd q
 quiet_rules object.Message q = absurd q
 quiet_rules object.Chain q = ((tt, tt), ((tt, tt), ((tt, tt), ((tt, tt), tt))))
-quiet_rules object.Dispatcher q = ((tt, tt), ((tt, tt), ((tt, tt), ((tt, tt), ((tt, tt), ((tt, tt), tt))))))
+quiet_rules object.Dispatcher q = absurd q
 quiet_rules object.Coop q = ((tt, tt), ((tt, tt), ((tt, tt), ((tt, tt), ((tt, tt), tt)))))
 quiet_rules object.Agent q = ((tt, tt), ((tt, tt), ((tt, tt), ((tt, tt), ((tt, tt), ((tt, tt), ((tt, tt), ((tt, tt), ((tt, tt), ((tt, tt), ((tt, tt), ((tt, tt), ((tt, tt), tt)))))))))))))
 quiet_rules object.State q = ((tt, tt), ((tt, tt), ((tt, tt), ((tt, tt), ((tt, tt), ((tt, tt), ((tt, tt), tt)))))))
@@ -681,18 +832,28 @@ none_in_visits m c (suc n) kind place d q =
 in_message : (m : Visit → ℕ) → Counts m → (n : ℕ) (place : Place) (d : Data) → total m (visits (suc n) object.Message place d) ≡ m (enters object.Message place d)
 in_message m c n place d = omega (arith, total_object m c n object.Message place d, none_in_fields m c n (none_in_visits m c n) (rules_of object.Message) ((tt, tt), ((tt, tt), tt)) place d)
 
+in_dispatcher : (m : Visit → ℕ) → Counts m → (n : ℕ) (place : Place) (d : Data) → total m (visits (suc n) object.Dispatcher place d) ≡ m (enters object.Dispatcher place d)
+in_dispatcher m c n place d =
+    omega (arith, total_object m c n object.Dispatcher place d, none_in_fields m c n (none_in_visits m c n) (rules_of object.Dispatcher) ((tt, tt), ((tt, tt), ((tt, tt), ((tt, tt), ((tt, tt), ((tt, tt), tt)))))) place d)
+
 messages_rule : Rule
 messages_rule = optional field.Messages (form.Objects object.Message (Some 256))
 
 mboxes_rule : Rule
 mboxes_rule = optional field.Mboxes (form.Mboxes 256)
 
--- the fields of a scene before its messages, and those after its mboxes
+dispatchers_rule : Rule
+dispatchers_rule = optional field.Dispatchers (form.Objects object.Dispatcher (Some 63))
+
+-- the fields of a scene before its messages, after its mboxes, and after its dispatchers
 first_rules : List Rule
 first_rules = required field.Version form.One ∷ later field.Autoshutdown ∷ later field.Reaction ∷ []
 
+middle_rules : List Rule
+middle_rules = later field.Chains ∷ []
+
 last_rules : List Rule
-last_rules = later field.Chains ∷ later field.Dispatchers ∷ optional field.Coops (form.Objects object.Coop (Some 1024)) ∷ later field.Threads ∷ []
+last_rules = optional field.Coops (form.Objects object.Coop (Some 1024)) ∷ later field.Threads ∷ []
 
 total_rules : (m : Visit → ℕ) (inside : ObjectKind → Place → Data → List Visit) (rules more : List Rule) (place : Place) (d : Data) → total m (fields_of inside (rules ++ more) place d) ≡ total m (fields_of inside rules place d) + total m (fields_of inside more place d)
 unfolding fields_of
@@ -701,26 +862,36 @@ total_rules m inside (rule ∷ rules) more place d =
     omega (arith, total-append m (field_visits inside rule place d) (fields_of inside (rules ++ more) place d), total-append m (field_visits inside rule place d) (fields_of inside rules place d), total_rules m inside rules more place d)
 
 total_scene : (m : Visit → ℕ) → Counts m → (d : Data) → total m (visits 4 object.Scene [] d) ≡ total m (items_from (visits 3 object.Message) (at_key [] messages_rule) 0 (list_of (get (codes "messages") d))) + m (tries mboxes_rule (at_key [] mboxes_rule) (get (codes "mboxes") d))
-unfolding first_rules last_rules messages_rule mboxes_rule
+    + total m (items_from (visits 3 object.Dispatcher) (at_key [] dispatchers_rule) 0 (list_of (get (codes "dispatchers") d)))
+unfolding first_rules middle_rules last_rules messages_rule mboxes_rule dispatchers_rule
 total_scene m c d =
     let quiet = none_in_visits m c 3 in
     omega (
       arith,
       total_object m c 3 object.Scene [] d,
       c.scene [] d,
-      total_rules m (visits 3) first_rules (messages_rule ∷ mboxes_rule ∷ last_rules) [] d,
+      total_rules m (visits 3) first_rules (messages_rule ∷ mboxes_rule ∷ (middle_rules ++ dispatchers_rule ∷ last_rules)) [] d,
       none_in_fields m c 3 quiet first_rules ((tt, tt), ((tt, tt), ((tt, tt), tt))) [] d,
-      total_fields m (visits 3) messages_rule (mboxes_rule ∷ last_rules) [] d,
+      total_fields m (visits 3) messages_rule (mboxes_rule ∷ (middle_rules ++ dispatchers_rule ∷ last_rules)) [] d,
       total_field m (visits 3) messages_rule [] d,
       c.trying messages_rule (at_key [] messages_rule) (get (codes "messages") d) tt,
-      total_fields m (visits 3) mboxes_rule last_rules [] d,
+      total_fields m (visits 3) mboxes_rule (middle_rules ++ dispatchers_rule ∷ last_rules) [] d,
       total_field m (visits 3) mboxes_rule [] d,
-      none_in_fields m c 3 quiet last_rules ((tt, tt), ((tt, tt), ((tt, tt), ((tt, tt), tt)))) [] d,
+      total_rules m (visits 3) middle_rules (dispatchers_rule ∷ last_rules) [] d,
+      none_in_fields m c 3 quiet middle_rules ((tt, tt), tt) [] d,
+      total_fields m (visits 3) dispatchers_rule last_rules [] d,
+      total_field m (visits 3) dispatchers_rule [] d,
+      c.trying dispatchers_rule (at_key [] dispatchers_rule) (get (codes "dispatchers") d) tt,
+      none_in_fields m c 3 quiet last_rules ((tt, tt), ((tt, tt), tt)) [] d,
     )
 
 message_quiet : (kind : ObjectKind) (place : Place) (d : Data) → IsQuiet kind → is_message (enters kind place d) ≡ 0
 message_quiet object.Message place d q = absurd q
 message_quiet other place d q = refl
+
+dispatcher_quiet : (kind : ObjectKind) (place : Place) (d : Data) → IsQuiet kind → is_dispatcher (enters kind place d) ≡ 0
+dispatcher_quiet object.Dispatcher place d q = absurd q
+dispatcher_quiet other place d q = refl
 
 no_mboxes : (f : Form) (found : Option Data) → NamesNone f → mboxes_in_field f found ≡ 0
 no_mboxes (form.Mboxes limit) found q = absurd q
@@ -732,6 +903,12 @@ counts_messages = record { entering = message_quiet; scene = λ place d. refl; t
 counts_mboxes : Counts mboxes_named
 counts_mboxes = record { entering = λ kind place d q. refl; scene = λ place d. refl; trying = λ rule place found q. no_mboxes rule.form found q; leaving = λ kind place d. refl }
 
+counts_dispatchers : Counts is_dispatcher
+counts_dispatchers = record { entering = dispatcher_quiet; scene = λ place d. refl; trying = λ rule place found q. refl; leaving = λ kind place d. refl }
+
+limited_dispatchers : (names : Declared) (d : Data) → ArePassed names (visits 4 object.Scene [] d) → items_len (list_of (get (codes "dispatchers") d)) ≤ 63
+limited_dispatchers names d p = limit_objects field.Dispatchers object.Dispatcher 63 _ (get (codes "dispatchers") d) (fine_try names 3 object.Scene 6 [] d (omega arith) p).0
+
 limited_messages : (names : Declared) (d : Data) → ArePassed names (visits 4 object.Scene [] d) → items_len (list_of (get (codes "messages") d)) ≤ 256
 limited_messages names d p = limit_objects field.Messages object.Message 256 _ (get (codes "messages") d) (fine_try names 3 object.Scene 3 [] d (omega arith) p).0
 
@@ -739,21 +916,34 @@ limited_mboxes : (names : Declared) (d : Data) → ArePassed names (visits 4 obj
 limited_mboxes names d p = limit_mboxes field.Mboxes 256 _ (get (codes "mboxes") d) (fine_try names 3 object.Scene 4 [] d (omega arith) p).0
 
 pub few_messages : (names : Declared) (d : Data) → ArePassed names (visits 4 object.Scene [] d) → total is_message (visits 4 object.Scene [] d) ≤ 256
-unfolding messages_rule mboxes_rule
+unfolding messages_rule mboxes_rule dispatchers_rule
 few_messages names d p =
     omega (
       arith,
       total_scene is_message counts_messages d,
       one_in_items is_message (visits 3 object.Message) (in_message is_message counts_messages 2) (at_key [] messages_rule) 0 (list_of (get (codes "messages") d)),
+      none_in_items is_message (visits 3 object.Dispatcher) (in_dispatcher is_message counts_messages 2) (at_key [] dispatchers_rule) 0 (list_of (get (codes "dispatchers") d)),
       limited_messages names d p,
     )
 
 pub few_mboxes : (names : Declared) (d : Data) → ArePassed names (visits 4 object.Scene [] d) → total mboxes_named (visits 4 object.Scene [] d) ≤ 256
-unfolding messages_rule mboxes_rule
+unfolding messages_rule mboxes_rule dispatchers_rule
 few_mboxes names d p =
     omega (
       arith,
       total_scene mboxes_named counts_mboxes d,
       none_in_items mboxes_named (visits 3 object.Message) (in_message mboxes_named counts_mboxes 2) (at_key [] messages_rule) 0 (list_of (get (codes "messages") d)),
+      none_in_items mboxes_named (visits 3 object.Dispatcher) (in_dispatcher mboxes_named counts_mboxes 2) (at_key [] dispatchers_rule) 0 (list_of (get (codes "dispatchers") d)),
       limited_mboxes names d p,
+    )
+
+pub few_dispatchers : (names : Declared) (d : Data) → ArePassed names (visits 4 object.Scene [] d) → total is_dispatcher (visits 4 object.Scene [] d) ≤ 63
+unfolding messages_rule mboxes_rule dispatchers_rule
+few_dispatchers names d p =
+    omega (
+      arith,
+      total_scene is_dispatcher counts_dispatchers d,
+      none_in_items is_dispatcher (visits 3 object.Message) (in_message is_dispatcher counts_dispatchers 2) (at_key [] messages_rule) 0 (list_of (get (codes "messages") d)),
+      one_in_items is_dispatcher (visits 3 object.Dispatcher) (in_dispatcher is_dispatcher counts_dispatchers 2) (at_key [] dispatchers_rule) 0 (list_of (get (codes "dispatchers") d)),
+      limited_dispatchers names d p,
     )

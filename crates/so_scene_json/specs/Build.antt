@@ -11,6 +11,7 @@ use Rattle.so_ids.specs.declared.StateId.{StateId}
 use Rattle.so_state.specs.declared.faults.TreeFault.{TreeFault}
 use Rattle.so_state.specs.declared.states.State.{State}
 use Rattle.so_state.specs.Fault.{tree_fault, named}
+use Rattle.so_scene.specs.Parts.{default_disp}
 use Rattle.so_scene.specs.declared.place.Field.TheVariants.{States}
 use Rattle.so_scene.specs.declared.place.PlaceStep.TheVariants.{Key}
 use Rattle.so_scene.specs.declared.fault.SceneFault.{SceneFault}
@@ -23,10 +24,12 @@ use Rattle.so_scene_json.specs.declared.table.ObjectKind.TheVariants as object
 use Rattle.so_scene_json.specs.declared.declare.Declared.{Declared}
 use Rattle.so_scene_json.specs.declared.scope.Scope.{Scope}
 use Rattle.so_scene_json.specs.declared.write.Writer.{Writer}
+use Rattle.so_scene_json.specs.declared.groups.Group.{Group}
 use Rattle.so_scene_json.specs.declared.build.Build.{Build}
-use Rattle.so_scene_json.specs.Values.{name_in}
+use Rattle.so_scene_json.specs.Values.{name_in, group_in}
+use Rattle.so_scene_json.specs.Groups.{with_group, group_number}
 use Rattle.so_scene_json.specs.Scope.{state_items, row_items, filter_items, scope_of}
-use Rattle.so_scene_json.specs.Defs.{message_of, vars_of, states_of, rows_of, filters_of}
+use Rattle.so_scene_json.specs.Defs.{message_of, vars_of, disp_of, disp_in, least_priority, states_of, rows_of, filters_of}
 use Rattle.so_scene_json.specs.Writer.{with_instr, acts_written, state_id}
 use Rattle.so_scene_json.specs.Visits.{Visit, enters, tries, leaves, Place, at_item, narrow, list_of, ◌>>=◌}
 
@@ -86,20 +89,26 @@ tree_of place states = unless_broken place states (tree_fault states)
 -- ---- the pass
 
 abbrev pub no_parts : Declared → Build
-no_parts names = record { names = names; messages = []; coops = []; agents = []; texts = [] }
+no_parts names = record { names = names; messages = []; dispatchers = default_disp ∷ []; groups = []; coops = []; agents = []; texts = [] }
 
 abbrev pub with_message : Data → Build → Build
 with_message d s = record s { messages = s.messages ++ message_of d ∷ [] }
+
+abbrev pub with_disp : Data → Build → Build
+with_disp d s = record s { dispatchers = s.dispatchers ++ disp_of d ∷ [] }
 
 -- of a cooperation its name alone: while a scene has one, its agents are all there are
 abbrev pub with_coop : Data → Build → Build
 with_coop d s = record s { coops = s.coops ++ name_in d ∷ [] }
 
--- the agent of a number, with its states, its names and ids, and its code
-abbrev pub agent_with : ℕ → Declared → Data → List State → Scope → List Instr → AgentDef
-agent_with a names d tree scope code = record {
+-- the agent of a number, with its states, its names and ids, and its code, where there are these groups
+abbrev pub agent_with : ℕ → Declared → List Group → Data → List State → Scope → List Instr → AgentDef
+agent_with a names groups d tree scope code = record {
   name = name_in d;
   coop = record { 0 = 0 };
+  disp = disp_in names d;
+  group = group_number (disp_in names d) (group_in d) groups;
+  priority = least_priority;
   vars = vars_of d;
   state_names = scope.states;
   tree = tree;
@@ -109,8 +118,8 @@ agent_with a names d tree scope code = record {
   code = code;
 }
 
-abbrev pub agent_of : ℕ → Declared → Data → List State → Writer → AgentDef
-agent_of a names d tree w = agent_with a names d tree w.scope w.code
+abbrev pub agent_of : ℕ → Declared → List Group → Data → List State → Writer → AgentDef
+agent_of a names groups d tree w = agent_with a names groups d tree w.scope w.code
 
 -- a writer for an agent, with the texts so far
 abbrev pub fresh : List (List ℕ) → Data → Writer
@@ -119,9 +128,17 @@ fresh texts d = record { texts = texts; code = []; scope = scope_of d }
 abbrev pub written : Build → Data → Writer
 written s d = agent_written s.names (fresh s.texts d) d
 
+-- an agent, with its texts and its group
+abbrev pub agent_added : Build → Data → List State → Writer → Build
+agent_added s d tree w = record s {
+  agents = s.agents ++ agent_of (length s.agents) s.names s.groups d tree w ∷ [];
+  texts = w.texts;
+  groups = with_group (disp_in s.names d) (group_in d) s.groups;
+}
+
 -- an agent whose code has more than 1,024 instructions is out of range
 abbrev pub with_code : Place → Build → Data → List State → Writer → Result Build SceneFault
-with_code place s d tree w = if nat_lt 1024 (length w.code) then Err (fault.OutOfRange place) else Ok (record s { agents = s.agents ++ agent_of (length s.agents) s.names d tree w ∷ []; texts = w.texts })
+with_code place s d tree w = if nat_lt 1024 (length w.code) then Err (fault.OutOfRange place) else Ok (agent_added s d tree w)
 
 -- more states or rows than the first pass lets through
 abbrev pub is_long : Data → Bool
@@ -136,6 +153,7 @@ with_agent place s d = if is_long d then Err (fault.OutOfRange place) else with_
 
 abbrev pub entered : ObjectKind → Place → Build → Data → Result Build SceneFault
 entered object.Message place s d = Ok (with_message d s)
+entered object.Dispatcher place s d = Ok (with_disp d s)
 entered object.Coop place s d = Ok (with_coop d s)
 entered object.Agent place s d = with_agent place s d
 entered other place s d = Ok s

@@ -1,15 +1,21 @@
 -- The parts of a scene that one value stands for. A part that an earlier pass refuses stands as 0 here.
-use Rattle.std.specs.Prelude.{ℕ, ℤ, pos, List, map, codes, if◌then◌else◌, Bool, Option, Some, None, option_and_then, is_some, true, false}
+use Rattle.std.specs.Prelude.{ℕ, ℤ, pos, List, map, codes, if◌then◌else◌, Bool, Option, Some, None, option_and_then, is_some, true, false, replicate}
+use Rattle.std.proofs.Common.{arith}
 use Rattle.std.specs.List.{range_with_len}
 use Rattle.serde_json.specs.Data.{Data, Items}
 use Rattle.serde_json.specs.Find.{as_str, get, get_item}
+use Rattle.so_ids.specs.declared.DispId.{DispId}
 use Rattle.so_ids.specs.declared.MboxId.{MboxId}
 use Rattle.so_ids.specs.declared.MsgId.{MsgId}
+use Rattle.so_ids.specs.declared.Priority.{Priority}
 use Rattle.so_ids.specs.declared.StateId.{StateId}
 use Rattle.so_ids.specs.declared.Vars.{Vars}
 use Rattle.so_code.specs.declared.instr.Cmp.{Cmp}
 use Rattle.so_code.specs.declared.instr.Cmp.TheVariants as cmp
 use Rattle.so_scene.specs.declared.parts.MessageDef.{MessageDef}
+use Rattle.so_scene.specs.declared.parts.DispDef.{DispDef}
+use Rattle.so_scene.specs.declared.parts.Fifo.{Fifo}
+use Rattle.so_scene.specs.declared.parts.Fifo.TheVariants.{Cooperation}
 use Rattle.so_scene.specs.declared.parts.FilterDef.{FilterDef}
 use Rattle.so_state.specs.declared.choice.Row.{Row}
 use Rattle.so_state.specs.declared.choice.RowKind.{RowKind}
@@ -22,8 +28,8 @@ use Rattle.so_scene_json.specs.declared.table.Space.{Space}
 use Rattle.so_scene_json.specs.declared.table.Space.TheVariants as space
 use Rattle.so_scene_json.specs.declared.declare.Declared.{Declared}
 use Rattle.so_scene_json.specs.declared.scope.Scope.{Scope}
-use Rattle.so_scene_json.specs.Values.{integer_of, number_of, flag_of, cmp_of, history_of, read_or, string_in, name_in, id_in}
-use Rattle.so_scene_json.specs.Twice.{is_signal, names_in}
+use Rattle.so_scene_json.specs.Values.{integer_of, number_of, flag_of, cmp_of, history_of, fifo_of, disp_kind_in, read_or, string_in, name_in, id_in}
+use Rattle.so_scene_json.specs.Twice.{is_signal, names_in, disp_number_in}
 use Rattle.so_scene_json.specs.Scope.{state_number}
 use Rattle.so_scene_json.specs.Visits.{narrow, list_of, listed}
 
@@ -55,6 +61,32 @@ msg_in names d = record { 0 = number_named names space.Messages (codes "msg") d 
 
 abbrev pub mbox_in : Declared → Data → MboxId
 mbox_in names d = record { 0 = number_named names space.Mboxes (codes "mbox") d }
+
+-- ---- dispatchers
+
+-- how many threads a pool has, and which of its agents share a queue
+abbrev pub threads_in : Data → ℕ
+threads_in d = read_or 4 (number_of 1 64) (get (codes "threads") d)
+
+abbrev pub fifo_in : Data → Fifo
+fifo_in d = read_or Cooperation fifo_of (get (codes "fifo") d)
+
+abbrev pub disp_of : Data → DispDef
+disp_of d = record {
+  name = name_in d;
+  kind = disp_kind_in d;
+  slots = 4096;
+  threads = threads_in d;
+  fifo = fifo_in d;
+  quotes = replicate 8 20;
+}
+
+-- the dispatcher of an agent
+abbrev pub disp_in : Declared → Data → DispId
+disp_in names d = record { 0 = narrow_or_zero (disp_number_in names d) }
+
+abbrev pub least_priority : Priority
+least_priority = record { level = 0; in_range = omega arith }
 
 -- ---- states
 

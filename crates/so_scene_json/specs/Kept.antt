@@ -1,19 +1,28 @@
 -- What the four passes leave of a scene's parts, apart from what is tried after them.
-use Rattle.std.specs.Prelude.{◌≡◌, ℕ, ◌<◌, ◌≤◌, ◌+◌, ◌++◌, List, length, map, bytes_eq, Option, None, true, false}
-use Rattle.std.specs.List.{All, IsDistinct}
+use Rattle.std.specs.Prelude.{◌≡◌, ℕ, ◌<◌, ◌≤◌, ◌+◌, ◌++◌, ◌==◌, List, [], ◌∷◌, length, map, slice_index_or, bytes_eq, Bool, Option, Some, None, true, false}
+use Rattle.std.specs.List.{All, IsDistinct, filter, filter_map}
 use Rattle.so_code.specs.Bodies.{bodies_in}
 use Rattle.so_code.specs.Shape.{IsCode, agent_bodies}
 use Rattle.so_ids.specs.declared.AgentId.{AgentId}
+use Rattle.so_ids.specs.declared.DispId.{DispId}
+use Rattle.so_lists.specs.Lists.{head, is_empty, AreNumbered}
 use Rattle.so_scene.specs.declared.parts.AgentDef.{AgentDef}
+use Rattle.so_scene.specs.declared.parts.DispDef.{DispDef}
+use Rattle.so_scene.specs.declared.parts.DispKind.{DispKind}
+use Rattle.so_scene.specs.declared.parts.DispKind.TheVariants.{OneThread}
 use Rattle.so_scene.specs.declared.parts.SceneParts.{SceneParts}
 use Rattle.so_scene.specs.Definition.{definition_fault}
+use Rattle.so_scene.specs.Lanes.{AreBound}
 use Rattle.so_scene.specs.declared.parts.FilterDef.{FilterDef}
-use Rattle.so_scene.specs.Parts.{message_name, agent_name}
-use Rattle.so_scene.specs.Checked.{Named, NamesWithin, IsKind, HasNoLimit, handlers, filter_ids, given, IsScene}
+use Rattle.so_scene.specs.Parts.{message_name, agent_name, disp_name, default_disp}
+use Rattle.so_scene.specs.Checked.{Named, NamesWithin, IsKind, IsDisp, IsGroup, HasNoLimit, handlers, filter_ids, given, text_uses, IsScene}
 use Rattle.so_scene.specs.Words.{is_name, is_text}
 use Rattle.so_state.specs.declared.choice.Row.{Row}
 use Rattle.so_state.specs.Fault.{IsTree}
 use Rattle.so_scene_json.specs.declared.build.Build.{Build}
+use Rattle.so_scene_json.specs.declared.groups.Group.{Group}
+use Rattle.so_scene_json.specs.Groups.{names_for}
+use Rattle.so_scene_json.specs.Scene.{exceeds}
 
 -- a row among so many mboxes, messages and states, and a filter
 pub record IsBuiltRow (mboxes messages states : ℕ) (row : Row) : Type 0 where
@@ -32,21 +41,27 @@ pub record IsBuiltFilter (mboxes messages : ℕ) (f : FilterDef) : Type 0 where
 abbrev pub named_among : ℕ → ℕ → ℕ → ℕ → List (Option (List ℕ)) → List (Option (List ℕ)) → Named
 named_among mboxes messages texts states rows filters = record { mboxes = mboxes; messages = messages; texts = texts; states = states; rows = rows; filters = filters }
 
--- an agent among so many mboxes, messages and texts
-pub record IsBuiltAgent (mboxes messages texts : ℕ) (a : AgentDef) : Type 0 where
-  pub named : length a.name ≤ 32
+-- an agent among so many mboxes, messages and texts, and dispatchers of these kinds with these groups
+pub record IsBuiltAgent (mboxes messages texts : ℕ) (kinds : List DispKind) (groups : List Group) (a : AgentDef) : Type 0 where
+  pub named : is_name a.name ≡ true
   pub coop : a.coop.0 ≡ 0
+  pub disp : a.disp.0 < length kinds
+  pub group : IsGroup (slice_index_or kinds a.disp.0 OneThread) (length (names_for a.disp groups)) a.group
+  pub priority : a.priority.level ≡ 0
   pub vars : length a.vars.0 ≡ 16
   pub tree : IsTree a.tree
   pub no_limits : All HasNoLimit a.tree
   pub state_names : length a.state_names ≡ length a.tree
+  pub states_named : All (λ name. is_name name ≡ true) a.state_names
   pub each_state_once : IsDistinct bytes_eq a.state_names
   pub few_rows : length a.rows ≤ 128
   pub rows : All (IsBuiltRow mboxes messages (length a.tree)) a.rows
   pub row_ids : length a.row_ids ≡ length a.rows
+  pub rows_named : All (λ name. is_name name ≡ true) (given a.row_ids)
   pub each_row_id_once : IsDistinct bytes_eq (given a.row_ids)
   pub few_filters : length a.filters ≤ 32
   pub filters : All (IsBuiltFilter mboxes messages) a.filters
+  pub filters_named : All (λ name. is_name name ≡ true) (given (filter_ids a))
   pub each_filter_id_once : IsDistinct bytes_eq (given (filter_ids a))
   pub code : IsCode a.code
   pub bodies : bodies_in a.code ≡ agent_bodies (length a.tree) (handlers a.rows)
@@ -55,16 +70,49 @@ pub record IsBuiltAgent (mboxes messages texts : ℕ) (a : AgentDef) : Type 0 wh
 abbrev pub mboxes_in : Build → ℕ
 mboxes_in s = length s.agents + length s.names.mboxes
 
+abbrev pub disp_kind : DispDef → DispKind
+disp_kind d = d.kind
+
+-- the groups that the agents of a dispatcher name, by agent
+abbrev pub agent_group : AgentDef → Option ℕ
+agent_group a = a.group
+
+abbrev pub is_on : DispId → AgentDef → Bool
+is_on d a = a.disp.0 == d.0
+
+abbrev pub uses_on : DispId → List AgentDef → List ℕ
+uses_on d agents = filter_map agent_group (filter (is_on d) agents)
+
+-- the texts that agents log, in the order of their code
+abbrev pub texts_of : List AgentDef → List ℕ
+texts_of [] = []
+texts_of (a ∷ agents) = text_uses a.code ++ texts_of agents
+
+-- the groups of a dispatcher have names that differ, and are numbered as agents name them
+pub record AreBuiltGroups (s : Build) (d : DispId) : Type 0 where
+  pub named : All (λ name. is_name name ≡ true) (names_for d s.groups)
+  pub each_once : IsDistinct bytes_eq (names_for d s.groups)
+  pub numbered : AreNumbered (uses_on d s.agents) (length (names_for d s.groups))
+
 pub record IsBuilt (s : Build) : Type 0 where
   pub few_messages : length s.messages ≤ 256
+  pub messages_named : All (λ name. is_name name ≡ true) (map message_name s.messages)
   pub message_names : IsDistinct bytes_eq (map message_name s.messages)
   pub few_mboxes : length s.names.mboxes ≤ 256
   pub mboxes : All (λ name. is_name name ≡ true) s.names.mboxes
-  pub agents : All (IsBuiltAgent (mboxes_in s) (length s.messages) (length s.texts)) s.agents
+  pub default : head s.dispatchers ≡ Some default_disp
+  pub few_dispatchers : length s.dispatchers ≤ 64
+  pub dispatchers : All IsDisp s.dispatchers
+  pub dispatcher_names : IsDistinct bytes_eq (map disp_name s.dispatchers)
+  pub groups : length s.agents ≤ 4096 → (d : DispId) → AreBuiltGroups s d
+  pub coops : All (λ name. is_name name ≡ true) s.coops
+  pub agents : All (IsBuiltAgent (mboxes_in s) (length s.messages) (length s.texts) (map disp_kind s.dispatchers) s.groups) s.agents
   pub names : IsDistinct bytes_eq (map agent_name s.agents ++ s.names.mboxes)
   pub texts : All (λ t. is_text t ≡ true) s.texts
+  pub texts_numbered : length s.texts ≤ 4096 → AreNumbered (texts_of s.agents) (length s.texts)
 
--- parts that are a scene where there are agents and each may be registered
+-- Parts whose lanes can be counted where the agents aren't too many. They are a scene where their totals are within the limits, and
+-- there is a cooperation, which has agents, and each may be registered.
 pub record IsChecked (s : SceneParts) : Type 0 where
-  pub few_agents : length s.agents ≤ 4096
-  pub scene : 0 < length s.agents → ((a : AgentId) → a.0 < length s.agents → definition_fault s a ≡ None) → IsScene s
+  pub bound : length s.agents ≤ 4096 → AreBound s
+  pub scene : exceeds s ≡ false → is_empty s.coops ≡ false → 0 < length s.agents → ((a : AgentId) → a.0 < length s.agents → definition_fault s a ≡ None) → IsScene s

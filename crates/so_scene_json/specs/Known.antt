@@ -1,9 +1,15 @@
--- The third pass: each name and id that is used is declared, and a signal carries no operands.
-use Rattle.std.specs.Prelude.{ℕ, List, Bool, false, slice_index_or, is_some, if◌then◌else◌, Option, Some, None, Result, Ok}
+-- The third pass: each name and id that is used is declared, a signal carries no operands, and an agent has a group exactly
+-- where its dispatcher wants one.
+use Rattle.std.specs.Prelude.{ℕ, List, [], ◌∷◌, ◌++◌, codes, Bool, true, false, slice_index_or, option_map, is_some, if◌then◌else◌, Option, Some, None, Result, Ok}
 use Rattle.serde_json.specs.Data.{Data, Items, no_items, item}
-use Rattle.serde_json.specs.Find.{as_str}
+use Rattle.serde_json.specs.Find.{as_str, get}
 use Rattle.so_scene.specs.Names.{has_name, number_in}
 use Rattle.so_scene.specs.declared.fault.SceneFault.{SceneFault}
+use Rattle.so_scene.specs.declared.fault.SceneFault.TheVariants as fault
+use Rattle.so_scene.specs.declared.parts.DispKind.{DispKind}
+use Rattle.so_scene.specs.declared.parts.DispKind.TheVariants.{OneThread, ActiveGroup}
+use Rattle.so_scene.specs.declared.place.Field.TheVariants.{Group}
+use Rattle.so_scene.specs.declared.place.PlaceStep.TheVariants.{Key}
 use Rattle.so_scene_json.specs.declared.act_table.Word.{Word}
 use Rattle.so_scene_json.specs.declared.act_table.Word.TheVariants as word
 use Rattle.so_scene_json.specs.declared.values.Trouble.{Trouble}
@@ -19,7 +25,7 @@ use Rattle.so_scene_json.specs.declared.table.Form.{Form}
 use Rattle.so_scene_json.specs.declared.table.Form.TheVariants as form
 use Rattle.so_scene_json.specs.Values.{◌or◌}
 use Rattle.so_scene_json.specs.Acts.{act_parts}
-use Rattle.so_scene_json.specs.Twice.{names_in}
+use Rattle.so_scene_json.specs.Twice.{names_in, kinds_in, disp_number_in}
 use Rattle.so_scene_json.specs.Scope.{number_with, scope_of, no_scope, all_states}
 use Rattle.so_scene_json.specs.Shape.{trouble_at, acts_from, unless_faulty}
 use Rattle.so_scene_json.specs.Visits.{Visit, enters, tries, leaves, Place, list_of}
@@ -95,6 +101,29 @@ abbrev pub field_unknown : Known → Form → Place → Option Data → Option S
 field_unknown s form place None = None
 field_unknown s form place (Some d) = form_unknown s form place d
 
+-- ---- groups
+
+-- Whether an agent may have a group, by the kind of its dispatcher. One that isn't declared is found next, at the field `disp`.
+abbrev pub group_unfit : Option DispKind → Place → Bool → Option SceneFault
+group_unfit None place given = None
+group_unfit (Some ActiveGroup) place true = None
+group_unfit (Some ActiveGroup) place false = Some (fault.Missing (place ++ Key Group ∷ []))
+group_unfit (Some other) place true = Some (fault.WrongShape place)
+group_unfit (Some other) place false = None
+
+-- the kind of the dispatcher of this number
+abbrev pub kind_at : Declared → ℕ → DispKind
+kind_at s n = slice_index_or (kinds_in s) n OneThread
+
+abbrev pub group_fault : Declared → Place → Data → Option SceneFault
+group_fault s place d = group_unfit (option_map (kind_at s) (disp_number_in s d)) place (is_some (get (codes "group") d))
+
+abbrev pub object_unknown : ObjectKind → Declared → Place → Data → Option SceneFault
+object_unknown object.Agent s place d = group_fault s place d
+object_unknown other s place d = None
+
+-- ---- the pass
+
 -- an agent names its own states and ids
 abbrev pub entered : ObjectKind → Data → Known → Known
 entered object.Agent d s = record s { scope = scope_of d }
@@ -104,6 +133,6 @@ abbrev pub knows : Declared → Known
 knows names = record { names = names; scope = no_scope }
 
 abbrev pub known_step : Known → Visit → Result Known SceneFault
-known_step s (enters kind place d) = Ok (entered kind d s)
+known_step s (enters kind place d) = unless_faulty (entered kind d s) (object_unknown kind s.names place d)
 known_step s (tries rule place found) = unless_faulty s (field_unknown s rule.form place found)
 known_step s (leaves kind place d) = Ok s

@@ -8,6 +8,7 @@ pub mod Shape
 pub mod Twice
 pub mod Known
 pub mod Writer
+pub mod Groups
 pub mod Defs
 pub mod Build
 pub mod Scene

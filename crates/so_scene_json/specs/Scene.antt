@@ -1,7 +1,6 @@
 -- The scene of bytes, or the first fault with its place.
 use Rattle.std.specs.Prelude.{ℕ, List, [], ◌∷◌, length, Bool, ◌||◌, nat_lt, is_some, if◌then◌else◌, Option, Some, None, Result, Ok, Err}
 use Rattle.std.specs.Str.{is_utf8}
-use Rattle.so_ids.specs.declared.AgentId.{AgentId}
 use Rattle.so_ids.specs.declared.DefFault.{DefFault}
 use Rattle.so_lists.specs.Lists.{is_empty, first_below}
 use Rattle.serde_json.specs.Data.{Data}
@@ -15,6 +14,8 @@ use Rattle.so_scene.specs.declared.fault.SceneFault.TheVariants as fault
 use Rattle.so_scene.specs.declared.parts.CoopDef.{CoopDef}
 use Rattle.so_scene.specs.declared.parts.SceneParts.{SceneParts}
 use Rattle.so_scene.specs.Definition.{definition_fault}
+use Rattle.so_scene.specs.Lanes.{agent_number, lanes}
+use Rattle.so_scene_json.specs.Groups.{group_lists}
 use Rattle.so_scene_json.specs.declared.build.Build.{Build}
 use Rattle.so_scene_json.specs.declared.shape.Shape.{Shape}
 use Rattle.so_scene_json.specs.declared.table.ObjectKind.TheVariants as object
@@ -35,18 +36,25 @@ fields d = visits 4 object.Scene [] d
 
 -- ---- after the fourth pass
 
--- the totals of agents and texts
-abbrev pub exceeds : Build → Bool
-exceeds s = nat_lt 4096 (length s.agents) || nat_lt 4096 (length s.texts)
+-- the one cooperation, of so many agents
+abbrev pub coops_of : Option (List ℕ) → ℕ → List CoopDef
+coops_of None agents = []
+coops_of (Some name) agents = record { name = name; first = record { 0 = 0 }; count = narrow agents } ∷ []
 
-abbrev pub coop_of : List ℕ → Build → CoopDef
-coop_of name s = record { name = name; first = record { 0 = 0 }; count = narrow (length s.agents) }
+abbrev pub parts_of : Option (List ℕ) → Build → SceneParts
+parts_of coop s = record {
+  messages = s.messages;
+  mboxes = s.names.mboxes;
+  dispatchers = s.dispatchers;
+  groups = group_lists s.groups (length s.dispatchers);
+  coops = coops_of coop (length s.agents);
+  agents = s.agents;
+  texts = s.texts;
+}
 
-abbrev pub parts_of : List ℕ → Build → SceneParts
-parts_of name s = record { messages = s.messages; mboxes = s.names.mboxes; coops = coop_of name s ∷ []; agents = s.agents; texts = s.texts }
-
-abbrev pub agent_number : ℕ → AgentId
-agent_number k = record { 0 = k }
+-- the totals of agents, texts and lanes
+abbrev pub exceeds : SceneParts → Bool
+exceeds s = nat_lt 4096 (length s.agents) || (nat_lt 4096 (length s.texts) || nat_lt 256 (lanes s))
 
 abbrev pub fault_of : SceneParts → ℕ → Option DefFault
 fault_of s k = definition_fault s (agent_number k)
@@ -75,12 +83,14 @@ abbrev pub admitted : SceneParts → Result SceneParts SceneFault
 admitted s = if is_refused s then Err (fault.NotBuilt first_coop) else Ok s
 
 -- nor is one that hasn't exactly one cooperation
-abbrev pub with_coop : Option (List ℕ) → Build → Result SceneParts SceneFault
-with_coop None s = Err (fault.NotBuilt coops_place)
-with_coop (Some name) s = admitted (parts_of name s)
+abbrev pub with_coop : SceneParts → Result SceneParts SceneFault
+with_coop s = if is_empty s.coops then Err (fault.NotBuilt coops_place) else admitted s
+
+abbrev pub checked : SceneParts → Result SceneParts SceneFault
+checked s = if exceeds s then Err (fault.OutOfRange []) else with_coop s
 
 abbrev pub finished : Build → Result SceneParts SceneFault
-finished s = if exceeds s then Err (fault.OutOfRange []) else with_coop (only s.coops) s
+finished s = checked (parts_of (only s.coops) s)
 
 -- ---- the four passes, one after the other
 

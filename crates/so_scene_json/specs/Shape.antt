@@ -8,6 +8,8 @@ use Rattle.so_scene.specs.declared.place.Field.{Field}
 use Rattle.so_scene.specs.declared.place.Field.TheVariants as field
 use Rattle.so_scene.specs.declared.fault.SceneFault.{SceneFault}
 use Rattle.so_scene.specs.declared.fault.SceneFault.TheVariants as fault
+use Rattle.so_scene.specs.declared.parts.DispKind.{DispKind}
+use Rattle.so_scene.specs.Checked.{is_built, is_pool}
 use Rattle.so_scene_json.specs.declared.act_table.Allowed.{Allowed}
 use Rattle.so_scene_json.specs.declared.table.ObjectKind.{ObjectKind}
 use Rattle.so_scene_json.specs.declared.table.ObjectKind.TheVariants as object
@@ -17,7 +19,7 @@ use Rattle.so_scene_json.specs.declared.table.Rule.{Rule}
 use Rattle.so_scene_json.specs.declared.values.Trouble.{Trouble}
 use Rattle.so_scene_json.specs.declared.values.Trouble.TheVariants.{WrongShape, OutOfRange, UnknownName, NotBuilt}
 use Rattle.so_scene_json.specs.Table.{rules_of}
-use Rattle.so_scene_json.specs.Values.{◌or◌, trouble, name_of, integer_of, number_of, flag_of, only_true, cmp_of, history_of, read_or}
+use Rattle.so_scene_json.specs.Values.{◌or◌, trouble, name_of, integer_of, number_of, flag_of, only_true, cmp_of, history_of, disp_kind_of, disp_kind_in, fifo_of, read_or}
 use Rattle.so_scene_json.specs.Acts.{act_trouble}
 use Rattle.so_scene_json.specs.Visits.{Visit, enters, tries, leaves, Place, at_item}
 
@@ -66,6 +68,11 @@ abbrev pub kind_trouble : Option (List ℕ) → Option Trouble
 kind_trouble None = Some WrongShape
 kind_trouble (Some text) = if is_message_kind text then None else Some WrongShape
 
+-- a kind of dispatcher that isn't built
+abbrev pub disp_kind_trouble : Result DispKind Trouble → Option Trouble
+disp_kind_trouble (Ok kind) = if is_built kind then None else Some NotBuilt
+disp_kind_trouble (Err t) = Some t
+
 -- a state isn't named `default`
 abbrev pub state_name_trouble : Result (List ℕ) Trouble → Option Trouble
 state_name_trouble (Ok name) = if bytes_eq name (codes "default") then Some WrongShape else None
@@ -113,6 +120,8 @@ form_fault form.AnyState place d = trouble_at place (trouble (name_of d))
 form_fault form.History place d = trouble_at place (trouble (history_of d))
 form_fault (form.Mboxes limit) place d = trouble_at place (list_trouble (Some limit) name_trouble (as_array d))
 form_fault form.MessageKind place d = trouble_at place (kind_trouble (as_str d))
+form_fault form.DispKind place d = trouble_at place (disp_kind_trouble (disp_kind_of d))
+form_fault form.Fifo place d = trouble_at place (trouble (fifo_of d))
 form_fault form.Flag place d = trouble_at place (trouble (flag_of d))
 form_fault form.OnlyTrue place d = trouble_at place (trouble (only_true d))
 form_fault form.Cmp place d = trouble_at place (trouble (cmp_of d))
@@ -143,8 +152,13 @@ is_row_breach d = not (effects d == 1) || (nat_lt (has field.Do d) (has field.De
 abbrev pub is_initial : Data → Bool
 is_initial d = read_or false flag_of (get (codes "initial") d)
 
+-- threads and fifo are a pool's
+abbrev pub is_disp_breach : Data → Bool
+is_disp_breach d = not (is_pool (disp_kind_in d)) && nat_lt 0 (has field.Threads d + has field.Fifo d)
+
 -- an initial state has a parent
 abbrev pub is_breach : ObjectKind → Data → Bool
+is_breach object.Dispatcher d = is_disp_breach d
 is_breach object.Row d = is_row_breach d
 is_breach object.State d = is_initial d && (has field.Parent d == 0)
 is_breach other d = false

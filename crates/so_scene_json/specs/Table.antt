@@ -1,6 +1,7 @@
 -- The fields of each kind of object, in their order. A field that is `later` isn't built: it is known, and refused where
 -- it is given. Where an optional field is absent, a list is empty, a message's kind is `message`, a row's mbox is the agent's
--- own and its state `default`, a state lies at the top, is not initial and has no history, and what may be active is.
+-- own and its state `default`, a state lies at the top, is not initial and has no history, what may be active is, a pool has
+-- four threads and a queue for each cooperation, and an agent is bound to the dispatcher `default`.
 use Rattle.std.specs.Prelude.{Option, Some, None, List, [], ◌∷◌, true, false}
 use Rattle.so_scene.specs.declared.place.Field.{Field}
 use Rattle.so_scene.specs.declared.place.Field.TheVariants as field
@@ -30,7 +31,7 @@ rules_of object.Scene =
     ∷ optional field.Messages (form.Objects object.Message (Some 256))
     ∷ optional field.Mboxes (form.Mboxes 256)
     ∷ later field.Chains
-    ∷ later field.Dispatchers
+    ∷ optional field.Dispatchers (form.Objects object.Dispatcher (Some 63))
     ∷ optional field.Coops (form.Objects object.Coop (Some 1024))
     ∷ later field.Threads
     ∷ []
@@ -45,11 +46,11 @@ rules_of object.Chain =
     ∷ later field.Wait
     ∷ []
 rules_of object.Dispatcher =
-    later field.Name
-    ∷ later field.Kind
+    required field.Name form.Name
+    ∷ required field.Kind form.DispKind
     ∷ later field.Slots
-    ∷ later field.Threads
-    ∷ later field.Fifo
+    ∷ optional field.Threads (form.Number 1 64)
+    ∷ optional field.Fifo form.Fifo
     ∷ later field.Quotes
     ∷ []
 rules_of object.Coop =
@@ -61,8 +62,8 @@ rules_of object.Coop =
     ∷ []
 rules_of object.Agent =
     required field.Name form.Name
-    ∷ later field.Disp
-    ∷ later field.Group
+    ∷ optional field.Disp (form.NameIn space.Dispatchers)
+    ∷ optional field.Group form.Name
     ∷ later field.Priority
     ∷ later field.Reaction
     ∷ later field.Native
@@ -124,6 +125,7 @@ objects_of other = None
 -- agent's own.
 abbrev pub space_of : ObjectKind → Option Space
 space_of object.Message = Some space.Messages
+space_of object.Dispatcher = Some space.Dispatchers
 space_of object.Coop = Some space.Coops
 space_of object.Agent = Some space.Mboxes
 space_of object.State = Some space.States

@@ -1,8 +1,10 @@
 -- The second pass: in each name space each name is declared once. What it leaves is the numbering of the names.
-use Rattle.std.specs.Prelude.{ℕ, codes, List, [], ◌∷◌, ◌++◌, Bool, false, if◌then◌else◌, Option, Some, None, Result, Ok, Err, bytes_eq}
+use Rattle.std.specs.Prelude.{ℕ, codes, List, [], ◌∷◌, ◌++◌, Bool, false, if◌then◌else◌, Option, Some, None, option_and_then, Result, Ok, Err, bytes_eq}
 use Rattle.serde_json.specs.Data.{Data, Items, no_items, item}
 use Rattle.serde_json.specs.Find.{as_str, get}
-use Rattle.so_scene.specs.Names.{has_name}
+use Rattle.so_scene.specs.Names.{number_in, has_name}
+use Rattle.so_scene.specs.declared.parts.DispKind.{DispKind}
+use Rattle.so_scene.specs.declared.parts.DispKind.TheVariants.{OneThread}
 use Rattle.so_scene.specs.declared.place.PlaceStep.TheVariants.{Key}
 use Rattle.so_scene.specs.declared.fault.SceneFault.{SceneFault}
 use Rattle.so_scene.specs.declared.fault.SceneFault.TheVariants as fault
@@ -15,7 +17,7 @@ use Rattle.so_scene_json.specs.declared.table.Form.TheVariants as form
 use Rattle.so_scene_json.specs.declared.values.Trouble.{Trouble}
 use Rattle.so_scene_json.specs.declared.declare.Declared.{Declared}
 use Rattle.so_scene_json.specs.Table.{space_of, key_of}
-use Rattle.so_scene_json.specs.Values.{name_of, name_in, id_in}
+use Rattle.so_scene_json.specs.Values.{name_of, name_in, id_in, disp_kind_in}
 use Rattle.so_scene_json.specs.Visits.{Visit, enters, tries, leaves, Place, list_of}
 
 abbrev pub is_signal_word : Option (List ℕ) → Bool
@@ -31,12 +33,13 @@ abbrev pub is_signal : Data → Bool
 is_signal d = is_signal_kind (get (codes "kind") d)
 
 abbrev pub no_names : Declared
-no_names = record { messages = []; coops = []; agents = []; mboxes = []; states = []; rows = []; filters = []; signals = [] }
+no_names = record { messages = []; dispatchers = []; kinds = []; coops = []; agents = []; mboxes = []; states = []; rows = []; filters = []; signals = [] }
 
--- The names of a space, by number. A direct mbox has its agent's name, and the named mboxes follow. States, rows and
--- filters are those of the agent that is visited.
+-- The names of a space, by number. The dispatcher `default` comes before those that are declared. A direct mbox has its agent's
+-- name, and the named mboxes follow. States, rows and filters are those of the agent that is visited.
 abbrev pub names_in : Space → Declared → List (List ℕ)
 names_in space.Messages s = s.messages
+names_in space.Dispatchers s = codes "default" ∷ s.dispatchers
 names_in space.Coops s = s.coops
 names_in space.Mboxes s = s.agents ++ s.mboxes
 names_in space.States s = s.states
@@ -46,11 +49,25 @@ names_in space.Filters s = s.filters
 -- the name that an object declares goes to the end
 abbrev pub with_name : Space → List ℕ → Declared → Declared
 with_name space.Messages name s = record s { messages = s.messages ++ name ∷ [] }
+with_name space.Dispatchers name s = record s { dispatchers = s.dispatchers ++ name ∷ [] }
 with_name space.Coops name s = record s { coops = s.coops ++ name ∷ [] }
 with_name space.Mboxes name s = record s { agents = s.agents ++ name ∷ [] }
 with_name space.States name s = record s { states = s.states ++ name ∷ [] }
 with_name space.Rows name s = record s { rows = s.rows ++ name ∷ [] }
 with_name space.Filters name s = record s { filters = s.filters ++ name ∷ [] }
+
+-- ---- the dispatcher of an agent, by number
+
+abbrev pub disp_number : Declared → Option (List ℕ) → Option ℕ
+disp_number s None = Some 0
+disp_number s (Some name) = number_in (names_in space.Dispatchers s) name
+
+abbrev pub disp_number_in : Declared → Data → Option ℕ
+disp_number_in s d = disp_number s (option_and_then as_str (get (codes "disp") d))
+
+-- the kind of each dispatcher
+abbrev pub kinds_in : Declared → List DispKind
+kinds_in s = OneThread ∷ s.kinds
 
 -- ---- named mboxes
 
@@ -72,9 +89,10 @@ with_field other found s = s
 
 -- ---- objects
 
--- of each message, whether it is a signal; and each agent has state names, row ids and filter ids of its own
+-- of each message, whether it is a signal; of each dispatcher its kind; and each agent has state names, row ids and filter ids of its own
 abbrev pub entering : ObjectKind → Data → Declared → Declared
 entering object.Message d s = record s { signals = s.signals ++ is_signal d ∷ [] }
+entering object.Dispatcher d s = record s { kinds = s.kinds ++ disp_kind_in d ∷ [] }
 entering object.Agent d s = record s { states = []; rows = []; filters = [] }
 entering other d s = s
 

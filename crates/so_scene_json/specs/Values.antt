@@ -9,6 +9,10 @@ use Rattle.so_code.specs.declared.instr.Operand.{Operand}
 use Rattle.so_code.specs.declared.instr.Operand.TheVariants as operand
 use Rattle.so_code.specs.declared.instr.Dest.{Dest}
 use Rattle.so_code.specs.declared.instr.Dest.TheVariants as dest
+use Rattle.so_scene.specs.declared.parts.DispKind.{DispKind}
+use Rattle.so_scene.specs.declared.parts.DispKind.TheVariants as disp
+use Rattle.so_scene.specs.declared.parts.Fifo.{Fifo}
+use Rattle.so_scene.specs.declared.parts.Fifo.TheVariants as fifo
 use Rattle.so_scene.specs.Words.{is_name, is_text}
 use Rattle.so_state.specs.declared.states.History.{History}
 use Rattle.so_state.specs.declared.states.History.TheVariants as history
@@ -159,6 +163,34 @@ history_named text =
 abbrev pub history_of : Data → Result History Trouble
 history_of = named history_named
 
+-- ---- dispatchers
+
+abbrev pub disp_kind_named : List ℕ → Option DispKind
+disp_kind_named text =
+    if bytes_eq text (codes "one_thread") then Some disp.OneThread else (
+    if bytes_eq text (codes "active_obj") then Some disp.ActiveObj else (
+    if bytes_eq text (codes "active_group") then Some disp.ActiveGroup else (
+    if bytes_eq text (codes "thread_pool") then Some disp.ThreadPool else (
+    if bytes_eq text (codes "adv_thread_pool") then Some disp.AdvThreadPool else (
+    if bytes_eq text (codes "strictly_ordered") then Some disp.StrictlyOrdered else (
+    if bytes_eq text (codes "quoted_round_robin") then Some disp.QuotedRoundRobin else (
+    if bytes_eq text (codes "one_per_prio") then Some disp.OnePerPrio else None)))))))
+
+abbrev pub disp_kind_of : Data → Result DispKind Trouble
+disp_kind_of = named disp_kind_named
+
+abbrev pub fifo_named : List ℕ → Option Fifo
+fifo_named text =
+    if bytes_eq text (codes "cooperation") then Some fifo.Cooperation else (
+    if bytes_eq text (codes "individual") then Some fifo.Individual else None)
+
+abbrev pub fifo_of : Data → Result Fifo Trouble
+fifo_of = named fifo_named
+
+-- the kind of a dispatcher
+abbrev pub disp_kind_in : Data → DispKind
+disp_kind_in d = read_or disp.OneThread disp_kind_of (get (codes "kind") d)
+
 -- ---- strings of an object
 
 abbrev pub text_or_empty : Option (List ℕ) → List ℕ
@@ -173,9 +205,17 @@ string_in key d = text_or_empty (option_and_then as_str (get key d))
 abbrev pub name_in : Data → List ℕ
 name_in d = text_or_empty (checked is_name (string_in (codes "name") d))
 
+-- the name in a field, if it has one
+abbrev pub name_at : List ℕ → Data → Option (List ℕ)
+name_at key d = checked is_name (string_in key d)
+
 -- the id of an object, if it has one
 abbrev pub id_in : Data → Option (List ℕ)
-id_in d = checked is_name (string_in (codes "id") d)
+id_in d = name_at (codes "id") d
+
+-- the group of an agent, if it has one
+abbrev pub group_in : Data → Option (List ℕ)
+group_in d = name_at (codes "group") d
 
 -- a text that was lent
 abbrev pub Views : Result (Bor (List ℕ)) Trouble → Result (List ℕ) Trouble → Type 0

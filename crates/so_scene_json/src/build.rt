@@ -4,23 +4,30 @@ ghost use Rattle.std.specs.Prelude.{◌≡◌, ◌<◌, ◌≤◌, ◌-◌, ◌+
 ghost use Rattle.serde_json.specs.Events.{items_len};
 ghost use Rattle.serde_json.specs.View.{view, items_view};
 ghost use Rattle.so_code.specs.Shape.{IsCode};
-ghost use Rattle.so_scene_json.specs.Build.{allowed_in, body_written, start_written, state_written, states_written, row_body, handler_written, rows_written, agent_written, state_place, tree_of, is_long, no_parts, with_message, with_coop, agent_with, with_code, with_tree, with_agent, build_step};
+ghost use Rattle.so_scene_json.specs.Build.{agent_added, with_disp, allowed_in, body_written, start_written, state_written, states_written, row_body, handler_written, rows_written, agent_written, state_place, tree_of, is_long, no_parts, with_message, with_coop, agent_with, with_code, with_tree, with_agent, build_step};
+ghost use Rattle.so_scene_json.specs.Defs.{disp_in};
+ghost use Rattle.so_scene_json.specs.Groups.{with_group};
+ghost use Rattle.so_scene_json.specs.Values.{group_in};
 ghost use Rattle.so_scene_json.specs.Reads.{Reads, Returns};
 ghost use Rattle.so_scene_json.specs.Visits.{list_of, Leaves};
 ghost use Rattle.so_state.specs.Fault.{named};
 
 use crate::act_table::Allowed;
 use crate::declare::Declared;
-use crate::defs::{filters_in, message_of, name_of, rows_in, states_in, vars_of};
+use crate::defs::{
+    default_disp, disp_in, disp_of, filters_in, message_of, name_of, rows_in, states_in, vars_of,
+};
+use crate::groups::{Group, add_group, group_number};
 use crate::scope::Scope;
 use crate::table::{ObjectKind, Rule};
+use crate::values::group_in;
 use crate::walk::{Pass, list, position};
 use crate::write::Writer;
 use serde_json::Value;
 use so_code::{Body, Code, Instr};
-use so_ids::{CoopId, RowId, StateId};
+use so_ids::{CoopId, Priority, RowId, StateId};
 use so_scene::{
-    AgentDef, Field, Items, MessageDef, Name, Names, PlaceStep, SceneFault, ScenePlace,
+    AgentDef, DispDef, Field, Items, MessageDef, Name, Names, PlaceStep, SceneFault, ScenePlace,
     SceneRefusal,
 };
 use so_state::{State, Tree, TreeFault};
@@ -185,23 +192,28 @@ fn written(
     Ok(writer)
 }
 
-/// The agent of a number, with its states, its names and ids, and its code.
+/// The agent of a number, with its states, its names and ids, and its code, where there are these groups.
 fn agent_with(
     alloc: Global,
     number: usize,
     names: &Declared,
+    groups: &[Group],
     value: &Value,
     tree: Tree,
     scope: Scope,
     code: Items<Instr>,
 ) -> Result<AgentDef, SceneRefusal>
     requires { IsCode code }
-    ensures { Returns (agent_with number names.now (view value.now) tree scope code) result }
+    ensures { Returns (agent_with number names.now groups.now (view value.now) tree scope code) result }
 {
+    let disp = disp_in(names, value);
     let rows = rows_in(alloc, number, names, &scope, list(value.get("on")))?;
     Ok(AgentDef {
         name: name_of(value),
         coop: CoopId(0),
+        disp,
+        group: group_number(groups, disp, group_in(value)),
+        priority: Priority { level: 0 },
         vars: vars_of(value),
         state_names: scope.states,
         tree,
@@ -217,6 +229,10 @@ fn agent_with(
 pub(crate) struct Build {
     pub(crate) names: Declared,
     pub(crate) messages: Items<MessageDef>,
+    /// The first is `default`.
+    pub(crate) dispatchers: Items<DispDef>,
+    /// The groups of all dispatchers.
+    pub(crate) groups: Items<Group>,
     /// The names of the cooperations.
     pub(crate) coops: Items<Name>,
     pub(crate) agents: Items<AgentDef>,
@@ -224,23 +240,39 @@ pub(crate) struct Build {
 }
 
 impl Build {
-    /// Nothing so far.
-    pub(crate) fn new(alloc: Global, names: Declared) -> Build
-        ensures { result ≡ no_parts names }
+    /// Nothing so far but the dispatcher `default`.
+    pub(crate) fn new(alloc: Global, names: Declared) -> Result<Build, SceneRefusal>
+        ensures { Returns (no_parts names) result }
     {
-        Build {
+        let mut dispatchers = Items::new(alloc);
+        match dispatchers.push(default_disp()) {
+            Ok(()) => {}
+            Err(_) => return Err(SceneRefusal::NoMemory),
+        }
+        Ok(Build {
             names,
             messages: Items::new(alloc),
+            dispatchers,
+            groups: Items::new(alloc),
             coops: Items::new(alloc),
             agents: Items::new(alloc),
             texts: Names::new(alloc),
-        }
+        })
     }
 
     fn message(&mut self, value: &Value) -> Result<(), SceneRefusal>
         ensures { Leaves (Ok (with_message (view value.now) self.old)) result self.new }
     {
         match self.messages.push(message_of(value)) {
+            Ok(()) => Ok(()),
+            Err(_) => Err(SceneRefusal::NoMemory),
+        }
+    }
+
+    fn dispatcher(&mut self, value: &Value) -> Result<(), SceneRefusal>
+        ensures { Leaves (Ok (with_disp (view value.now) self.old)) result self.new }
+    {
+        match self.dispatchers.push(disp_of(value)) {
             Ok(()) => Ok(()),
             Err(_) => Err(SceneRefusal::NoMemory),
         }
@@ -305,8 +337,18 @@ impl Build {
         if code.len() > 1024 {
             return Err(SceneRefusal::Fault(SceneFault::OutOfRange(place.copy())));
         }
-        let agent = agent_with(alloc, number, &self.names, value, tree, scope, code)?;
+        let groups = self.groups.as_slice();
+        let agent = agent_with(alloc, number, &self.names, groups, value, tree, scope, code)?;
+        self.add_group(value)?;
         self.add(agent, texts)
+    }
+
+    /// The group of an agent.
+    fn add_group(&mut self, value: &Value) -> Result<(), SceneRefusal>
+        ensures { Leaves (Ok (record self.old { groups = with_group (disp_in self.old.names (view value.now)) (group_in (view value.now)) self.old.groups })) result self.new }
+    {
+        let disp = disp_in(&self.names, value);
+        add_group(&mut self.groups, disp, group_in(value))
     }
 
     fn add(&mut self, agent: AgentDef, texts: Names) -> Result<(), SceneRefusal>
@@ -335,6 +377,7 @@ impl Pass for Build {
     ) -> Result<(), SceneRefusal> {
         match kind {
             ObjectKind::Message => self.message(value),
+            ObjectKind::Dispatcher => self.dispatcher(value),
             ObjectKind::Coop => self.coop(value),
             ObjectKind::Agent => self.agent(place, value),
             _ => Ok(()),

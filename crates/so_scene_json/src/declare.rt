@@ -3,15 +3,16 @@
 ghost use Rattle.std.specs.Prelude.{◌≡◌, ◌<◌, ◌+◌, ◌++◌, Some, Ok, length, option_map};
 ghost use Rattle.serde_json.specs.View.{view, items_view};
 ghost use Rattle.so_scene.specs.Names.{number_in};
+ghost use Rattle.so_scene_json.specs.declared.table.Space.TheVariants as space;
 ghost use Rattle.so_scene_json.specs.Values.{name_of, name_in, id_in};
-ghost use Rattle.so_scene_json.specs.Twice.{is_signal, no_names, names_in, with_mbox, with_mbox_read, with_mboxes, entering, name_for, declared_name, declared, twice_step};
+ghost use Rattle.so_scene_json.specs.Twice.{is_signal, no_names, names_in, disp_number_in, with_mbox, with_mbox_read, with_mboxes, entering, name_for, declared_name, declared, twice_step};
 ghost use Rattle.so_scene_json.specs.Visits.{Leaves};
 
 use crate::table::{Form, ObjectKind, Rule, Space, declares, key};
-use crate::values::{name, name_in, string_in};
+use crate::values::{disp_kind_in, name, name_in, string_in};
 use crate::walk::{Pass, list};
 use serde_json::Value;
-use so_scene::{Items, Names, PlaceStep, SceneFault, ScenePlace, SceneRefusal, is_name};
+use so_scene::{DispKind, Items, Names, PlaceStep, SceneFault, ScenePlace, SceneRefusal, is_name};
 use std::alloc::Global;
 
 /// Whether a message is a signal.
@@ -54,6 +55,10 @@ fn name_for(space: Space, value: &Value) -> Option<&str>
 #[derive(Drop)]
 pub(crate) struct Declared {
     pub(crate) messages: Names,
+    /// Those that are declared. Their numbers follow that of `default`.
+    pub(crate) dispatchers: Names,
+    /// Of each of these its kind.
+    pub(crate) kinds: Items<DispKind>,
     pub(crate) coops: Names,
     pub(crate) agents: Names,
     /// The named mboxes. Their numbers follow those of the agents.
@@ -77,12 +82,23 @@ fn number_behind(first: &Names, second: &Names, k: usize) -> usize
     first.as_slice().len() + k
 }
 
+/// The number of the declared dispatcher `k`.
+fn number_of_disp(dispatchers: &Names, k: usize) -> usize
+    requires { k < length dispatchers.now }
+    ensures { result ≡ 1 + k }
+{
+    let _dispatchers = dispatchers.as_slice().len();
+    1 + k
+}
+
 impl Declared {
     pub(crate) fn new(alloc: Global) -> Declared
         ensures { result ≡ no_names }
     {
         Declared {
             messages: Names::new(alloc),
+            dispatchers: Names::new(alloc),
+            kinds: Items::new(alloc),
             coops: Names::new(alloc),
             agents: Names::new(alloc),
             mboxes: Names::new(alloc),
@@ -106,12 +122,39 @@ impl Declared {
         }
     }
 
+    /// The number of a dispatcher: 0 is `default`, and the declared ones follow.
+    fn disp(&self, name: &str) -> Option<usize>
+        ensures { result ≡ number_in (names_in space.Dispatchers self.now) name.now }
+    {
+        if name == "default" {
+            return Some(0);
+        }
+        match self.dispatchers.number(name) {
+            Some(k) => Some(number_of_disp(&self.dispatchers, k)),
+            None => None,
+        }
+    }
+
+    /// The number of an agent's dispatcher.
+    pub(crate) fn disp_of(&self, agent: &Value) -> Option<usize>
+        ensures { result ≡ disp_number_in self.now (view agent.now) }
+    {
+        match agent.get("disp") {
+            Some(found) => match found.as_str() {
+                Some(name) => self.disp(name),
+                None => Some(0),
+            },
+            None => Some(0),
+        }
+    }
+
     /// The number of a name in its space.
     pub(crate) fn number(&self, space: Space, name: &str) -> Option<usize>
         ensures { result ≡ number_in (names_in space self.now) name.now }
     {
         match space {
             Space::Messages => self.messages.number(name),
+            Space::Dispatchers => self.disp(name),
             Space::Coops => self.coops.number(name),
             Space::Mboxes => self.mbox(name),
             Space::States => self.states.number(name),
@@ -131,6 +174,7 @@ impl Declared {
         }
         let added = match space {
             Space::Messages => self.messages.add(name),
+            Space::Dispatchers => self.dispatchers.add(name),
             Space::Coops => self.coops.add(name),
             Space::Mboxes => self.agents.add(name),
             Space::States => self.states.add(name),
@@ -180,6 +224,10 @@ impl Declared {
     {
         match kind {
             ObjectKind::Message => match self.signals.push(is_signal(value)) {
+                Ok(()) => Ok(()),
+                Err(_) => Err(SceneRefusal::NoMemory),
+            },
+            ObjectKind::Dispatcher => match self.kinds.push(disp_kind_in(value)) {
                 Ok(()) => Ok(()),
                 Err(_) => Err(SceneRefusal::NoMemory),
             },

@@ -1,22 +1,26 @@
-//! The parts of a scene that one value stands for: a message, and an agent's variables, states, rows and filters.
+//! The parts of a scene that one value stands for: a message, a dispatcher, and an agent's dispatcher, variables, states, rows and
+//! filters.
 
-ghost use Rattle.std.specs.Prelude.{◌≡◌, ◌++◌, ◌∷◌, [], ℤ, Some, map, length};
+ghost use Rattle.std.specs.Prelude.{◌≡◌, ◌++◌, ◌∷◌, [], ℤ, Some, map, length, codes};
 ghost use Rattle.std.specs.List.{range_with_len};
 ghost use Rattle.serde_json.specs.View.{view, items_view};
-ghost use Rattle.so_scene_json.specs.Defs.{message_of, var_at, vars_in, vars_of, number_named, msg_in, mbox_in, state_named, state_in, parent_in, history_in, state_of, states_of, row_mbox, handler_kind, kind_of, row_of, rows_of, field_in, cmp_in, value_in, filter_of, filters_of};
+ghost use Rattle.so_scene_json.specs.Defs.{message_of, threads_in, fifo_in, disp_of, disp_in, var_at, vars_in, vars_of, number_named, msg_in, mbox_in, state_named, state_in, parent_in, history_in, state_of, states_of, row_mbox, handler_kind, kind_of, row_of, rows_of, field_in, cmp_in, value_in, filter_of, filters_of};
+ghost use Rattle.so_scene.specs.Parts.{default_disp};
 ghost use Rattle.so_scene_json.specs.Reads.{Returns};
 ghost use Rattle.so_scene_json.specs.Values.{name_in};
 
 use crate::declare::{Declared, is_signal};
 use crate::scope::Scope;
 use crate::table::Space;
-use crate::values::{comparison, flag_or, history, id_in, integer, name_in, number, string_in};
+use crate::values::{
+    comparison, disp_kind_in, fifo, flag_or, history, id_in, integer, name_in, number, string_in,
+};
 use crate::walk::{list, position};
 use crate::write::item;
 use serde_json::Value;
 use so_code::Cmp;
-use so_ids::{MboxId, MsgId, StateId, Vars};
-use so_scene::{FilterDef, Items, MessageDef, Name, SceneRefusal};
+use so_ids::{DispId, MboxId, MsgId, StateId, Vars};
+use so_scene::{DispDef, DispKind, Fifo, FilterDef, Items, MessageDef, Name, SceneRefusal};
 use so_state::{History, Row, RowKind, State};
 use std::alloc::Global;
 
@@ -98,6 +102,78 @@ fn row_mbox(agent: usize, names: &Declared, value: &Value) -> MboxId
         mbox_in(names, value)
     } else {
         MboxId(position(agent))
+    }
+}
+
+/// How many threads a pool has.
+fn threads_in(value: &Value) -> u32
+    ensures { result ≡ threads_in (view value.now) }
+{
+    match value.get("threads") {
+        Some(threads) => match number(1, 64, threads) {
+            Ok(n) => n as u32,
+            Err(_) => 4,
+        },
+        None => 4,
+    }
+}
+
+/// Which agents of a pool share a queue.
+fn fifo_in(value: &Value) -> Fifo
+    ensures { result ≡ fifo_in (view value.now) }
+{
+    match value.get("fifo") {
+        Some(value) => match fifo(value) {
+            Ok(fifo) => fifo,
+            Err(_) => Fifo::Cooperation,
+        },
+        None => Fifo::Cooperation,
+    }
+}
+
+pub(crate) fn disp_of(value: &Value) -> DispDef
+    ensures { result ≡ disp_of (view value.now) }
+{
+    DispDef {
+        name: name_of(value),
+        kind: disp_kind_in(value),
+        slots: 4096,
+        threads: threads_in(value),
+        fifo: fifo_in(value),
+        quotes: [20; 8],
+    }
+}
+
+/// The dispatcher `default`.
+pub(crate) fn default_disp() -> DispDef
+    ensures { result ≡ default_disp }
+{
+    DispDef {
+        name: default_name(),
+        kind: DispKind::OneThread,
+        slots: 4096,
+        threads: 4,
+        fifo: Fifo::Cooperation,
+        quotes: [20; 8],
+    }
+}
+
+fn default_name() -> Name
+    ensures { result ≡ codes "default" }
+{
+    match Name::of("default") {
+        Some(name) => name,
+        None => unreachable!(),
+    }
+}
+
+/// The dispatcher of an agent.
+pub(crate) fn disp_in(names: &Declared, value: &Value) -> DispId
+    ensures { result ≡ disp_in names.now (view value.now) }
+{
+    match names.disp_of(value) {
+        Some(n) => DispId(position(n)),
+        None => DispId(0),
     }
 }
 

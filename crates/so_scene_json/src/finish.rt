@@ -1,14 +1,17 @@
 //! What is tried after the fourth pass, and the scene of the parts.
 
-ghost use Rattle.std.specs.Prelude.{◌≡◌, ◌≤◌, ◌∷◌, [], map, string_bytes, length, bytes_eq, true, false, IfOk};
+ghost use Rattle.std.specs.Prelude.{◌≡◌, ◌≤◌, ◌∷◌, [], map, string_bytes, length, bytes_eq, nat_lt, true, false, IfOk};
+ghost use Rattle.so_lists.specs.Lists.{is_empty};
 ghost use Rattle.std.specs.List.{All, IsDistinct};
 ghost use Rattle.so_scene.specs.Words.{is_name, is_text};
 ghost use Rattle.so_scene_json.specs.Kept.{IsBuilt, IsChecked};
 ghost use Rattle.so_scene_json.specs.Visits.{narrow};
 ghost use Rattle.so_scene_json.specs.Reads.{Reads, Returns};
-ghost use Rattle.so_scene_json.specs.Scene.{exceeds, parts_of, coops_place, first_coop, first_fault, is_refused, admitted, only, with_coop, finished};
+ghost use Rattle.so_scene.specs.Lanes.{AreBound, lanes};
+ghost use Rattle.so_scene_json.specs.Scene.{coops_of, exceeds, parts_of, coops_place, first_coop, first_fault, is_refused, admitted, only, with_coop, checked, finished};
 
 use crate::build::Build;
+use crate::groups::group_lists;
 use crate::walk::position;
 use so_ids::{AgentId, DefFault};
 use so_scene::{
@@ -82,36 +85,54 @@ fn mboxes_of(alloc: Global, names: &Names) -> Result<Items<Name>, SceneRefusal>
     mbox_list(alloc, names.as_slice())
 }
 
-fn coops_of(alloc: Global, name: Name, count: usize) -> Result<Items<CoopDef>, SceneRefusal>
-    ensures coops { Returns (record { name = name; first = record { 0 = 0 }; count = narrow count } ∷ []) result }
-    ensures named { length name ≤ 32 }
+/// The one cooperation, of so many agents.
+fn coops_of(
+    alloc: Global,
+    coop: Option<Name>,
+    agents: usize,
+) -> Result<Items<CoopDef>, SceneRefusal>
+    ensures { Returns (coops_of coop agents) result }
 {
-    let _bytes = name.bytes();
     let mut coops = Items::new(alloc);
+    let Some(name) = coop else {
+        return Ok(coops);
+    };
     match coops.push(CoopDef {
         name,
         first: AgentId(0),
-        count: position(count),
+        count: position(agents),
     }) {
         Ok(()) => Ok(coops),
         Err(_) => Err(SceneRefusal::NoMemory),
     }
 }
 
-/// The parts of the one cooperation.
-fn parts_of(name: Name, build: Build) -> Result<SceneParts, SceneRefusal>
-    requires built { IsBuilt build }
-    requires few { exceeds build ≡ false }
-    ensures parts { Returns (parts_of name build) result }
+fn only(coops: &[Name]) -> Option<Name>
+    ensures { result ≡ only coops.now }
+{
+    match coops {
+        [name] => Some(name.copy()),
+        [] => None,
+        [_first, _second, ..] => None,
+    }
+}
+
+/// The parts, with the cooperation if there is exactly one.
+fn parts_of(build: Build) -> Result<SceneParts, SceneRefusal>
+    requires { IsBuilt build }
+    ensures parts { Returns (parts_of (only build.coops) build) result }
     ensures checked { IfOk result IsChecked }
 {
     let alloc = build.texts.alloc();
-    let coops = coops_of(alloc, name, build.agents.len())?;
+    let coops = coops_of(alloc, only(build.coops.as_slice()), build.agents.len())?;
     let mboxes = mboxes_of(alloc, &build.names.mboxes)?;
     let texts = texts_of(alloc, &build.texts)?;
+    let groups = group_lists(alloc, build.groups.as_slice(), build.dispatchers.len())?;
     let Build {
         names: _,
         messages,
+        dispatchers,
+        groups: _,
         coops: _,
         agents,
         texts: _,
@@ -119,6 +140,8 @@ fn parts_of(name: Name, build: Build) -> Result<SceneParts, SceneRefusal>
     Ok(SceneParts {
         messages,
         mboxes,
+        dispatchers,
+        groups,
         coops,
         agents,
         texts,
@@ -147,42 +170,65 @@ fn is_refused(parts: &SceneParts) -> bool
     parts.agents.as_slice().is_empty() || first_fault(parts).is_some()
 }
 
-fn admitted(parts: SceneParts) -> Result<Scene, SceneRefusal>
-    requires { IsChecked parts }
+fn admitted(alloc: Global, parts: SceneParts) -> Result<Scene, SceneRefusal>
+    requires checked { IsChecked parts }
+    requires few { exceeds parts ≡ false }
+    requires coop { is_empty parts.coops ≡ false }
     ensures { Reads result (admitted parts) }
 {
     if is_refused(&parts) {
         return Err(SceneRefusal::Fault(SceneFault::NotBuilt(first_coop())));
     }
-    Ok(Scene::new(parts))
-}
-
-fn only(coops: &[Name]) -> Option<Name>
-    ensures { result ≡ only coops.now }
-{
-    match coops {
-        [name] => Some(name.copy()),
-        [] => None,
-        [_first, _second, ..] => None,
+    match Scene::new(alloc, parts) {
+        Ok(scene) => Ok(scene),
+        Err(_) => Err(SceneRefusal::NoMemory),
     }
 }
 
-fn with_coop(coop: Option<Name>, build: Build) -> Result<Scene, SceneRefusal>
-    requires built { IsBuilt build }
-    requires few { exceeds build ≡ false }
-    ensures { Reads result (with_coop coop build) }
+fn with_coop(alloc: Global, parts: SceneParts) -> Result<Scene, SceneRefusal>
+    requires checked { IsChecked parts }
+    requires few { exceeds parts ≡ false }
+    ensures { Reads result (with_coop parts) }
 {
-    let Some(name) = coop else {
+    if parts.coops.as_slice().is_empty() {
         return Err(SceneRefusal::Fault(SceneFault::NotBuilt(coops_place())));
-    };
-    admitted(parts_of(name, build)?)
+    }
+    admitted(alloc, parts)
 }
 
-/// Tells whether there are too many agents or texts.
-fn exceeds(build: &Build) -> bool
-    ensures { result ≡ exceeds build.now }
+/// Tells whether there are too many lanes.
+fn has_many_lanes(alloc: Global, parts: &SceneParts) -> Result<bool, SceneRefusal>
+    requires { AreBound parts.now }
+    ensures { Returns (nat_lt 256 (lanes parts.now)) result }
 {
-    build.agents.len() > 4096 || build.texts.len() > 4096
+    match parts.lanes(alloc) {
+        Ok(lanes) => Ok(lanes > 256),
+        Err(_) => Err(SceneRefusal::NoMemory),
+    }
+}
+
+/// Tells whether there are too many agents, texts or lanes.
+fn exceeds(alloc: Global, parts: &SceneParts) -> Result<bool, SceneRefusal>
+    requires { IsChecked parts.now }
+    ensures { Returns (exceeds parts.now) result }
+{
+    if parts.agents.len() > 4096 {
+        return Ok(true);
+    }
+    if parts.texts.len() > 4096 {
+        return Ok(true);
+    }
+    has_many_lanes(alloc, parts)
+}
+
+fn checked(alloc: Global, parts: SceneParts) -> Result<Scene, SceneRefusal>
+    requires { IsChecked parts }
+    ensures { Reads result (checked parts) }
+{
+    if exceeds(alloc, &parts)? {
+        return Err(SceneRefusal::Fault(SceneFault::OutOfRange(ScenePlace::root())));
+    }
+    with_coop(alloc, parts)
 }
 
 /// The scene of the parts, or what is wrong with them as a whole.
@@ -190,8 +236,6 @@ pub(crate) fn finish(build: Build) -> Result<Scene, SceneRefusal>
     requires { IsBuilt build }
     ensures { Reads result (finished build) }
 {
-    if exceeds(&build) {
-        return Err(SceneRefusal::Fault(SceneFault::OutOfRange(ScenePlace::root())));
-    }
-    with_coop(only(build.coops.as_slice()), build)
+    let alloc = build.texts.alloc();
+    checked(alloc, parts_of(build)?)
 }

@@ -1,4 +1,4 @@
-//! The third pass: each name and id that is used is declared.
+//! The third pass: each name and id that is used is declared, and an agent has a group exactly where its dispatcher wants one.
 
 ghost use Rattle.std.specs.Prelude.{◌≡◌, ◌<◌, length, option_map, slice_index_or, false, Ok};
 ghost use Rattle.serde_json.specs.Find.{as_str};
@@ -6,7 +6,8 @@ ghost use Rattle.serde_json.specs.View.{view, items_view};
 ghost use Rattle.so_scene_json.specs.Shape.{acts_from};
 ghost use Rattle.so_scene_json.specs.Visits.{list_of, Leaves};
 ghost use Rattle.so_scene_json.specs.Scope.{all_states};
-ghost use Rattle.so_scene_json.specs.Known.{absent_from, name_trouble, has_signal, signal_trouble, send_trouble, id_trouble, first_id_trouble, first_state_trouble, word_unknown, act_unknown, form_unknown, field_unknown, entered, knows, known_step};
+ghost use Rattle.so_scene_json.specs.Known.{absent_from, name_trouble, has_signal, signal_trouble, send_trouble, id_trouble, first_id_trouble, first_state_trouble, word_unknown, act_unknown, form_unknown, field_unknown, group_unfit, kind_at, object_unknown, entered, knows, known_step};
+ghost use Rattle.so_scene_json.specs.Twice.{disp_number_in};
 
 use crate::act_table::Word;
 use crate::acts::parts;
@@ -17,7 +18,7 @@ use crate::table::{Form, ObjectKind, Rule, Space};
 use crate::values::Trouble;
 use crate::walk::{Pass, list, position};
 use serde_json::Value;
-use so_scene::{Name, PlaceStep, SceneFault, ScenePlace, SceneRefusal};
+use so_scene::{DispKind, Field, Name, PlaceStep, SceneFault, ScenePlace, SceneRefusal};
 
 impl Declared {
     fn name(&self, space: Space, value: &Value) -> Option<Trouble>
@@ -69,6 +70,67 @@ impl Declared {
             }
             [_target] => None,
             [] => None,
+        }
+    }
+}
+
+/// Whether an agent at this place may have a group, or none, on a dispatcher of this kind.
+fn group_unfit(kind: Option<DispKind>, place: &ScenePlace, given: bool) -> Option<SceneFault>
+    requires { length place.now < 16 }
+    ensures { result ≡ group_unfit kind place.now given }
+{
+    match kind {
+        None => None,
+        Some(DispKind::ActiveGroup) => if given {
+            None
+        } else {
+            Some(SceneFault::Missing(place.step(PlaceStep::Key(
+                Field::Group,
+            ))))
+        },
+        Some(_) => if given {
+            Some(SceneFault::WrongShape(place.copy()))
+        } else {
+            None
+        },
+    }
+}
+
+impl Declared {
+    /// The kind of the dispatcher of this number.
+    fn kind_at(&self, number: usize) -> DispKind
+        ensures { result ≡ kind_at self.now number }
+    {
+        let kinds = self.kinds.as_slice();
+        if number == 0 || number > kinds.len() {
+            DispKind::OneThread
+        } else {
+            kinds[number - 1]
+        }
+    }
+
+    /// The kind of an agent's dispatcher.
+    fn kind_of(&self, agent: &Value) -> Option<DispKind>
+        ensures { result ≡ option_map (kind_at self.now) (disp_number_in self.now (view agent.now)) }
+    {
+        match self.disp_of(agent) {
+            Some(number) => Some(self.kind_at(number)),
+            None => None,
+        }
+    }
+
+    /// What is wrong with an object as a whole.
+    fn unfit(&self, kind: ObjectKind, place: &ScenePlace, value: &Value) -> Option<SceneFault>
+        requires { length place.now < 16 }
+        ensures { result ≡ object_unknown kind self.now place.now (view value.now) }
+    {
+        match kind {
+            ObjectKind::Agent => group_unfit(
+                self.kind_of(value),
+                place,
+                value.get("group").is_some(),
+            ),
+            _ => None,
         }
     }
 }
@@ -236,9 +298,12 @@ impl Pass for Known {
     fn enter(
         &mut self,
         kind: ObjectKind,
-        _place: &ScenePlace,
+        place: &ScenePlace,
         value: &Value,
     ) -> Result<(), SceneRefusal> {
+        if let Some(fault) = self.names.unfit(kind, place, value) {
+            return Err(SceneRefusal::Fault(fault));
+        }
         self.begin(kind, value)
     }
 

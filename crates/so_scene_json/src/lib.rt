@@ -12,6 +12,7 @@ mod build;
 mod declare;
 mod defs;
 mod finish;
+mod groups;
 mod known;
 mod read;
 mod scope;

@@ -62,7 +62,7 @@ fn known_of(names: Declared, value: &Value) -> Result<Known, SceneRefusal>
 fn parts_of(alloc: Global, known: Known, value: &Value) -> Result<Build, SceneRefusal>
     ensures { Reads result (run build_step (no_parts known.names) (fields (view value.now))) }
 {
-    let mut parts = Build::new(alloc, known.names);
+    let mut parts = Build::new(alloc, known.names)?;
     object(&mut parts, 4, ObjectKind::Scene, &ScenePlace::root(), value)?;
     Ok(parts)
 }

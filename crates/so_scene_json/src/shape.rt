@@ -5,18 +5,20 @@ ghost use Rattle.serde_json.specs.Find.{as_array, as_number, as_object, as_str};
 ghost use Rattle.serde_json.specs.View.{view, items_view, members_view};
 ghost use Rattle.so_scene_json.specs.Table.{rules_of};
 ghost use Rattle.so_scene_json.specs.Acts.{act_trouble};
-ghost use Rattle.so_scene_json.specs.Values.{name_of};
-ghost use Rattle.so_scene_json.specs.Shape.{placed, trouble_at, is_known, has_unknown, unknown_in, version_fault, kind_trouble, state_name_trouble, first_of, is_within, list_trouble, number_trouble, name_trouble, object_trouble, acts_from, acts_fault, form_fault, field_fault, has, effects, is_row_breach, is_initial, is_breach, shape_step};
+ghost use Rattle.so_scene.specs.Checked.{is_built, is_pool};
+ghost use Rattle.so_scene_json.specs.Values.{name_of, disp_kind_of};
+ghost use Rattle.so_scene_json.specs.Shape.{placed, trouble_at, is_known, has_unknown, unknown_in, version_fault, kind_trouble, disp_kind_trouble, state_name_trouble, first_of, is_within, list_trouble, number_trouble, name_trouble, object_trouble, acts_from, acts_fault, form_fault, field_fault, has, effects, is_row_breach, is_disp_breach, is_initial, is_breach, shape_step};
 
 use crate::act_table::Allowed;
 use crate::acts::act_fault;
 use crate::table::{Form, ObjectKind, Rule, rules};
 use crate::values::{
-    Trouble, comparison, flag, flag_or, history, integer, name, number, only_true,
+    Trouble, comparison, disp_kind, disp_kind_in, fifo, flag, flag_or, history, integer, name,
+    number, only_true,
 };
 use crate::walk::{Pass, position};
 use serde_json::{Map, Value};
-use so_scene::{Field, PlaceStep, SceneFault, ScenePlace, SceneRefusal};
+use so_scene::{DispKind, Field, PlaceStep, SceneFault, ScenePlace, SceneRefusal};
 
 pub(crate) fn fault_at(place: &ScenePlace, trouble: Trouble) -> SceneFault
     ensures { result ≡ placed place.now trouble }
@@ -81,6 +83,46 @@ fn message_kind(value: &Value) -> Option<Trouble>
         Some("signal") => None,
         Some(_) => Some(Trouble::WrongShape),
         None => Some(Trouble::WrongShape),
+    }
+}
+
+/// Tells whether a kind of dispatcher is built.
+fn is_built(kind: DispKind) -> bool
+    ensures { result ≡ is_built kind }
+{
+    match kind {
+        DispKind::OneThread
+        | DispKind::ActiveObj
+        | DispKind::ActiveGroup
+        | DispKind::ThreadPool => true,
+        DispKind::AdvThreadPool
+        | DispKind::StrictlyOrdered
+        | DispKind::QuotedRoundRobin
+        | DispKind::OnePerPrio => false,
+    }
+}
+
+/// Tells whether a dispatcher of this kind is a pool.
+fn is_pool(kind: DispKind) -> bool
+    ensures { result ≡ is_pool kind }
+{
+    match kind {
+        DispKind::ThreadPool | DispKind::AdvThreadPool => true,
+        _ => false,
+    }
+}
+
+/// What is wrong with the kind of a dispatcher.
+fn disp_kind_fault(value: &Value) -> Option<Trouble>
+    ensures { result ≡ disp_kind_trouble (disp_kind_of (view value.now)) }
+{
+    match disp_kind(value) {
+        Ok(kind) => if is_built(kind) {
+            None
+        } else {
+            Some(Trouble::NotBuilt)
+        },
+        Err(trouble) => Some(trouble),
     }
 }
 
@@ -247,6 +289,8 @@ fn form(form: Form, place: &ScenePlace, value: &Value) -> Option<SceneFault>
         Form::History => at(place, history(value).err()),
         Form::Mboxes(limit) => at(place, names(limit, value)),
         Form::MessageKind => at(place, message_kind(value)),
+        Form::DispKind => at(place, disp_kind_fault(value)),
+        Form::Fifo => at(place, fifo(value).err()),
         Form::Flag => at(place, flag(value).err()),
         Form::OnlyTrue => at(place, only_true(value).err()),
         Form::Cmp => at(place, comparison(value).err()),
@@ -310,10 +354,21 @@ fn row_breach(value: &Value) -> bool
         || has(Field::Dead, value) + has(Field::State, value) > 1
 }
 
+/// A dispatcher that isn't a pool has no threads and no parameter of its queues.
+fn disp_breach(value: &Value) -> bool
+    ensures { result ≡ is_disp_breach (view value.now) }
+{
+    if is_pool(disp_kind_in(value)) {
+        return false;
+    }
+    has(Field::Threads, value) + has(Field::Fifo, value) > 0
+}
+
 fn breach(kind: ObjectKind, value: &Value) -> bool
     ensures { result ≡ is_breach kind (view value.now) }
 {
     match kind {
+        ObjectKind::Dispatcher => disp_breach(value),
         ObjectKind::Row => row_breach(value),
         ObjectKind::State => flag_or(false, value.get("initial")) && has(Field::Parent, value) == 0,
         _ => false,

@@ -26,6 +26,8 @@ pub(crate) enum ObjectKind {
 #[derive(Clone, Copy, Debug, PartialEq, Eq)]
 pub(crate) enum Space {
     Messages,
+    /// The dispatchers, of which `default` is the first.
+    Dispatchers,
     Coops,
     /// The agents, each of which has a mbox of its own, and the named mboxes.
     Mboxes,
@@ -55,6 +57,10 @@ pub(crate) enum Form {
     Mboxes(usize),
     /// `message` or `signal`.
     MessageKind,
+    /// A kind of dispatcher that is built.
+    DispKind,
+    /// `cooperation` or `individual`.
+    Fifo,
     /// `true` or `false`.
     Flag,
     /// `true`.
@@ -117,7 +123,7 @@ static SCENE: [Rule; 9] = [
     Rule {
         field: Field::Dispatchers,
         required: false,
-        form: Form::Later,
+        form: Form::Objects(ObjectKind::Dispatcher, Some(63)),
     },
     Rule {
         field: Field::Coops,
@@ -170,13 +176,13 @@ static CHAIN: [Rule; 4] = [
 static DISPATCHER: [Rule; 6] = [
     Rule {
         field: Field::Name,
-        required: false,
-        form: Form::Later,
+        required: true,
+        form: Form::Name,
     },
     Rule {
         field: Field::Kind,
-        required: false,
-        form: Form::Later,
+        required: true,
+        form: Form::DispKind,
     },
     Rule {
         field: Field::Slots,
@@ -186,12 +192,12 @@ static DISPATCHER: [Rule; 6] = [
     Rule {
         field: Field::Threads,
         required: false,
-        form: Form::Later,
+        form: Form::Number(1, 64),
     },
     Rule {
         field: Field::Fifo,
         required: false,
-        form: Form::Later,
+        form: Form::Fifo,
     },
     Rule {
         field: Field::Quotes,
@@ -237,12 +243,12 @@ static AGENT: [Rule; 13] = [
     Rule {
         field: Field::Disp,
         required: false,
-        form: Form::Later,
+        form: Form::NameIn(Space::Dispatchers),
     },
     Rule {
         field: Field::Group,
         required: false,
-        form: Form::Later,
+        form: Form::Name,
     },
     Rule {
         field: Field::Priority,
@@ -496,6 +502,7 @@ pub(crate) fn declares(kind: ObjectKind) -> Option<Space>
 {
     match kind {
         ObjectKind::Message => Some(Space::Messages),
+        ObjectKind::Dispatcher => Some(Space::Dispatchers),
         ObjectKind::Coop => Some(Space::Coops),
         ObjectKind::Agent => Some(Space::Mboxes),
         ObjectKind::State => Some(Space::States),

@@ -3,7 +3,9 @@ use crate::read_scene;
 use so_code::{Args, Body, Cmp, Dest, Instr, Operand};
 use so_ids::{AgentId, CoopId, FilterId, MboxId, MsgId, RowId, StateId, Target, TextId};
 use so_lines::LineBuf;
-use so_scene::{Name, Scene, SceneFault, SceneRefusal, direct_mbox, is_twice, put_fault};
+use so_scene::{
+    DispKind, Fifo, Name, Scene, SceneFault, SceneRefusal, direct_mbox, is_twice, put_fault,
+};
 use so_state::{History, RowKind, State};
 use std::alloc::Global;
 use std::process::Abort;
@@ -1345,4 +1347,357 @@ fn the_tree_is_tried_before_the_code(rt: HostRuntime) -> Result<(), Fail> {
         assert!(rt; has_fault(rt.alloc(), text.as_bytes(), line));
     }
     Ok(())
+}
+
+/// Dispatchers, fields of the first of two agents, and how the fault of the scene is printed.
+static DISP_FAULTS: [(&str, &str, &str); 41] = [
+    ("7", "", "wrong_shape at /dispatchers"),
+    ("[7]", "", "wrong_shape at /dispatchers"),
+    (
+        "[{\"kind\":\"one_thread\"}]",
+        "",
+        "missing at /dispatchers/0/name",
+    ),
+    (
+        "[{\"name\":\"p q\",\"kind\":\"one_thread\"}]",
+        "",
+        "wrong_shape at /dispatchers/0/name",
+    ),
+    ("[{\"name\":\"p\"}]", "", "missing at /dispatchers/0/kind"),
+    (
+        "[{\"name\":\"p\",\"kind\":\"pool\"}]",
+        "",
+        "wrong_shape at /dispatchers/0/kind",
+    ),
+    (
+        "[{\"name\":\"p\",\"kind\":1}]",
+        "",
+        "wrong_shape at /dispatchers/0/kind",
+    ),
+    (
+        "[{\"name\":\"p\",\"kind\":\"adv_thread_pool\"}]",
+        "",
+        "not_built at /dispatchers/0/kind",
+    ),
+    (
+        "[{\"name\":\"p\",\"kind\":\"strictly_ordered\"}]",
+        "",
+        "not_built at /dispatchers/0/kind",
+    ),
+    (
+        "[{\"name\":\"p\",\"kind\":\"quoted_round_robin\"}]",
+        "",
+        "not_built at /dispatchers/0/kind",
+    ),
+    (
+        "[{\"name\":\"p\",\"kind\":\"one_per_prio\"}]",
+        "",
+        "not_built at /dispatchers/0/kind",
+    ),
+    (
+        "[{\"name\":\"p\",\"kind\":\"one_thread\",\"slots\":4096}]",
+        "",
+        "not_built at /dispatchers/0/slots",
+    ),
+    (
+        "[{\"name\":\"p\",\"kind\":\"one_thread\",\"quotes\":[]}]",
+        "",
+        "not_built at /dispatchers/0/quotes",
+    ),
+    (
+        "[{\"name\":\"p\",\"kind\":\"one_thread\",\"slots\":1,\"size\":0}]",
+        "",
+        "wrong_shape at /dispatchers/0",
+    ),
+    (
+        "[{\"name\":\"p\",\"kind\":\"thread_pool\",\"threads\":0}]",
+        "",
+        "out_of_range at /dispatchers/0/threads",
+    ),
+    (
+        "[{\"name\":\"p\",\"kind\":\"thread_pool\",\"threads\":65}]",
+        "",
+        "out_of_range at /dispatchers/0/threads",
+    ),
+    (
+        "[{\"name\":\"p\",\"kind\":\"thread_pool\",\"threads\":\"4\"}]",
+        "",
+        "wrong_shape at /dispatchers/0/threads",
+    ),
+    (
+        "[{\"name\":\"p\",\"kind\":\"thread_pool\",\"fifo\":\"all\"}]",
+        "",
+        "wrong_shape at /dispatchers/0/fifo",
+    ),
+    (
+        "[{\"name\":\"p\",\"kind\":\"thread_pool\",\"fifo\":0}]",
+        "",
+        "wrong_shape at /dispatchers/0/fifo",
+    ),
+    (
+        "[{\"name\":\"p\",\"kind\":\"one_thread\",\"threads\":4}]",
+        "",
+        "wrong_shape at /dispatchers/0",
+    ),
+    (
+        "[{\"name\":\"p\",\"kind\":\"active_obj\",\"fifo\":\"cooperation\"}]",
+        "",
+        "wrong_shape at /dispatchers/0",
+    ),
+    (
+        "[{\"name\":\"p\",\"kind\":\"active_group\",\"threads\":0}]",
+        "",
+        "out_of_range at /dispatchers/0/threads",
+    ),
+    (
+        "[{\"name\":\"default\",\"kind\":\"one_thread\"}]",
+        "",
+        "twice at /dispatchers/0/name",
+    ),
+    (
+        "[{\"name\":\"p\",\"kind\":\"one_thread\"},{\"name\":\"p\",\"kind\":\"thread_pool\"}]",
+        "",
+        "twice at /dispatchers/1/name",
+    ),
+    (
+        "[{\"name\":\"default\",\"kind\":\"one_thread\"},{\"name\":\"p\",\"kind\":\"one_per_prio\"}]",
+        "",
+        "not_built at /dispatchers/1/kind",
+    ),
+    (
+        "[]",
+        ",\"disp\":\"p\"",
+        "unknown_name at /coops/0/agents/0/disp",
+    ),
+    (
+        "[]",
+        ",\"disp\":1",
+        "wrong_shape at /coops/0/agents/0/disp",
+    ),
+    (
+        "[]",
+        ",\"disp\":\"p\",\"group\":\"g\"",
+        "unknown_name at /coops/0/agents/0/disp",
+    ),
+    (
+        "[]",
+        ",\"group\":\"g\"",
+        "wrong_shape at /coops/0/agents/0",
+    ),
+    (
+        "[]",
+        ",\"disp\":\"default\",\"group\":\"g\"",
+        "wrong_shape at /coops/0/agents/0",
+    ),
+    (
+        "[{\"name\":\"p\",\"kind\":\"active_group\"},{\"name\":\"q\",\"kind\":\"thread_pool\"}]",
+        ",\"disp\":\"q\",\"group\":\"g\"",
+        "wrong_shape at /coops/0/agents/0",
+    ),
+    (
+        "[{\"name\":\"q\",\"kind\":\"active_obj\"},{\"name\":\"p\",\"kind\":\"active_group\"}]",
+        ",\"disp\":\"p\"",
+        "missing at /coops/0/agents/0/group",
+    ),
+    (
+        "[{\"name\":\"p\",\"kind\":\"active_group\"}]",
+        ",\"disp\":\"p\",\"group\":\"\"",
+        "wrong_shape at /coops/0/agents/0/group",
+    ),
+    (
+        "[{\"name\":\"p\",\"kind\":\"active_group\"}]",
+        ",\"disp\":\"p\",\"group\":7",
+        "wrong_shape at /coops/0/agents/0/group",
+    ),
+    (
+        "[]",
+        ",\"priority\":0",
+        "not_built at /coops/0/agents/0/priority",
+    ),
+    (
+        "[]",
+        ",\"group\":\"g\",\"start\":[[\"send\",\"q\",\"x\"]]",
+        "wrong_shape at /coops/0/agents/0",
+    ),
+    (
+        "[]",
+        ",\"group\":\"g\",\"start\":[[\"send\"]]",
+        "wrong_shape at /coops/0/agents/0/start/0",
+    ),
+    (
+        "[{\"name\":\"b\",\"kind\":\"one_thread\"}]",
+        ",\"disp\":\"a\"",
+        "unknown_name at /coops/0/agents/0/disp",
+    ),
+    (
+        "[{\"name\":\"p\",\"kind\":\"thread_pool\",\"threads\":64},{\"name\":\"q\",\"kind\":\"thread_pool\",\"threads\":64},{\"name\":\"r\",\"kind\":\"thread_pool\",\"threads\":64},{\"name\":\"s\",\"kind\":\"thread_pool\",\"threads\":64}]",
+        "",
+        "out_of_range at /",
+    ),
+    (
+        "[{\"name\":\"p\",\"kind\":\"thread_pool\",\"threads\":64},{\"name\":\"q\",\"kind\":\"thread_pool\",\"threads\":64},{\"name\":\"r\",\"kind\":\"thread_pool\",\"threads\":64},{\"name\":\"s\",\"kind\":\"thread_pool\",\"threads\":63},{\"name\":\"t\",\"kind\":\"active_group\"}]",
+        ",\"disp\":\"t\",\"group\":\"g\"",
+        "out_of_range at /",
+    ),
+    (
+        "[{\"name\":\"p\",\"kind\":\"thread_pool\",\"threads\":64},{\"name\":\"q\",\"kind\":\"thread_pool\",\"threads\":64},{\"name\":\"r\",\"kind\":\"thread_pool\",\"threads\":64},{\"name\":\"s\",\"kind\":\"thread_pool\",\"threads\":64}]",
+        "}]},{\"name\":\"d\",\"agents\":[{\"name\":\"c\"",
+        "out_of_range at /",
+    ),
+];
+
+/// A scene with these dispatchers and two agents, the first with these fields.
+fn with_disps(alloc: Global, disps: &str, fields: &str) -> Result<String, Fail> {
+    let mut text = String::new(alloc);
+    text.push_str("{\"version\":1,\"dispatchers\":")?;
+    text.push_str(disps)?;
+    text.push_str(
+        ",\"messages\":[{\"name\":\"x\"}],\"coops\":[{\"name\":\"c\",\"agents\":[{\"name\":\"a\"",
+    )?;
+    text.push_str(fields)?;
+    text.push_str("},{\"name\":\"b\"}]}]}")?;
+    Ok(text)
+}
+
+#[test]
+fn dispatchers_and_groups_have_their_faults(rt: HostRuntime) -> Result<(), Fail> {
+    for (disps, fields, line) in DISP_FAULTS.iter() {
+        let text = with_disps(rt.alloc(), disps, fields)?;
+        assert!(rt; has_fault(rt.alloc(), text.as_bytes(), line));
+    }
+    Ok(())
+}
+
+/// Dispatchers, fields of the first of two agents, and how many lanes the scene has.
+static LANES: [(&str, &str, u32); 8] = [
+    ("[]", "", 1),
+    ("[{\"name\":\"p\",\"kind\":\"one_thread\"}]", "", 2),
+    ("[{\"name\":\"p\",\"kind\":\"active_obj\"}]", "", 1),
+    (
+        "[{\"name\":\"p\",\"kind\":\"active_obj\"}]",
+        ",\"disp\":\"p\"},{\"name\":\"d\",\"disp\":\"p\"",
+        3,
+    ),
+    (
+        "[{\"name\":\"p\",\"kind\":\"active_group\"}]",
+        ",\"disp\":\"p\",\"group\":\"g\"},{\"name\":\"d\",\"disp\":\"p\",\"group\":\"g\"},{\"name\":\"e\",\"disp\":\"p\",\"group\":\"h\"",
+        3,
+    ),
+    (
+        "[{\"name\":\"p\",\"kind\":\"thread_pool\"}]",
+        ",\"disp\":\"p\"",
+        5,
+    ),
+    (
+        "[{\"name\":\"p\",\"kind\":\"thread_pool\",\"threads\":1,\"fifo\":\"individual\"}]",
+        "",
+        2,
+    ),
+    (
+        "[{\"name\":\"p\",\"kind\":\"thread_pool\",\"threads\":64},{\"name\":\"q\",\"kind\":\"thread_pool\",\"threads\":64},{\"name\":\"r\",\"kind\":\"thread_pool\",\"threads\":64},{\"name\":\"s\",\"kind\":\"thread_pool\",\"threads\":63}]",
+        "",
+        256,
+    ),
+];
+
+#[test]
+fn dispatchers_have_their_lanes(rt: HostRuntime) -> Result<(), Fail> {
+    for (disps, fields, lanes) in LANES.iter() {
+        let text = with_disps(rt.alloc(), disps, fields)?;
+        let scene = scene(&rt, rt.alloc(), text.as_str());
+        assert_eq!(rt; scene.lanes(), *lanes);
+    }
+    Ok(())
+}
+
+#[test]
+fn sixty_three_dispatchers_may_be_declared(rt: HostRuntime) -> Result<(), Fail> {
+    for (count, fault) in [(63, false), (64, true)] {
+        let mut disps = String::new(rt.alloc());
+        let mut mark = "[{\"name\":\"d";
+        for k in 0..count {
+            disps.push_str(mark)?;
+            disps.push(DIGITS[k / 8])?;
+            disps.push(DIGITS[k % 8])?;
+            disps.push_str("\",\"kind\":\"active_obj\"}")?;
+            mark = ",{\"name\":\"d";
+        }
+        disps.push_str("]")?;
+        let text = with_disps(rt.alloc(), disps.as_str(), "")?;
+        let line = "out_of_range at /dispatchers";
+        assert!(rt; has_fault(rt.alloc(), text.as_bytes(), line) == fault);
+        assert!(rt; read_scene(rt.alloc(), text.as_bytes()).is_err() == fault);
+    }
+    Ok(())
+}
+
+static DIGITS: [char; 9] = ['0', '1', '2', '3', '4', '5', '6', '7', '8'];
+
+/// A dispatcher of each kind and ten agents on them.
+static KINDS: &str =
+    "{\"version\":1,\"dispatchers\":[{\"name\":\"one\",\"kind\":\"one_thread\"},{\"name\":\"each\",\"kind\":\"active_obj\"},{\"name\":\"some\",\"kind\":\"active_group\"},{\"name\":\"pool\",\"kind\":\"thread_pool\",\"threads\":3,\"fifo\":\"individual\"},{\"name\":\"more\",\"kind\":\"active_group\"},{\"name\":\"plain\",\"kind\":\"thread_pool\",\"fifo\":\"cooperation\"}],\"coops\":[{\"name\":\"c\",\"agents\":[{\"name\":\"a0\"},{\"name\":\"a1\",\"disp\":\"plain\"},{\"name\":\"a2\",\"disp\":\"some\",\"group\":\"y\"},{\"name\":\"a3\",\"disp\":\"more\",\"group\":\"x\"},{\"name\":\"a4\",\"disp\":\"some\",\"group\":\"x\"},{\"name\":\"a5\",\"disp\":\"each\"},{\"name\":\"a6\",\"disp\":\"some\",\"group\":\"y\"},{\"name\":\"a7\",\"disp\":\"default\"},{\"name\":\"a8\",\"disp\":\"pool\"},{\"name\":\"a9\",\"disp\":\"one\"}]}]}";
+
+/// The name, kind, threads and parameter of each dispatcher, and how many groups it has.
+static DISPS: [(&str, DispKind, u32, Fifo, u32); 7] = [
+    ("default", DispKind::OneThread, 4, Fifo::Cooperation, 0),
+    ("one", DispKind::OneThread, 4, Fifo::Cooperation, 0),
+    ("each", DispKind::ActiveObj, 4, Fifo::Cooperation, 0),
+    ("some", DispKind::ActiveGroup, 4, Fifo::Cooperation, 2),
+    ("pool", DispKind::ThreadPool, 3, Fifo::Individual, 0),
+    ("more", DispKind::ActiveGroup, 4, Fifo::Cooperation, 1),
+    ("plain", DispKind::ThreadPool, 4, Fifo::Cooperation, 0),
+];
+
+#[test]
+fn dispatchers_are_what_they_were_declared(rt: HostRuntime) {
+    let scene = scene(&rt, rt.alloc(), KINDS);
+    let disps = scene.parts().dispatchers.as_slice();
+    let groups = scene.parts().groups.as_slice();
+    assert!(rt; disps.len() == 7 && groups.len() == 7);
+    for ((disp, groups), want) in disps.iter().zip(groups).zip(DISPS.iter()) {
+        assert!(rt; disp.name.bytes() == want.0.as_bytes());
+        assert!(rt; disp.kind == want.1 && disp.threads == want.2);
+        assert!(rt; disp.fifo == want.3 && disp.slots == 4096);
+        assert!(rt; disp.quotes.iter().all(|quote| *quote == 20));
+        assert!(rt; groups.len() as u32 == want.4);
+    }
+    // one of `default` and of `one`, one of `each`, two of `some`, three of `pool`, one of `more` and four of `plain`
+    assert_eq!(rt; scene.lanes(), 13);
+}
+
+/// The dispatcher and the group of each agent.
+static BOUND: [(u32, Option<u32>); 10] = [
+    (0, None),
+    (6, None),
+    (3, Some(0)),
+    (5, Some(0)),
+    (3, Some(1)),
+    (2, None),
+    (3, Some(0)),
+    (0, None),
+    (4, None),
+    (1, None),
+];
+
+#[test]
+fn agents_have_their_dispatcher_and_group(rt: HostRuntime) {
+    let scene = scene(&rt, rt.alloc(), KINDS);
+    let agents = scene.parts().agents.as_slice();
+    assert!(rt; agents.len() == 10);
+    for (agent, want) in agents.iter().zip(BOUND.iter()) {
+        assert!(rt; agent.disp.0 == want.0 && agent.group == want.1);
+        assert!(rt; agent.priority.level == 0);
+    }
+}
+
+#[test]
+fn groups_are_numbered_as_agents_name_them(rt: HostRuntime) {
+    let scene = scene(&rt, rt.alloc(), KINDS);
+    match scene.parts().groups.as_slice() {
+        [_, _, _, some, _, more, _] => {
+            assert!(rt; some.as_slice().iter().map(|name| name.bytes()).eq(["y".as_bytes(), "x".as_bytes()]));
+            assert!(rt; more.as_slice().iter().all(|name| name.bytes() == "x".as_bytes()));
+        }
+        _ => assert!(rt; false),
+    }
 }

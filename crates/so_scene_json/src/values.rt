@@ -2,11 +2,11 @@
 
 ghost use Rattle.std.specs.Prelude.{◌≡◌, ◌≤◌, IfOk, option_map};
 ghost use Rattle.serde_json.specs.View.{view};
-ghost use Rattle.so_scene_json.specs.Values.{integer_of, small_number, numbered, operand_named, operand_of, dest_named, dest_of, cmp_named, cmp_of, name_of, text_of, count_of, number_of, flag_of, only_true, read_or, history_named, history_of, string_in, name_in, id_in, Views};
+ghost use Rattle.so_scene_json.specs.Values.{integer_of, small_number, numbered, disp_kind_named, disp_kind_of, disp_kind_in, fifo_named, fifo_of, group_in, operand_named, operand_of, dest_named, dest_of, cmp_named, cmp_of, name_of, text_of, count_of, number_of, flag_of, only_true, read_or, history_named, history_of, string_in, name_in, id_in, Views};
 
 use serde_json::Value;
 use so_code::{Cmp, Dest, Operand};
-use so_scene::{Name, is_name, is_text};
+use so_scene::{DispKind, Fifo, Name, is_name, is_text};
 use so_state::History;
 
 /// What is wrong with a value whose place is known elsewhere.
@@ -248,6 +248,65 @@ pub(crate) fn history(value: &Value) -> Result<History, Trouble>
     }
 }
 
+fn disp_kind_by_name(text: &str) -> Option<DispKind>
+    ensures { result ≡ disp_kind_named text.now }
+{
+    match text {
+        "one_thread" => Some(DispKind::OneThread),
+        "active_obj" => Some(DispKind::ActiveObj),
+        "active_group" => Some(DispKind::ActiveGroup),
+        "thread_pool" => Some(DispKind::ThreadPool),
+        "adv_thread_pool" => Some(DispKind::AdvThreadPool),
+        "strictly_ordered" => Some(DispKind::StrictlyOrdered),
+        "quoted_round_robin" => Some(DispKind::QuotedRoundRobin),
+        "one_per_prio" => Some(DispKind::OnePerPrio),
+        _ => None,
+    }
+}
+
+/// A kind of dispatcher.
+pub(crate) fn disp_kind(value: &Value) -> Result<DispKind, Trouble>
+    ensures { result ≡ disp_kind_of (view value.now) }
+{
+    match value.as_str() {
+        Some(text) => disp_kind_by_name(text).ok_or(Trouble::WrongShape),
+        None => Err(Trouble::WrongShape),
+    }
+}
+
+/// The kind of a dispatcher, `one_thread` where it has none.
+pub(crate) fn disp_kind_in(value: &Value) -> DispKind
+    ensures { result ≡ disp_kind_in (view value.now) }
+{
+    match value.get("kind") {
+        Some(value) => match disp_kind(value) {
+            Ok(kind) => kind,
+            Err(_) => DispKind::OneThread,
+        },
+        None => DispKind::OneThread,
+    }
+}
+
+fn fifo_by_name(text: &str) -> Option<Fifo>
+    ensures { result ≡ fifo_named text.now }
+{
+    match text {
+        "cooperation" => Some(Fifo::Cooperation),
+        "individual" => Some(Fifo::Individual),
+        _ => None,
+    }
+}
+
+/// Which agents of a pool share a queue.
+pub(crate) fn fifo(value: &Value) -> Result<Fifo, Trouble>
+    ensures { result ≡ fifo_of (view value.now) }
+{
+    match value.as_str() {
+        Some(text) => fifo_by_name(text).ok_or(Trouble::WrongShape),
+        None => Err(Trouble::WrongShape),
+    }
+}
+
 /// The string of a field, empty where it has none.
 pub(crate) fn string_in<'v>(value: &'v Value, key: &str) -> &'v str
     ensures { result.now ≡ string_in key.now (view value.now) }
@@ -274,4 +333,11 @@ pub(crate) fn id_in(value: &Value) -> Option<Name>
     ensures { result ≡ id_in (view value.now) }
 {
     Name::of(string_in(value, "id"))
+}
+
+/// The group of an agent, if it has one.
+pub(crate) fn group_in(value: &Value) -> Option<Name>
+    ensures { result ≡ group_in (view value.now) }
+{
+    Name::of(string_in(value, "group"))
 }
