@@ -20,12 +20,8 @@ use Rattle.so_events.specs.Tied.{AreInOrder, id_of, is_at, ids_at, has_id, waits
 use Rattle.so_events.proofs.ListLaws.{filter_same_each, each_diagonal, and-right}
 use Rattle.so_events.proofs.NameOrder.{other_way, this_way}
 
--- an agent's queue is one of the scene's
-pub key_known : (s : SceneParts) (a : AgentId) → a.0 < length s.agents → (key_of s a).0 < keys s
-key_known s a known = key_in_range s a
-
 pub place_known : (s : SceneParts) (d : Demand) → d.agent.0 < length s.agents → place_of s d < 8 * keys s
-place_known s d known = omega (arith, key_known s d.agent known, low s d.agent)
+place_known s d known = omega (arith, key_in_range s d.agent known, low s d.agent)
 
 has_none : (ds : List Demand) (d : DemandId) → AllByRecursion (λ x. same_demand x.id d ≡ false) ds → has_id (map id_of ds) d ≡ false
 has_none [] d all = refl

@@ -24,7 +24,7 @@ use Rattle.so_events.specs.Events.{place_of, is_beside, may_take_by, turns_with}
 use Rattle.so_events.specs.Tied.{AreInOrder, id_of, is_at, ids_at, waits_in, waiting_in, IsTied}
 use Rattle.so_events.proofs.ListLaws.{find_same_each, and-right}
 use Rattle.so_events.proofs.NameOrder.{order-filter, other_way}
-use Rattle.so_events.proofs.HeldLaws.{key_known}
+use Rattle.so_scene.proofs.LaneLaws.{key_in_range}
 
 -- ---- the lesser of what two tests find
 
@@ -142,8 +142,8 @@ open_one : (s : SceneParts) (q : QueueTable) (lane : LaneId) (x : Demand) → q.
 open_one s q lane x safe known =
     let key = key_of s x.agent in
     let here : is_on s key.0 x ≡ true = eq-eqb key.0 key.0 refl in
-    let none : slice_index_or q.safe key.0 0 ≡ 0 = ap (λ xs. slice_index_or xs key.0 0) safe ∙ get_or-replicate (keys s) key.0 0 0 (key_known s x.agent known) in
-    any_at (λ k. is_open s q lane (record { 0 = k }) && is_on s k x) (keys s) key.0 (key_known s x.agent known) (λ j m apart. and-off (is_open s q lane (record { 0 = j })) (is_on s j x) (ne_eqb key.0 j (λ e. apart (sym e))))
+    let none : slice_index_or q.safe key.0 0 ≡ 0 = ap (λ xs. slice_index_or xs key.0 0) safe ∙ get_or-replicate (keys s) key.0 0 0 (key_in_range s x.agent known) in
+    any_at (λ k. is_open s q lane (record { 0 = k }) && is_on s k x) (keys s) key.0 (key_in_range s x.agent known) (λ j m apart. and-off (is_open s q lane (record { 0 = j })) (is_on s j x) (ne_eqb key.0 j (λ e. apart (sym e))))
     ∙ (ap (λ b. is_open s q lane key && b) here ∙ (and-right (is_open s q lane key) ∙ rw none refl))
 
 pub pick_is : (s : SceneParts) (all : List Demand) (q : QueueTable) (cap : ℕ) (lane : LaneId) → IsTied s all (waiting_in s q.lists all) q cap → pick s q lane ≡ option_map id_of (find (may_take_by s q.exclusive lane) (waiting_in s q.lists all))
@@ -165,7 +165,7 @@ none_waits : (s : SceneParts) (ds : List Demand) (q : QueueTable) (o : Option Ke
 none_waits s [] q None size front known next = refl
 none_waits s (x ∷ ds) q None size front known next =
     let key = key_of s x.agent in
-    let within : key.0 < keys s = key_known s x.agent known.0 in
+    let within : key.0 < keys s = key_in_range s x.agent known.0 in
     let has : front_of_key q.lists key.0 ≡ Some x.id = front key.0 within ∙ ap (option_map id_of) (on_itself s x ds) in
     absurd (false≢true (sym (next key.0 x.id (omega arith) has)))
 none_waits s [] q (Some k) size front known next =

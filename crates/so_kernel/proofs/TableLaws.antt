@@ -1,7 +1,7 @@
 -- The tables after one more entry: one law for each kind.
-use Rattle.std.proofs.Common.{◌≡◌, ℕ, ◌+◌, ◌-◌, ◌<◌, List, [], ◌∷◌, ◌++◌, length, map, Bool, true, false, not, Option, Some, None, arith, refl, sym, ◌∙◌, ap, inl, inr, get_or}
+use Rattle.std.proofs.Common.{◌≡◌, ℕ, ◌+◌, ◌-◌, ◌<◌, List, [], ◌∷◌, ◌++◌, length, map, Bool, true, false, not, Option, Some, None, arith, refl, sym, ◌∙◌, ap, subst, inl, inr, get_or}
 use Rattle.std.specs.Prelude.{◌==◌, ◌↔◌, ◌&&◌, IsTrue, slice_set}
-use Rattle.std.specs.List.{find, All}
+use Rattle.std.specs.List.{find, All, AllByRecursion}
 use Rattle.std.specs.Option.{is_none}
 use Rattle.std.proofs.lemmas.List.{append-nil, length-append, length-map, set-get_or}
 use Rattle.std.proofs.lemmas.Bool.{cases_Bool, and_parts, not-true, not-false, false≢true, ne_eqb, eq-eqb, eqb-true}
@@ -337,10 +337,10 @@ skipped_as lane d o (Some w) skips = (w, refl)
 pub skips_turn : (s : SceneParts) (h : List Entry) (lane : LaneId) (d : Demand) → is_skip (taking s h lane d) ≡ true → (why : SkipWhy) × (taking s h lane d ≡ Skip lane d.id why)
 skips_turn s h lane d skips = skipped_as lane d (opening_of s h d) (skipped (opening_of s h d)) skips
 
-pub tables-begin : (s : SceneParts) (room : ℕ) (h : List Entry) (e : Entry) (lane : LaneId) (d : Demand) → e.kind ≡ Begin lane (Some d.id) (opening_of s h d) d.agent → Legal s h → lane.0 < lanes s → pick s h lane ≡ Some d → aborted h ≡ false →
-    tables_of s room (e ∷ h) ≡ after_begin (record { 0 = length h }) lane (key_of s d.agent) d (tables_of s room h)
+pub tables-begin : (s : SceneParts) (room : ℕ) (h : List Entry) (e : Entry) (lane : LaneId) (d : Demand) → e.kind ≡ Begin lane (Some d.id) (opening_of s h d) d.agent → Legal s h → lane.0 < lanes s → d.agent.0 < length s.agents → pick s h lane ≡ Some d →
+    aborted h ≡ false → tables_of s room (e ∷ h) ≡ after_begin (record { 0 = length h }) lane (key_of s d.agent) d (tables_of s room h)
 unfolding tried present leaving stop_asked stopped aborted units
-tables-begin s room h e lane d is legal in_range picks going =
+tables-begin s room h e lane d is legal in_range known picks going =
     let t : Started = record { place = length h; by = e.by; lane = lane; agent = d.agent; opening = opening_of s h d } in
     let starts : started_by (length h) e.by e.kind ≡ t ∷ [] = rw is refl in
     rw (
@@ -350,7 +350,7 @@ tables-begin s room h e lane d is legal in_range picks going =
       demands-same s h e (rw is refl),
       waiting-taken s h e d.id (rw is refl) (λ x. rw is refl),
       places-begin lane_number s h e (lanes s) lane.0 t legal (λ x. rw is refl) starts refl refl in_range (free_lane s h lane d picks),
-      counts-begin (key_number s) s h e (keys s) (key_of s d.agent).0 t legal (λ x. rw is refl) starts refl (key_in_range s d.agent),
+      counts-begin (key_number s) s h e (keys s) (key_of s d.agent).0 t legal (λ x. rw is refl) starts refl (key_in_range s d.agent known),
       is,
     ) refl
 
@@ -388,11 +388,11 @@ counts-end f s h e n place t frees is legal in_range runs =
     (λ j _ other. ap length (running_at-other f h e place.0 j t (rw is refl) (λ x. rw is refl) runs (λ same. other (sym same))))
 
 -- how many turns run with a queue that is free, and with the one of a running turn
-pub count_free : (s : SceneParts) (h : List Entry) (lane : LaneId) (d : Demand) → pick s h lane ≡ Some d → get_or (counts (key_number s) h (keys s)) (key_of s d.agent).0 0 ≡ 0
-count_free s h lane d picks = count_at (key_number s) h (keys s) (key_of s d.agent).0 (key_in_range s d.agent) ∙ ap length (free_key s h lane d picks)
+pub count_free : (s : SceneParts) (h : List Entry) (lane : LaneId) (d : Demand) → d.agent.0 < length s.agents → pick s h lane ≡ Some d → get_or (counts (key_number s) h (keys s)) (key_of s d.agent).0 0 ≡ 0
+count_free s h lane d known picks = count_at (key_number s) h (keys s) (key_of s d.agent).0 (key_in_range s d.agent known) ∙ ap length (free_key s h lane d picks)
 
-pub count_runs : (s : SceneParts) (h : List Entry) (place : Place) (t : Started) → Legal s h → turn_at h place.0 ≡ Some t → get_or (counts (key_number s) h (keys s)) (key_of s t.agent).0 0 ≡ 1
-count_runs s h place t legal runs = count_at (key_number s) h (keys s) (key_of s t.agent).0 (key_in_range s t.agent) ∙ ap length (alone (key_number s) s h place.0 t (keys_free s) legal runs)
+pub count_runs : (s : SceneParts) (h : List Entry) (place : Place) (t : Started) → t.agent.0 < length s.agents → Legal s h → turn_at h place.0 ≡ Some t → get_or (counts (key_number s) h (keys s)) (key_of s t.agent).0 0 ≡ 1
+count_runs s h place t known legal runs = count_at (key_number s) h (keys s) (key_of s t.agent).0 (key_in_range s t.agent known) ∙ ap length (alone (key_number s) s h place.0 t (keys_free s) legal runs)
 
 pub tables-end : (s : SceneParts) (room : ℕ) (h : List Entry) (e : Entry) (place : Place) (t : Started) (c : Course) → e.kind ≡ End place → Legal s h → t.lane.0 < lanes s → turn_at h place.0 ≡ Some t →
     course s h place.0 ≡ Some c → t.agent ≡ c.agent → c.agent.0 < length s.agents → aborted h ≡ false →
@@ -406,7 +406,7 @@ tables-end s room h e place t c is legal in_range runs has whose known going =
       demands-same s h e (rw is refl),
       waiting-same s h e legal (rw is refl) (λ d. rw is refl),
       places-end lane_number s h e (lanes s) place t (lanes_free s) is legal in_range runs,
-      counts-end (key_number s) s h e (keys s) place t (keys_free s) is legal (key_in_range s t.agent) runs,
+      counts-end (key_number s) s h e (keys s) place t (keys_free s) is legal (key_in_range s t.agent (subst (λ (a : AgentId). a.0 < length s.agents) (sym whose) known)) runs,
       is,
     ) refl
 
@@ -451,12 +451,12 @@ none_runs : (xs : List Started) → (length xs == 0) ≡ is_empty xs
 none_runs [] = refl
 none_runs (t ∷ ts) = ne_eqb (length (t ∷ ts)) 0 (λ e. omega (arith, e))
 
-may_take-table : (s : SceneParts) (h : List Entry) (lane : LaneId) (d : Demand) → may_take_by s (counts (key_number s) h (keys s)) lane d ≡ may_take s h lane d
-may_take-table s h lane d = ap (λ b. serves s lane (key_of s d.agent) && b) (ap (λ n. n == 0) (count_at (key_number s) h (keys s) (key_of s d.agent).0 (key_in_range s d.agent)) ∙ none_runs (running_with s h (key_of s d.agent)))
+may_take-table : (s : SceneParts) (h : List Entry) (lane : LaneId) (d : Demand) → d.agent.0 < length s.agents → may_take_by s (counts (key_number s) h (keys s)) lane d ≡ may_take s h lane d
+may_take-table s h lane d known = ap (λ b. serves s lane (key_of s d.agent) && b) (ap (λ n. n == 0) (count_at (key_number s) h (keys s) (key_of s d.agent).0 (key_in_range s d.agent known)) ∙ none_runs (running_with s h (key_of s d.agent)))
 
-pub find-table : (s : SceneParts) (h : List Entry) (lane : LaneId) (ds : List Demand) → find (may_take_by s (counts (key_number s) h (keys s)) lane) ds ≡ find (may_take s h lane) ds
-find-table s h lane [] = refl
-find-table s h lane (d ∷ ds) = rw (may_take-table s h lane d, find-table s h lane ds) refl
+pub find-table : (s : SceneParts) (h : List Entry) (lane : LaneId) (ds : List Demand) → AllByRecursion (λ d. d.agent.0 < length s.agents) ds → find (may_take_by s (counts (key_number s) h (keys s)) lane) ds ≡ find (may_take s h lane) ds
+find-table s h lane [] known = refl
+find-table s h lane (d ∷ ds) known = rw (may_take-table s h lane d known.0, find-table s h lane ds known.1) refl
 
 -- what is picked is the first of its queue and priority
 find_narrower : (p q : Demand → Bool) (ds : List Demand) (d : Demand) → ((x : Demand) → q x ≡ true → p x ≡ true) → q d ≡ true → find p ds ≡ Some d → find q ds ≡ Some d

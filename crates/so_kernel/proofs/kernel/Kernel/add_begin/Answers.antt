@@ -45,7 +45,7 @@ begun-requires-clause-key c = rw c.self.invariant.0.tables c.key-key.ensures.ran
 pub begun-requires-clause-free : goal.begun-requires-clause-free
 begun-requires-clause-free c =
     let P : Core → Type 0 = λ k. pick k.scene k.history c.args.lane ≡ Some c.args.demand in
-    rw (c.self.invariant.0.tables, c.key-key.ensures.value) (count_free c.self.inside.scene.now c.self.inside.history.entries c.args.lane c.args.demand (subst P (sym c.self.view_is) c.requires.picked))
+    rw (c.self.invariant.0.tables, c.key-key.ensures.value) (count_free c.self.inside.scene.now c.self.inside.history.entries c.args.lane c.args.demand (picked_of c.self.inside.scene.now c.self.inside.history.entries c.args.lane c.args.demand c.self.invariant.0.scene (subst P (sym c.self.view_is) c.requires.picked)) (subst P (sym c.self.view_is) c.requires.picked))
 
 pub begun-requires-clause-first : goal.begun-requires-clause-first
 begun-requires-clause-first c =
@@ -59,7 +59,7 @@ invariant_of-self c =
     let is = subst Q (sym c.self.view_is) c.requires.is in
     let begins = begins_turn c.self.inside.scene.now c.self.inside.history.entries c.args.lane c.args.demand (sym (ap is_skip is) ∙ c.requires.begins) in
     let kept = kept_after c.args.entry c.begun.new.self c.self.invariant.0 (rw c.self.view_is c.requires.ready)
-    (c.begun.ensures ∙ rw (c.len.ensures.value, c.key-key.ensures.value, c.self.invariant.0.tables) (sym (tables-begin c.self.inside.scene.now c.self.inside.history.limit c.self.inside.history.entries c.args.entry c.args.lane c.args.demand (is ∙ begins) c.self.invariant.0.legal (begun_lane c.args.entry c.args.lane c.args.demand c.self.invariant.0 (rw c.self.view_is c.requires.ready) is) (subst P (sym c.self.view_is) c.requires.picked) (going c.args.entry c.self.invariant.0 (rw c.self.view_is c.requires.ready))))) in
+    (c.begun.ensures ∙ rw (c.len.ensures.value, c.key-key.ensures.value, c.self.invariant.0.tables) (sym (tables-begin c.self.inside.scene.now c.self.inside.history.limit c.self.inside.history.entries c.args.entry c.args.lane c.args.demand (is ∙ begins) c.self.invariant.0.legal (begun_lane c.args.entry c.args.lane c.args.demand c.self.invariant.0 (rw c.self.view_is c.requires.ready) is) (picked_of c.self.inside.scene.now c.self.inside.history.entries c.args.lane c.args.demand c.self.invariant.0.scene (subst P (sym c.self.view_is) c.requires.picked)) (subst P (sym c.self.view_is) c.requires.picked) (going c.args.entry c.self.invariant.0 (rw c.self.view_is c.requires.ready))))) in
     rw (c.push.ensures.entries, c.push.ensures.limit) (kept, c.self.invariant.1, stands_same c.self.inside.scene.now c.self.inside.history.entries c.args.entry c.self.inside.states (λ a l. rw (is ∙ begins) refl) c.self.invariant.2)
 
 pub returns-clause-turn : goal.returns-clause-turn

@@ -5,7 +5,7 @@ use Rattle.so_code.specs.declared.frame.Frame.{Frame}
 use Rattle.so_history.specs.Turns.{Course, move_of}
 use Rattle.so_lists.proofs.EachBelow.{length-each_below}
 use Rattle.so_scene.specs.Lanes.{lanes, key_of}
-use Rattle.so_history.proofs.TurnLaws.{turn_in_range}
+use Rattle.so_history.proofs.TurnLaws.{turn_in_range, turn_agent}
 use Rattle.so_kernel.specs.Shapes.{Core}
 use Rattle.so_kernel.specs.Tables.{after_end}
 use Rattle.so_kernel.specs.Gates.{HasMoved}
@@ -42,7 +42,7 @@ ended-requires-clause-runs c =
     let P : Core → Type 0 = λ k. HasMoved k.scene k.history c.args.turn.now Done in
     let moved : HasMoved c.self.inside.scene.now c.self.inside.history.entries c.args.turn.now Done = subst P (sym c.self.view_is) c.requires.moved in
     let whose = held_whose c.self.inside.scene.now c.self.inside.history.entries _ moved.held in
-    let one = count_runs c.self.inside.scene.now c.self.inside.history.entries c.args.turn.now.begun moved.held.turn c.self.invariant.0.legal moved.held.runs in
+    let one = count_runs c.self.inside.scene.now c.self.inside.history.entries c.args.turn.now.begun moved.held.turn (turn_agent c.self.inside.scene.now c.self.inside.history.entries c.args.turn.now.begun.0 moved.held.turn c.self.invariant.0.scene c.self.invariant.0.legal moved.held.runs) c.self.invariant.0.legal moved.held.runs in
     rw (c.self.invariant.0.tables, c.key-key.ensures.value, ← whose, one) (omega arith)
 
 pub ended-requires-clause-agent : goal.ended-requires-clause-agent

@@ -29,7 +29,7 @@ returns-then-is_free c =
     let in_range : c.args.lane.0 < lanes c.self.inside.scene.now = subst P (sym c.self.view_is) c.requires in
     let free : is_none (get_or (places lane_number c.self.inside.history.entries (lanes c.self.inside.scene.now)) c.args.lane.0 None) ≡ true = rw c.self.invariant.0.tables at (sym c.is_free.ensures ∙ c.if-is_free.true) in
     let found : c.pick.result ≡ find (may_take c.self.inside.scene.now c.self.inside.history.entries c.args.lane) (waiting c.self.inside.scene.now c.self.inside.history.entries) =
-    rw c.self.invariant.0.tables at c.pick.ensures ∙ find-table c.self.inside.scene.now c.self.inside.history.entries c.args.lane (waiting c.self.inside.scene.now c.self.inside.history.entries) in
+    rw c.self.invariant.0.tables at c.pick.ensures ∙ find-table c.self.inside.scene.now c.self.inside.history.entries c.args.lane (waiting c.self.inside.scene.now c.self.inside.history.entries) (waiting_of c.self.inside.scene.now c.self.inside.history.entries c.self.invariant.0.scene) in
     rw (← c.self.view_is) (found ∙ sym (pick-free c.self.inside.scene.now c.self.inside.history.entries c.args.lane (sym (free-place lane_number c.self.inside.history.entries (lanes c.self.inside.scene.now) c.args.lane.0 in_range) ∙ free)))
 
 pub returns-else-is_free : goal.returns-else-is_free
