@@ -1,5 +1,5 @@
 -- The parts of a scene by number.
-use Rattle.std.proofs.Common.{arith}
+use Rattle.std.proofs.Common.{zero-le}
 use Rattle.std.specs.Prelude.{ℕ, ◌+◌, pos, List, [], ◌++◌, length, map, replicate, slice_index_or, false, codes, None}
 use Rattle.so_lists.specs.Lists.{each_below}
 use Rattle.so_ids.specs.declared.AgentId.{AgentId}
@@ -31,7 +31,7 @@ abbrev pub message_of : SceneParts → MsgId → MessageDef
 message_of s m = slice_index_or s.messages m.0 no_message
 
 abbrev pub no_agent : AgentDef
-no_agent = record { name = []; coop = record { 0 = 0 }; disp = record { 0 = 0 }; group = None; priority = record { level = 0; in_range = omega arith }; vars = record { 0 = replicate 16 (pos 0) }; state_names = []; tree = []; rows = []; row_ids = []; filters = []; code = [] }
+no_agent = record { name = []; coop = record { 0 = 0 }; disp = record { 0 = 0 }; group = None; priority = record { level = 0; in_range = zero-le }; vars = record { 0 = replicate 16 (pos 0) }; state_names = []; tree = []; rows = []; row_ids = []; filters = []; code = [] }
 
 abbrev pub agent_of : SceneParts → AgentId → AgentDef
 agent_of s a = slice_index_or s.agents a.0 no_agent
