@@ -207,12 +207,13 @@ fn agent_with(
     ensures { Returns (agent_with number names.now groups.now (view value.now) tree scope code) result }
 {
     let disp = disp_in(names, value);
+    let group = group_number(alloc, groups, disp, group_in(value))?;
     let rows = rows_in(alloc, number, names, &scope, list(value.get("on")))?;
     Ok(AgentDef {
         name: name_of(value),
         coop: CoopId(0),
         disp,
-        group: group_number(groups, disp, group_in(value)),
+        group,
         priority: Priority { level: 0 },
         vars: vars_of(value),
         state_names: scope.states,
@@ -347,8 +348,9 @@ impl Build {
     fn add_group(&mut self, value: &Value) -> Result<(), SceneRefusal>
         ensures { Leaves (Ok (record self.old { groups = with_group (disp_in self.old.names (view value.now)) (group_in (view value.now)) self.old.groups })) result self.new }
     {
+        let alloc = self.texts.alloc();
         let disp = disp_in(&self.names, value);
-        add_group(&mut self.groups, disp, group_in(value))
+        add_group(alloc, &mut self.groups, disp, group_in(value))
     }
 
     fn add(&mut self, agent: AgentDef, texts: Names) -> Result<(), SceneRefusal>
