@@ -54,9 +54,7 @@ fn names_for(alloc: Global, groups: &[Group], disp: DispId) -> Result<Items<Name
 fn place(names: &[Name], name: &Name) -> Option<usize>
     ensures { result ≡ number_in names.now name.now }
 {
-    names
-        .iter()
-        .position(|other| name.bytes() == other.bytes())
+    names.iter().position(|other| name.bytes() == other.bytes())
 }
 
 /// The number of a name: its own, or the next.
