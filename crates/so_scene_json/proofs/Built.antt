@@ -1002,11 +1002,11 @@ is_agent b coop a h =
 split_uses : {X Y : Type 0} (p : X → Bool) (f : X → Option Y) (x : X) (xs : List X) → filter_map f (filter p (x ∷ xs)) ≡ filter_map f (filter p (x ∷ [])) ++ filter_map f (filter p xs)
 split_uses p f x xs = ap (filter_map f) (filter-append p (x ∷ []) xs) ∙ filter_map-append f (filter p (x ∷ [])) (filter p xs)
 
-one_use : {X Y : Type 0} (g : ℕ → X) (f : X → Option Y) (i : ℕ) (b : Bool) → filter_map (λ k. f (g k)) (cond b (i ∷ []) []) ≡ filter_map f (cond b (g i ∷ []) [])
+one_use : {I X Y : Type 0} (g : I → X) (f : X → Option Y) (i : I) (b : Bool) → filter_map (λ k. f (g k)) (cond b (i ∷ []) []) ≡ filter_map f (cond b (g i ∷ []) [])
 one_use g f i true = refl
 one_use g f i false = refl
 
-uses_of : {X Y : Type 0} (g : ℕ → X) (p : X → Bool) (f : X → Option Y) (is : List ℕ) → filter_map (λ i. f (g i)) (filter (λ i. p (g i)) is) ≡ filter_map f (filter p (map g is))
+uses_of : {I X Y : Type 0} (g : I → X) (p : X → Bool) (f : X → Option Y) (is : List I) → filter_map (λ i. f (g i)) (filter (λ i. p (g i)) is) ≡ filter_map f (filter p (map g is))
 uses_of g p f [] = refl
 uses_of g p f (i ∷ is) =
     split_uses (λ k. p (g k)) (λ k. f (g k)) i is
@@ -1028,8 +1028,8 @@ all_texts s = texts_by_number s (length s.agents) (omega arith) ∙ ap texts_of 
 
 all_uses : (s : SceneParts) (d : DispId) → group_uses s d ≡ uses_on d s.agents
 all_uses s d =
-    uses_of (λ k. scene_agent s (agent_number k)) (is_on d) agent_group (each_below agent_number (length s.agents))
-    ∙ ap (uses_on d) (map-each_below (λ k. scene_agent s (agent_number k)) agent_number (length s.agents) ∙ each_below-elements s.agents no_agent)
+    uses_of (scene_agent s) (is_on d) agent_group (each_below agent_number (length s.agents))
+    ∙ ap (uses_on d) (map-each_below (scene_agent s) agent_number (length s.agents) ∙ each_below-elements s.agents no_agent)
 
 -- ---- groups, lanes and cooperations
 
