@@ -5,7 +5,7 @@ ghost use Rattle.serde_json.specs.Events.{items_len};
 ghost use Rattle.serde_json.specs.View.{view, items_view};
 ghost use Rattle.so_code.specs.Shape.{IsCode};
 ghost use Rattle.so_scene_json.specs.Build.{agent_added, with_disp, allowed_in, body_written, start_written, state_written, states_written, row_body, handler_written, rows_written, agent_written, state_place, tree_of, is_long, no_parts, with_message, with_coop, agent_with, with_code, with_tree, with_agent, build_step};
-ghost use Rattle.so_scene_json.specs.Defs.{disp_in};
+ghost use Rattle.so_scene_json.specs.Defs.{disp_in, least_priority};
 ghost use Rattle.so_scene_json.specs.Groups.{with_group};
 ghost use Rattle.so_scene_json.specs.Values.{group_in};
 ghost use Rattle.so_scene_json.specs.Reads.{Reads, Returns};
@@ -192,6 +192,13 @@ fn written(
     Ok(writer)
 }
 
+/// The priority of an agent, so far.
+fn least_priority() -> Priority
+    ensures { result ≡ least_priority }
+{
+    Priority { level: 0 }
+}
+
 /// The agent of a number, with its states, its names and ids, and its code, where there are these groups.
 fn agent_with(
     alloc: Global,
@@ -214,7 +221,7 @@ fn agent_with(
         coop: CoopId(0),
         disp,
         group,
-        priority: Priority { level: 0 },
+        priority: least_priority(),
         vars: vars_of(value),
         state_names: scope.states,
         tree,
