@@ -1,7 +1,7 @@
 -- What the four passes leave is what a scene keeps.
 use Rattle.std.proofs.Common.{◌≡◌, ℕ, zero, suc, cond, append-nil, take, ◌+◌, ◌-◌, ◌<◌, ◌≤◌, ◌^◌, get_or, List, [], ◌∷◌, ◌++◌, length, map, Bool, true, false, not, ◌&&◌, ◌||◌, Option, Some, None, option_and_then, Result, Ok, Err, refl, sym, ap, ◌∙◌, subst, arith, codes, if◌then◌else◌, nat_le, nat_lt, is_some, length-append, append_assoc, bytes_eq}
 use Rattle.std.proofs.Math.Nat.{min-le_left}
-use Rattle.std.proofs.lemmas.Bool.{true≢false, leb-true, ltb-false, le-ltb}
+use Rattle.std.proofs.lemmas.Bool.{true≢false, leb-true, ltb-false}
 use Rattle.std.proofs.Math.Seq.{take-suc}
 use Rattle.std.proofs.lemmas.List.{map_push, take_all}
 use Rattle.std.proofs.lemmas.List.Elements.{filter-append, filter_map-append}
@@ -1002,11 +1002,11 @@ is_agent b coop a h =
 split_uses : {X Y : Type 0} (p : X → Bool) (f : X → Option Y) (x : X) (xs : List X) → filter_map f (filter p (x ∷ xs)) ≡ filter_map f (filter p (x ∷ [])) ++ filter_map f (filter p xs)
 split_uses p f x xs = ap (filter_map f) (filter-append p (x ∷ []) xs) ∙ filter_map-append f (filter p (x ∷ [])) (filter p xs)
 
-one_use : {X Y : Type 0} (g : ℕ → X) (f : X → Option Y) (i : ℕ) (b : Bool) → filter_map (λ k. f (g k)) (cond b (i ∷ []) []) ≡ filter_map f (cond b (g i ∷ []) [])
+one_use : {I X Y : Type 0} (g : I → X) (f : X → Option Y) (i : I) (b : Bool) → filter_map (λ k. f (g k)) (cond b (i ∷ []) []) ≡ filter_map f (cond b (g i ∷ []) [])
 one_use g f i true = refl
 one_use g f i false = refl
 
-uses_of : {X Y : Type 0} (g : ℕ → X) (p : X → Bool) (f : X → Option Y) (is : List ℕ) → filter_map (λ i. f (g i)) (filter (λ i. p (g i)) is) ≡ filter_map f (filter p (map g is))
+uses_of : {I X Y : Type 0} (g : I → X) (p : X → Bool) (f : X → Option Y) (is : List I) → filter_map (λ i. f (g i)) (filter (λ i. p (g i)) is) ≡ filter_map f (filter p (map g is))
 uses_of g p f [] = refl
 uses_of g p f (i ∷ is) =
     split_uses (λ k. p (g k)) (λ k. f (g k)) i is
@@ -1028,8 +1028,8 @@ all_texts s = texts_by_number s (length s.agents) (omega arith) ∙ ap texts_of 
 
 all_uses : (s : SceneParts) (d : DispId) → group_uses s d ≡ uses_on d s.agents
 all_uses s d =
-    uses_of (λ k. scene_agent s (agent_number k)) (is_on d) agent_group (each_below agent_number (length s.agents))
-    ∙ ap (uses_on d) (map-each_below (λ k. scene_agent s (agent_number k)) agent_number (length s.agents) ∙ each_below-elements s.agents no_agent)
+    uses_of (scene_agent s) (is_on d) agent_group (each_below agent_number (length s.agents))
+    ∙ ap (uses_on d) (map-each_below (scene_agent s) agent_number (length s.agents) ∙ each_below-elements s.agents no_agent)
 
 -- ---- groups, lanes and cooperations
 
@@ -1119,16 +1119,13 @@ checked_parts b built distinct = record {
 abbrev pub made_of : Build → List (List ℕ) → List (List (List ℕ)) → List CoopDef → List (List ℕ) → SceneParts
 made_of b mboxes groups coops texts = record { messages = b.messages; mboxes = mboxes; dispatchers = b.dispatchers; groups = groups; coops = coops; agents = b.agents; texts = texts }
 
-pub is_parts : (b : Build) (o : Option (List ℕ)) (n m : ℕ) (coops : List CoopDef) (mboxes texts : List (List ℕ)) (groups : List (List (List ℕ)))
-    → o ≡ only b.coops → n ≡ length b.agents → m ≡ length b.dispatchers → coops_of o n ≡ coops → b.names.mboxes ≡ mboxes → b.texts ≡ texts → group_lists b.groups m ≡ groups
-    → parts_of (only b.coops) b ≡ made_of b mboxes groups coops texts
-is_parts b o n m coops mboxes texts groups c a d e f g h =
-    let same_coops : coops_of (only b.coops) (length b.agents) ≡ coops = ap (λ x. coops_of x (length b.agents)) (sym c) ∙ (ap (coops_of o) (sym a) ∙ e) in
-    let same_groups : group_lists b.groups (length b.dispatchers) ≡ groups = ap (group_lists b.groups) (sym d) ∙ h in
-    ap (λ x. made_of b b.names.mboxes (group_lists b.groups (length b.dispatchers)) x b.texts) same_coops
+pub is_parts : (b : Build) (coops : List CoopDef) (mboxes texts : List (List ℕ)) (groups : List (List (List ℕ)))
+    → coops_of (only b.coops) (length b.agents) ≡ coops → b.names.mboxes ≡ mboxes → b.texts ≡ texts → group_lists b.groups (length b.dispatchers) ≡ groups → parts_of (only b.coops) b ≡ made_of b mboxes groups coops texts
+is_parts b coops mboxes texts groups e f g h =
+    ap (λ x. made_of b b.names.mboxes (group_lists b.groups (length b.dispatchers)) x b.texts) e
     ∙ (ap (λ x. made_of b x (group_lists b.groups (length b.dispatchers)) coops b.texts) f
     ∙ (ap (λ x. made_of b mboxes (group_lists b.groups (length b.dispatchers)) coops x) g
-    ∙ ap (λ x. made_of b mboxes x coops texts) same_groups))
+    ∙ ap (λ x. made_of b mboxes x coops texts) h))
 
 pub is_checked : (b : Build) (s : SceneParts) → IsBuilt b → IsDistinct bytes_eq b.texts → parts_of (only b.coops) b ≡ s → IsChecked s
 unfolding all_parts
@@ -1143,6 +1140,18 @@ admitted_scene s h few coop e =
     let p = or_no (is_empty s.agents) (is_some (first_fault s)) e in
     h.scene few coop (some_one s.agents p.0) (λ a l. none-first_below (fault_of s) (length s.agents) (no_fault_there (first_fault s) p.1) a.0 l)
 
--- where there aren't too many agents, the lanes can be counted
-pub few_exceed : (s : SceneParts) → length s.agents ≤ 4096 → length s.texts ≤ 4096 → nat_lt 256 (lanes s) ≡ exceeds s
-few_exceed s few texts = rw (le-ltb 4096 (length s.agents) few, le-ltb 4096 (length s.texts) texts) refl
+-- ---- the totals
+
+pub first_or : (a b : Bool) → a ≡ true → (a || b) ≡ true
+first_or true b e = refl
+first_or false b e = absurd (true≢false (sym e))
+
+pub second_or : (a b c : Bool) → a ≡ false → b ≡ true → (a || (b || c)) ≡ true
+second_or true b c e f = refl
+second_or false true c e f = refl
+second_or false false c e f = absurd (true≢false (sym f))
+
+pub third_or : (a b c : Bool) → a ≡ false → b ≡ false → (a || (b || c)) ≡ c
+third_or true b c e f = absurd (true≢false e)
+third_or false true c e f = absurd (true≢false f)
+third_or false false c e f = refl

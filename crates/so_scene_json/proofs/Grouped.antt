@@ -1,8 +1,9 @@
 -- How the lists of groups grow, and that the groups of each dispatcher are numbered as agents name them.
-use Rattle.std.proofs.Common.{◌≡◌, ℕ, zero, suc, ◌+◌, ◌-◌, ◌<◌, ◌≤◌, ◌^◌, List, [], ◌∷◌, ◌++◌, length, map, Bool, true, false, cond, Option, Some, None, is_some, refl, sym, ap, ◌∙◌, subst, arith, if◌then◌else◌, length-append, append-nil, bytes_eq, eq-eqb}
+use Rattle.std.proofs.Common.{◌≡◌, ℕ, zero, suc, ◌+◌, ◌-◌, ◌<◌, ◌≤◌, ◌^◌, List, [], ◌∷◌, ◌++◌, length, map, get_or, take, Bool, true, false, cond, Option, Some, None, is_some, refl, sym, ap, ◌∙◌, subst, arith, if◌then◌else◌, length-append, append-nil, bytes_eq, eq-eqb}
 use Rattle.std.proofs.Math.Nat.{min-le_left}
 use Rattle.std.proofs.lemmas.Bool.{true≢false}
-use Rattle.std.proofs.lemmas.List.{map-append}
+use Rattle.std.proofs.Math.Seq.{take-suc}
+use Rattle.std.proofs.lemmas.List.{map-append, take_all}
 use Rattle.std.proofs.lemmas.List.Elements.{filter-append, filter_map-append}
 use Rattle.std.proofs.lemmas.List.Quantifiers.{position-Some}
 use Rattle.std.proofs.lemmas.Map.Views.{exact_unsigned_eq}
@@ -10,6 +11,7 @@ use Rattle.std.specs.List.{AllByRecursion, IsDistinct, filter, filter_map}
 use Rattle.std.specs.Prelude.{◌==◌}
 use Rattle.so_ids.specs.declared.DispId.{DispId}
 use Rattle.so_lists.specs.Lists.{given_after, AreNumbered}
+use Rattle.so_lists.proofs.EachBelow.{each_below-none, each_below-next}
 use Rattle.so_lists.proofs.Filters.{each-append, filter-short}
 use Rattle.so_lists.proofs.Given.{given-append, given-old, given-next}
 use Rattle.so_scene.specs.Names.{has_name, number_in}
@@ -19,7 +21,7 @@ use Rattle.so_scene.proofs.Positions.{added_distinct, no_names as no_distinct}
 use Rattle.so_scene_json.specs.declared.groups.Group.{Group}
 use Rattle.so_scene_json.specs.Visits.{narrow}
 use Rattle.so_scene_json.specs.Writer.{number_or_next}
-use Rattle.so_scene_json.specs.Groups.{is_of, group_name, names_for, with_name, with_group, number_for, group_number}
+use Rattle.so_scene_json.specs.Groups.{is_of, group_name, names_for, names_at, group_lists, with_name, with_group, number_for, group_number}
 use Rattle.so_scene_json.specs.Kept.{agent_group, is_on, uses_on}
 use Rattle.so_scene_json.proofs.Ends.{length_map}
 
@@ -46,6 +48,30 @@ own_more d name groups = names-append d groups (group_of d name ∷ []) ∙ ap (
 
 other_more : (d e : DispId) (name : List ℕ) (groups : List Group) → (e.0 == d.0) ≡ false → names_for d (groups ++ group_of e name ∷ []) ≡ names_for d groups
 other_more d e name groups is = names-append d groups (group_of e name ∷ []) ∙ (ap (λ l. names_for d groups ++ l) (other_name d e name is) ∙ append-nil (names_for d groups))
+
+-- the names of one group
+pub own_group : (d : DispId) (g : Group) → is_of d g ≡ true → names_for d (g ∷ []) ≡ g.name ∷ []
+unfolding names_for
+own_group d g is = rw is refl
+
+pub other_group : (d : DispId) (g : Group) → is_of d g ≡ false → names_for d (g ∷ []) ≡ []
+unfolding names_for
+other_group d g is = rw is refl
+
+-- the names of one group more
+pub names_go : (d : DispId) (groups : List Group) (i : ℕ) (g x : Group) (made next : List (List ℕ)) → i < length groups → x ≡ get_or groups i g → made ≡ names_for d (take i groups)
+    → made ++ names_for d (x ∷ []) ≡ next → next ≡ names_for d (take (i + 1) groups)
+names_go d groups i g x made next l is e f =
+    let next_step : i + 1 ≡ suc i = omega arith in
+    sym f ∙ (ap (λ m. m ++ names_for d (x ∷ [])) e ∙ (ap (λ y. names_for d (take i groups) ++ names_for d (y ∷ [])) is
+    ∙ (sym (names-append d (take i groups) (get_or groups i g ∷ [])) ∙ (ap (names_for d) (sym (take-suc groups i g l)) ∙ ap (λ k. names_for d (take k groups)) (sym next_step)))))
+
+pub names_end : (d : DispId) (groups : List Group) (i : ℕ) (made : List (List ℕ)) → length groups ≤ i → made ≡ names_for d (take i groups) → names_for d groups ≡ made
+names_end d groups i made l e = ap (names_for d) (sym (take_all i groups l)) ∙ sym e
+
+pub names_start : (d : DispId) → names_for d [] ≡ []
+unfolding names_for
+names_start d = refl
 
 -- ---- what an agent adds
 
@@ -212,3 +238,12 @@ group_names_more d e (Some name) groups is old = names_if d e name groups (e.0 =
 pub no_group_uses : (d : DispId) → AreNumbered (uses_on d []) (length (names_for d []))
 unfolding names_for
 no_group_uses d = refl
+
+-- ---- the lists of all dispatchers
+
+pub lists_start : (groups : List Group) → group_lists groups 0 ≡ []
+lists_start groups = each_below-none (names_at groups)
+
+pub lists_go : (groups : List Group) (k : ℕ) (lists next : List (List (List ℕ))) (names : List (List ℕ)) → lists ≡ group_lists groups k → names_at groups k ≡ names → lists ++ names ∷ [] ≡ next → next ≡ group_lists groups (k + 1)
+lists_go groups k lists next names e f g =
+    sym g ∙ (ap (λ l. l ++ names ∷ []) e ∙ (ap (λ n. group_lists groups k ++ n ∷ []) (sym f) ∙ sym (each_below-next (names_at groups) k)))

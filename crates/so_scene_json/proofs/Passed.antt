@@ -381,16 +381,16 @@ one_given : (o : Option (List ℕ)) → is_some o ≡ true → HasGroup ActiveGr
 one_given None e = absurd (true≢false (sym e))
 one_given (Some name) e = tt
 
-fits : (kind : DispKind) (place : Place) (given : Bool) (o : Option (List ℕ)) → is_some o ≡ given → group_unfit (Some kind) place given ≡ None → HasGroup kind o
-fits ActiveGroup place true o e h = one_given o e
-fits ActiveGroup place false o e h = absurd cc
-fits other place true o e h = absurd cc
-fits other place false o e h = none_given o e
+has_group : (kind : DispKind) (place : Place) (given : Bool) (o : Option (List ℕ)) → is_some o ≡ given → group_unfit (Some kind) place given ≡ None → HasGroup kind o
+has_group ActiveGroup place true o e h = one_given o e
+has_group ActiveGroup place false o e h = absurd cc
+has_group other place true o e h = absurd cc
+has_group other place false o e h = none_given o e
 
 has_disp : (names : Declared) (place : Place) (d : Data) (o : Option ℕ) → disp_number_in names d ≡ o → is_some o ≡ true → is_some (group_in d) ≡ is_some (get (codes "group") d)
     → group_unfit (option_map (kind_at names) o) place (is_some (get (codes "group") d)) ≡ None → HasDisp names d
 has_disp names place d None e there given h = absurd (true≢false (sym there))
-has_disp names place d (Some number) e there given h = record { number = number; is = e; group = fits (kind_at names number) place (is_some (get (codes "group") d)) (group_in d) given h }
+has_disp names place d (Some k) e there given h = record { number = k; is = e; group = has_group (kind_at names k) place (is_some (get (codes "group") d)) (group_in d) given h }
 
 fine_on : (names : Declared) (n : ℕ) (place : Place) (d : Data) → ArePassed names (visits (suc n) object.Agent place d) → HasDisp names d
 fine_on names n place d p =

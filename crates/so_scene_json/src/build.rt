@@ -5,7 +5,7 @@ ghost use Rattle.serde_json.specs.Events.{items_len};
 ghost use Rattle.serde_json.specs.View.{view, items_view};
 ghost use Rattle.so_code.specs.Shape.{IsCode};
 ghost use Rattle.so_scene_json.specs.Build.{agent_added, with_disp, allowed_in, body_written, start_written, state_written, states_written, row_body, handler_written, rows_written, agent_written, state_place, tree_of, is_long, no_parts, with_message, with_coop, agent_with, with_code, with_tree, with_agent, build_step};
-ghost use Rattle.so_scene_json.specs.Defs.{disp_in};
+ghost use Rattle.so_scene_json.specs.Defs.{disp_in, least_priority};
 ghost use Rattle.so_scene_json.specs.Groups.{with_group};
 ghost use Rattle.so_scene_json.specs.Values.{group_in};
 ghost use Rattle.so_scene_json.specs.Reads.{Reads, Returns};
@@ -192,6 +192,13 @@ fn written(
     Ok(writer)
 }
 
+/// The priority of an agent, so far.
+fn least_priority() -> Priority
+    ensures { result ≡ least_priority }
+{
+    Priority { level: 0 }
+}
+
 /// The agent of a number, with its states, its names and ids, and its code, where there are these groups.
 fn agent_with(
     alloc: Global,
@@ -207,13 +214,14 @@ fn agent_with(
     ensures { Returns (agent_with number names.now groups.now (view value.now) tree scope code) result }
 {
     let disp = disp_in(names, value);
+    let group = group_number(alloc, groups, disp, group_in(value))?;
     let rows = rows_in(alloc, number, names, &scope, list(value.get("on")))?;
     Ok(AgentDef {
         name: name_of(value),
         coop: CoopId(0),
         disp,
-        group: group_number(groups, disp, group_in(value)),
-        priority: Priority { level: 0 },
+        group,
+        priority: least_priority(),
         vars: vars_of(value),
         state_names: scope.states,
         tree,
@@ -347,8 +355,9 @@ impl Build {
     fn add_group(&mut self, value: &Value) -> Result<(), SceneRefusal>
         ensures { Leaves (Ok (record self.old { groups = with_group (disp_in self.old.names (view value.now)) (group_in (view value.now)) self.old.groups })) result self.new }
     {
+        let alloc = self.texts.alloc();
         let disp = disp_in(&self.names, value);
-        add_group(&mut self.groups, disp, group_in(value))
+        add_group(alloc, &mut self.groups, disp, group_in(value))
     }
 
     fn add(&mut self, agent: AgentDef, texts: Names) -> Result<(), SceneRefusal>

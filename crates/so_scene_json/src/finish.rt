@@ -5,7 +5,7 @@ ghost use Rattle.so_lists.specs.Lists.{is_empty};
 ghost use Rattle.std.specs.List.{All, IsDistinct};
 ghost use Rattle.so_scene.specs.Words.{is_name, is_text};
 ghost use Rattle.so_scene_json.specs.Kept.{IsBuilt, IsChecked};
-ghost use Rattle.so_scene_json.specs.Visits.{narrow};
+ghost use Rattle.so_scene_json.specs.Groups.{group_lists};
 ghost use Rattle.so_scene_json.specs.Reads.{Reads, Returns};
 ghost use Rattle.so_scene.specs.Lanes.{AreBound, lanes};
 ghost use Rattle.so_scene_json.specs.Scene.{coops_of, exceeds, parts_of, coops_place, first_coop, first_fault, is_refused, admitted, only, with_coop, checked, finished};
@@ -117,6 +117,21 @@ fn only(coops: &[Name]) -> Option<Name>
     }
 }
 
+/// The cooperation, if there is exactly one.
+fn coops_in(alloc: Global, build: &Build) -> Result<Items<CoopDef>, SceneRefusal>
+    ensures { Returns (coops_of (only build.now.coops) (length build.now.agents)) result }
+{
+    coops_of(alloc, only(build.coops.as_slice()), build.agents.len())
+}
+
+/// The names of the groups of each dispatcher.
+fn groups_in(alloc: Global, build: &Build) -> Result<Items<Items<Name>>, SceneRefusal>
+    requires { length build.now.dispatchers ≤ 64 }
+    ensures { Returns (group_lists build.now.groups (length build.now.dispatchers)) result }
+{
+    group_lists(alloc, build.groups.as_slice(), build.dispatchers.len())
+}
+
 /// The parts, with the cooperation if there is exactly one.
 fn parts_of(build: Build) -> Result<SceneParts, SceneRefusal>
     requires { IsBuilt build }
@@ -124,10 +139,10 @@ fn parts_of(build: Build) -> Result<SceneParts, SceneRefusal>
     ensures checked { IfOk result IsChecked }
 {
     let alloc = build.texts.alloc();
-    let coops = coops_of(alloc, only(build.coops.as_slice()), build.agents.len())?;
+    let coops = coops_in(alloc, &build)?;
+    let groups = groups_in(alloc, &build)?;
     let mboxes = mboxes_of(alloc, &build.names.mboxes)?;
     let texts = texts_of(alloc, &build.texts)?;
-    let groups = group_lists(alloc, build.groups.as_slice(), build.dispatchers.len())?;
     let Build {
         names: _,
         messages,
@@ -196,6 +211,20 @@ fn with_coop(alloc: Global, parts: SceneParts) -> Result<Scene, SceneRefusal>
     admitted(alloc, parts)
 }
 
+/// Tells whether there are too many agents.
+fn has_many_agents(parts: &SceneParts) -> bool
+    ensures { result ≡ nat_lt 4096 (length parts.now.agents) }
+{
+    parts.agents.len() > 4096
+}
+
+/// Tells whether there are too many texts.
+fn has_many_texts(parts: &SceneParts) -> bool
+    ensures { result ≡ nat_lt 4096 (length parts.now.texts) }
+{
+    parts.texts.len() > 4096
+}
+
 /// Tells whether there are too many lanes.
 fn has_many_lanes(alloc: Global, parts: &SceneParts) -> Result<bool, SceneRefusal>
     requires { AreBound parts.now }
@@ -212,10 +241,10 @@ fn exceeds(alloc: Global, parts: &SceneParts) -> Result<bool, SceneRefusal>
     requires { IsChecked parts.now }
     ensures { Returns (exceeds parts.now) result }
 {
-    if parts.agents.len() > 4096 {
+    if has_many_agents(parts) {
         return Ok(true);
     }
-    if parts.texts.len() > 4096 {
+    if has_many_texts(parts) {
         return Ok(true);
     }
     has_many_lanes(alloc, parts)

@@ -1,11 +1,12 @@
 //! The groups of agents on dispatchers of the kind active_group. A group has its number among those of its dispatcher, in the
 //! order in which agents name them.
 
-ghost use Rattle.std.specs.Prelude.{◌≡◌, ◌≤◌, length, Ok};
+ghost use Rattle.std.specs.Prelude.{◌≡◌, ◌≤◌, ◌∷◌, [], ◌++◌, Ok};
 ghost use Rattle.so_scene.specs.Names.{number_in};
-ghost use Rattle.so_scene_json.specs.Groups.{is_of, names_for, with_name, with_group, number_for, group_number, group_lists};
+ghost use Rattle.so_scene_json.specs.Groups.{is_of, names_for, with_name, with_group, group_number, group_lists};
 ghost use Rattle.so_scene_json.specs.Reads.{Returns};
 ghost use Rattle.so_scene_json.specs.Visits.{Leaves};
+ghost use Rattle.so_scene_json.specs.Writer.{number_or_next};
 
 use crate::walk::position;
 use so_ids::DispId;
@@ -25,52 +26,74 @@ fn is_of(disp: DispId, group: &Group) -> bool
     group.disp == disp
 }
 
-/// The number of a group among its dispatcher's.
-fn place(groups: &[Group], disp: DispId, name: &Name) -> Option<usize>
-    ensures { result ≡ number_in (names_for disp groups.now) name.now }
+/// Adds the name of a group, if it is one of the dispatcher.
+#[tactic(auto, unfolding(crate::specs::Groups::names_for))]
+fn push_if(names: &mut Items<Name>, disp: DispId, group: &Group) -> Result<(), SceneRefusal>
+    ensures { Leaves (Ok (names.old ++ names_for disp (group.now ∷ []))) result names.new }
 {
-    groups
-        .iter()
-        .filter(|group| is_of(disp, group))
-        .position(|group| name.bytes() == group.name.bytes())
+    if !is_of(disp, group) {
+        return Ok(());
+    }
+    match names.push(group.name.copy()) {
+        Ok(()) => Ok(()),
+        Err(_) => Err(SceneRefusal::NoMemory),
+    }
 }
 
-/// How many groups a dispatcher has.
-fn count(groups: &[Group], disp: DispId) -> usize
-    ensures { result ≡ length (names_for disp groups.now) }
+/// The names of a dispatcher's groups, by number.
+fn names_for(alloc: Global, groups: &[Group], disp: DispId) -> Result<Items<Name>, SceneRefusal>
+    ensures { Returns (names_for disp groups.now) result }
 {
-    groups.iter().filter(|group| is_of(disp, group)).count()
+    let mut names = Items::new(alloc);
+    for group in groups {
+        push_if(&mut names, disp, group)?;
+    }
+    Ok(names)
 }
 
-/// The number of a group: its own, or the next.
-fn number(groups: &[Group], disp: DispId, name: &Name) -> u32
-    ensures { result ≡ number_for disp name.now groups.now }
+fn place(names: &[Name], name: &Name) -> Option<usize>
+    ensures { result ≡ number_in names.now name.now }
 {
-    match place(groups, disp, name) {
+    names.iter().position(|other| name.bytes() == other.bytes())
+}
+
+/// The number of a name: its own, or the next.
+fn number(names: &[Name], name: &Name) -> u32
+    ensures { result ≡ number_or_next (number_in names.now name.now) names.now }
+{
+    match place(names, name) {
         Some(n) => position(n),
-        None => position(count(groups, disp)),
+        None => position(names.len()),
     }
 }
 
 /// The number of an agent's group, if it names one.
 pub(crate) fn group_number(
+    alloc: Global,
     groups: &[Group],
     disp: DispId,
     name: Option<Name>,
-) -> Option<u32>
-    ensures { result ≡ group_number disp name groups.now }
+) -> Result<Option<u32>, SceneRefusal>
+    ensures { Returns (group_number disp name groups.now) result }
 {
-    match name {
-        Some(name) => Some(number(groups, disp, &name)),
-        None => None,
-    }
+    let Some(name) = name else {
+        return Ok(None);
+    };
+    let names = names_for(alloc, groups, disp)?;
+    Ok(Some(number(names.as_slice(), &name)))
 }
 
 /// Adds a group that its dispatcher doesn't have yet.
-fn add_name(groups: &mut Items<Group>, disp: DispId, name: Name) -> Result<(), SceneRefusal>
+fn add_name(
+    alloc: Global,
+    groups: &mut Items<Group>,
+    disp: DispId,
+    name: Name,
+) -> Result<(), SceneRefusal>
     ensures { Leaves (Ok (with_name disp name groups.old)) result groups.new }
 {
-    if place(groups.as_slice(), disp, &name).is_some() {
+    let names = names_for(alloc, groups.as_slice(), disp)?;
+    if place(names.as_slice(), &name).is_some() {
         return Ok(());
     }
     match groups.push(Group { disp, name }) {
@@ -81,6 +104,7 @@ fn add_name(groups: &mut Items<Group>, disp: DispId, name: Name) -> Result<(), S
 
 /// Adds an agent's group, if it names one.
 pub(crate) fn add_group(
+    alloc: Global,
     groups: &mut Items<Group>,
     disp: DispId,
     name: Option<Name>,
@@ -88,25 +112,18 @@ pub(crate) fn add_group(
     ensures { Leaves (Ok (with_group disp name groups.old)) result groups.new }
 {
     match name {
-        Some(name) => add_name(groups, disp, name),
+        Some(name) => add_name(alloc, groups, disp, name),
         None => Ok(()),
     }
 }
 
-/// The names of a dispatcher's groups, by number.
-fn names_for(alloc: Global, groups: &[Group], disp: DispId) -> Result<Items<Name>, SceneRefusal>
-    ensures { Returns (names_for disp groups.now) result }
+fn push_list(lists: &mut Items<Items<Name>>, names: Items<Name>) -> Result<(), SceneRefusal>
+    ensures { Leaves (Ok (lists.old ++ names ∷ [])) result lists.new }
 {
-    let mut names = Items::new(alloc);
-    for group in groups {
-        if is_of(disp, group) {
-            match names.push(group.name.copy()) {
-                Ok(()) => {}
-                Err(_) => return Err(SceneRefusal::NoMemory),
-            }
-        }
+    match lists.push(names) {
+        Ok(()) => Ok(()),
+        Err(_) => Err(SceneRefusal::NoMemory),
     }
-    Ok(names)
 }
 
 /// For each of so many dispatchers the names of its groups.
@@ -120,10 +137,8 @@ pub(crate) fn group_lists(
 {
     let mut lists = Items::new(alloc);
     for k in 0..dispatchers {
-        match lists.push(names_for(alloc, groups, DispId(k as u32))?) {
-            Ok(()) => {}
-            Err(_) => return Err(SceneRefusal::NoMemory),
-        }
+        let names = names_for(alloc, groups, DispId(k as u32))?;
+        push_list(&mut lists, names)?;
     }
     Ok(lists)
 }

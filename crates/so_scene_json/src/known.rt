@@ -84,9 +84,7 @@ fn group_unfit(kind: Option<DispKind>, place: &ScenePlace, given: bool) -> Optio
         Some(DispKind::ActiveGroup) => if given {
             None
         } else {
-            Some(SceneFault::Missing(place.step(PlaceStep::Key(
-                Field::Group,
-            ))))
+            Some(SceneFault::Missing(place.step(PlaceStep::Key(Field::Group))))
         },
         Some(_) => if given {
             Some(SceneFault::WrongShape(place.copy()))

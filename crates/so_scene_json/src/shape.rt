@@ -91,10 +91,8 @@ fn is_built(kind: DispKind) -> bool
     ensures { result ≡ is_built kind }
 {
     match kind {
-        DispKind::OneThread
-        | DispKind::ActiveObj
-        | DispKind::ActiveGroup
-        | DispKind::ThreadPool => true,
+        DispKind::OneThread | DispKind::ActiveObj | DispKind::ActiveGroup | DispKind::ThreadPool =>
+            true,
         DispKind::AdvThreadPool
         | DispKind::StrictlyOrdered
         | DispKind::QuotedRoundRobin

@@ -1469,21 +1469,13 @@ static DISP_FAULTS: [(&str, &str, &str); 41] = [
         ",\"disp\":\"p\"",
         "unknown_name at /coops/0/agents/0/disp",
     ),
-    (
-        "[]",
-        ",\"disp\":1",
-        "wrong_shape at /coops/0/agents/0/disp",
-    ),
+    ("[]", ",\"disp\":1", "wrong_shape at /coops/0/agents/0/disp"),
     (
         "[]",
         ",\"disp\":\"p\",\"group\":\"g\"",
         "unknown_name at /coops/0/agents/0/disp",
     ),
-    (
-        "[]",
-        ",\"group\":\"g\"",
-        "wrong_shape at /coops/0/agents/0",
-    ),
+    ("[]", ",\"group\":\"g\"", "wrong_shape at /coops/0/agents/0"),
     (
         "[]",
         ",\"disp\":\"default\",\"group\":\"g\"",
@@ -1695,8 +1687,17 @@ fn groups_are_numbered_as_agents_name_them(rt: HostRuntime) {
     let scene = scene(&rt, rt.alloc(), KINDS);
     match scene.parts().groups.as_slice() {
         [_, _, _, some, _, more, _] => {
-            assert!(rt; some.as_slice().iter().map(|name| name.bytes()).eq(["y".as_bytes(), "x".as_bytes()]));
-            assert!(rt; more.as_slice().iter().all(|name| name.bytes() == "x".as_bytes()));
+            assert!(rt;
+                some.as_slice()
+                    .iter()
+                    .map(|name| name.bytes())
+                    .eq(["y".as_bytes(), "x".as_bytes()])
+            );
+            assert!(rt;
+                more.as_slice()
+                    .iter()
+                    .all(|name| name.bytes() == "x".as_bytes())
+            );
         }
         _ => assert!(rt; false),
     }

@@ -10,33 +10,45 @@ use Rattle.so_scene_json.specs.declared.scope.Scope.{Scope}
 use Rattle.so_scene_json.specs.declared.write.Writer.{Writer}
 use Rattle.so_state.specs.declared.states.State.{State}
 use Rattle.so_scene_json.specs.Visits.{Place, Leaves}
-use Rattle.so_scene_json.specs.Build.{agent_written, agent_with, agent_of, with_code}
+use Rattle.so_scene_json.specs.declared.groups.Group.{Group}
+use Rattle.so_scene_json.specs.Values.{group_in}
+use Rattle.so_scene_json.specs.Groups.{with_group}
+use Rattle.so_scene_json.specs.Defs.{disp_in}
+use Rattle.so_scene_json.specs.Build.{agent_written, agent_with, agent_of, agent_added, with_code}
 use Rattle.so_scene_json.proofs.build.Build.with_code.Goals as goal
 
 abbrev ok : Build → Result Build SceneFault
 ok b = Ok b
 
 within : (place : Place) (s : Build) (d : Data) (tree : List State) (w : Writer) (b : Bool) → nat_lt 1024 (length w.code) ≡ b → length w.code ≤ 1024
-    → with_code place s d tree w ≡ Ok (record s { agents = s.agents ++ agent_of (length s.agents) s.names d tree w ∷ []; texts = w.texts })
+    → with_code place s d tree w ≡ Ok (agent_added s d tree w)
 within place s d tree w true e l = absurd (true≢false (sym e ∙ le-ltb 1024 (length w.code) l))
 within place s d tree w false e l = rw e
 
 begun : List (List ℕ) → Scope → Writer
 begun texts scope = record { texts = texts; code = []; scope = scope }
 
+abbrev grouped : Build → Data → Build
+grouped b d = record b { groups = with_group (disp_in b.names d) (group_in d) b.groups }
+
+was : (a b : Build) → ok a ≡ Ok b → a ≡ b
+was a b e = cc
+
 -- the texts were taken out while the code was written
-added : (place : Place) (s taken : Build) (d : Data) (tree : List State) (scope : Scope) (w : Writer) (texts : List (List ℕ)) (agent : AgentDef) (n : ℕ) → texts ≡ s.texts → taken ≡ record s { texts = [] } → n ≡ length s.agents
-    → agent_written taken.names (record { texts = texts; code = []; scope = scope }) d ≡ w → agent_with n taken.names d tree w.scope w.code ≡ agent → length w.code ≤ 1024
-    → with_code place s d tree (agent_written s.names (record { texts = s.texts; code = []; scope = scope }) d) ≡ Ok (record taken { agents = taken.agents ++ agent ∷ []; texts = w.texts })
+added : (place : Place) (s taken next : Build) (d : Data) (tree : List State) (scope : Scope) (w : Writer) (texts : List (List ℕ)) (groups : List Group) (agent : AgentDef) (n : ℕ) → texts ≡ s.texts → taken ≡ record s { texts = [] } → n ≡ length s.agents
+    → agent_written taken.names (record { texts = texts; code = []; scope = scope }) d ≡ w → groups ≡ taken.groups → agent_with n taken.names groups d tree w.scope w.code ≡ agent → length w.code ≤ 1024 → ok (grouped taken d) ≡ Ok next
+    → with_code place s d tree (agent_written s.names (record { texts = s.texts; code = []; scope = scope }) d) ≡ Ok (record next { agents = next.agents ++ agent ∷ []; texts = w.texts })
 unfolding begun
-added place s taken d tree scope w texts agent n e f l g a few =
+added place s taken next d tree scope w texts groups agent n e f l g k a few h =
     let same : agent_written s.names (begun s.texts scope) d ≡ w = ap (λ x. agent_written s.names (begun x scope) d) (sym e) ∙ (ap (λ (b : Build). agent_written b.names (begun texts scope) d) (sym f) ∙ g) in
-    let made : agent_with n s.names d tree w.scope w.code ≡ agent = ap (λ (b : Build). agent_with n b.names d tree w.scope w.code) (sym f) ∙ a in
+    let there : groups ≡ s.groups = k ∙ ap (λ (b : Build). b.groups) f in
+    let made : agent_with n s.names s.groups d tree w.scope w.code ≡ agent = ap (λ x. agent_with n s.names x d tree w.scope w.code) (sym there) ∙ (ap (λ (b : Build). agent_with n b.names groups d tree w.scope w.code) (sym f) ∙ a) in
+    let after : grouped (record s { texts = [] }) d ≡ next = ap (λ b. grouped b d) (sym f) ∙ was (grouped taken d) next h in
     ap (with_code place s d tree) same
     ∙ (within place s d tree w (nat_lt 1024 (length w.code)) refl few
-    ∙ (ap (λ k. ok (record s { agents = s.agents ++ agent_with k s.names d tree w.scope w.code ∷ []; texts = w.texts })) (sym l)
-    ∙ (ap (λ x. ok (record s { agents = s.agents ++ x ∷ []; texts = w.texts })) made
-    ∙ ap (λ (b : Build). ok (record b { agents = b.agents ++ agent ∷ []; texts = w.texts })) (sym f))))
+    ∙ (ap (λ k. ok (record (grouped s d) { agents = s.agents ++ agent_with k s.names s.groups d tree w.scope w.code ∷ []; texts = w.texts })) (sym l)
+    ∙ (ap (λ x. ok (record (grouped s d) { agents = s.agents ++ x ∷ []; texts = w.texts })) made
+    ∙ ap (λ (b : Build). ok (record b { agents = b.agents ++ agent ∷ []; texts = w.texts })) after)))
 
 leaves_as : (a b : Result Build SceneFault) (r : Result (Unit {0}) SceneRefusal) (n : Build) → a ≡ b → Leaves b r n → Leaves a r n
 leaves_as a b r n e h = subst (λ q. Leaves q r n) (sym e) h
@@ -44,5 +56,5 @@ leaves_as a b r n e h = subst (λ q. Leaves q r n) (sym e) h
 pub returns : goal.returns
 returns c =
     leaves_as _ _ c.add.result c.add.new.self
-    (added c.args.place.now c.args.self.now c.take_texts-texts.new.self (view c.args.value.now) c.args.tree c.args.scope c.in_ok-texts.field-0 c.take_texts-texts.result c.in_ok-agent.agent c.len-number.result c.take_texts-texts.ensures.taken c.take_texts-texts.ensures.rest c.len-number.ensures c.in_ok-texts.ensures.value c.in_ok-agent.ensures (omega (arith, c.if-len-gt1024.false, c.len.ensures)))
+    (added c.args.place.now c.args.self.now c.take_texts-texts.new.self c.add_group.new.self (view c.args.value.now) c.args.tree c.args.scope c.in_ok-texts.field-0 c.take_texts-texts.result c.as_slice-groups.result.now c.in_ok-agent.agent c.len-number.result c.take_texts-texts.ensures.taken c.take_texts-texts.ensures.rest c.len-number.ensures c.in_ok-texts.ensures.value c.as_slice-groups.ensures c.in_ok-agent.ensures (omega (arith, c.if-len-gt1024.false, c.len.ensures)) c.in_ok-add_group.ensures)
     c.add.ensures
