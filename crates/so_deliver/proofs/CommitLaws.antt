@@ -14,6 +14,7 @@ use Rattle.so_scene.specs.declared.parts.SceneParts.{SceneParts}
 use Rattle.so_queue.specs.Queues.{QueueTable, list_at, IsAmong, IsAfterAll}
 use Rattle.so_queue.proofs.OrderLaws.{earlier_trans, earlier_there, earlier_at_once}
 use Rattle.so_queue.proofs.QueueLaws.{push_old}
+use Rattle.so_scene.specs.Parts.{priority_of}
 use Rattle.so_deliver.specs.Commit.{after_demand, committed_from, IsPlaceAfter}
 
 -- what comes after all comes after all once another has come in between
