@@ -21,8 +21,9 @@ use Rattle.so_state.specs.declared.choice.Row.{Row}
 use Rattle.so_state.specs.Fault.{IsTree}
 use Rattle.so_scene_json.specs.declared.build.Build.{Build}
 use Rattle.so_scene_json.specs.declared.groups.Group.{Group}
-use Rattle.so_scene_json.specs.Groups.{names_for}
-use Rattle.so_scene_json.specs.Scene.{exceeds}
+use Rattle.so_scene_json.specs.Groups.{names_for, group_lists}
+use Rattle.so_scene_json.specs.declared.finish.Lists.{Lists}
+use Rattle.so_scene_json.specs.Scene.{exceeds, coops_of, only}
 
 -- a row among so many mboxes, messages and states, and a filter
 pub record IsBuiltRow (mboxes messages states : ℕ) (row : Row) : Type 0 where
@@ -116,3 +117,22 @@ pub record IsBuilt (s : Build) : Type 0 where
 pub record IsChecked (s : SceneParts) : Type 0 where
   pub bound : length s.agents ≤ 4096 → AreBound s
   pub scene : exceeds s ≡ false → is_empty s.coops ≡ false → 0 < length s.agents → ((a : AgentId) → a.0 < length s.agents → definition_fault s a ≡ None) → IsScene s
+
+-- the lists that are made at the end, and the parts that have them
+pub record AreLists (b : Build) (l : Lists) : Type 0 where
+  pub coops : coops_of (only b.coops) (length b.agents) ≡ l.coops
+  pub groups : group_lists b.groups (length b.dispatchers) ≡ l.groups
+  pub mboxes : b.names.mboxes ≡ l.mboxes
+  pub texts : b.texts ≡ l.texts
+  pub each_text_once : IsDistinct bytes_eq b.texts
+
+abbrev pub parts_with : Build → Lists → SceneParts
+parts_with b l = record {
+  messages = b.messages;
+  mboxes = l.mboxes;
+  dispatchers = b.dispatchers;
+  groups = l.groups;
+  coops = l.coops;
+  agents = b.agents;
+  texts = l.texts;
+}

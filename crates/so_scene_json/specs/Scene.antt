@@ -36,6 +36,12 @@ fields d = visits 4 object.Scene [] d
 
 -- ---- after the fourth pass
 
+-- the name, if there is exactly one
+abbrev pub only : List (List ℕ) → Option (List ℕ)
+only [] = None
+only (name ∷ []) = Some name
+only (name ∷ other ∷ more) = None
+
 -- the one cooperation, of so many agents
 abbrev pub coops_of : Option (List ℕ) → ℕ → List CoopDef
 coops_of None agents = []
@@ -72,11 +78,6 @@ coops_place = Key Coops ∷ []
 
 abbrev pub first_coop : List PlaceStep
 first_coop = Key Coops ∷ At 0 ∷ []
-
-abbrev pub only : List (List ℕ) → Option (List ℕ)
-only [] = None
-only (name ∷ []) = Some name
-only (name ∷ other ∷ more) = None
 
 -- a scene whose cooperation would be refused isn't built
 abbrev pub admitted : SceneParts → Result SceneParts SceneFault

@@ -4,7 +4,7 @@ ghost use Rattle.std.specs.Prelude.{◌≡◌, ◌≤◌, ◌∷◌, [], map, st
 ghost use Rattle.so_lists.specs.Lists.{is_empty};
 ghost use Rattle.std.specs.List.{All, IsDistinct};
 ghost use Rattle.so_scene.specs.Words.{is_name, is_text};
-ghost use Rattle.so_scene_json.specs.Kept.{IsBuilt, IsChecked};
+ghost use Rattle.so_scene_json.specs.Kept.{IsBuilt, IsChecked, AreLists, parts_with};
 ghost use Rattle.so_scene_json.specs.Groups.{group_lists};
 ghost use Rattle.so_scene_json.specs.Reads.{Reads, Returns};
 ghost use Rattle.so_scene.specs.Lanes.{AreBound, lanes};
@@ -13,7 +13,7 @@ ghost use Rattle.so_scene_json.specs.Scene.{coops_of, exceeds, parts_of, coops_p
 use crate::build::Build;
 use crate::groups::group_lists;
 use crate::walk::position;
-use so_ids::{AgentId, DefFault};
+use so_ids::{AgentId, DefFault, NoMemory};
 use so_scene::{
     CoopDef, Field, Items, Name, Names, PlaceStep, Scene, SceneFault, SceneParts, ScenePlace,
     SceneRefusal, Text,
@@ -132,17 +132,44 @@ fn groups_in(alloc: Global, build: &Build) -> Result<Items<Items<Name>>, SceneRe
     group_lists(alloc, build.groups.as_slice(), build.dispatchers.len())
 }
 
-/// The parts, with the cooperation if there is exactly one.
-fn parts_of(build: Build) -> Result<SceneParts, SceneRefusal>
-    requires { IsBuilt build }
-    ensures parts { Returns (parts_of (only build.coops) build) result }
-    ensures checked { IfOk result IsChecked }
+/// The lists of a scene that are made at its end.
+#[derive(Drop)]
+struct Lists {
+    coops: Items<CoopDef>,
+    groups: Items<Items<Name>>,
+    mboxes: Items<Name>,
+    texts: Items<Text>,
+}
+
+/// The lists, with the cooperation if there is exactly one.
+fn lists_of(alloc: Global, build: &Build) -> Result<Lists, NoMemory>
+    requires { IsBuilt build.now }
+    ensures { IfOk result (λ lists. AreLists build.now lists) }
 {
-    let alloc = build.texts.alloc();
-    let coops = coops_in(alloc, &build)?;
-    let groups = groups_in(alloc, &build)?;
-    let mboxes = mboxes_of(alloc, &build.names.mboxes)?;
-    let texts = texts_of(alloc, &build.texts)?;
+    let Ok(coops) = coops_in(alloc, build) else {
+        return Err(NoMemory);
+    };
+    let Ok(groups) = groups_in(alloc, build) else {
+        return Err(NoMemory);
+    };
+    let Ok(mboxes) = mboxes_of(alloc, &build.names.mboxes) else {
+        return Err(NoMemory);
+    };
+    let Ok(texts) = texts_of(alloc, &build.texts) else {
+        return Err(NoMemory);
+    };
+    Ok(Lists {
+        coops,
+        groups,
+        mboxes,
+        texts,
+    })
+}
+
+/// The parts of these lists.
+fn parts_with(build: Build, lists: Lists) -> SceneParts
+    ensures { result ≡ parts_with build lists }
+{
     let Build {
         names: _,
         messages,
@@ -152,7 +179,13 @@ fn parts_of(build: Build) -> Result<SceneParts, SceneRefusal>
         agents,
         texts: _,
     } = build;
-    Ok(SceneParts {
+    let Lists {
+        coops,
+        groups,
+        mboxes,
+        texts,
+    } = lists;
+    SceneParts {
         messages,
         mboxes,
         dispatchers,
@@ -160,7 +193,19 @@ fn parts_of(build: Build) -> Result<SceneParts, SceneRefusal>
         coops,
         agents,
         texts,
-    })
+    }
+}
+
+/// The parts, with the cooperation if there is exactly one.
+fn parts_of(build: Build) -> Result<SceneParts, SceneRefusal>
+    requires { IsBuilt build }
+    ensures parts { Returns (parts_of (only build.coops) build) result }
+    ensures checked { IfOk result IsChecked }
+{
+    match lists_of(build.texts.alloc(), &build) {
+        Ok(lists) => Ok(parts_with(build, lists)),
+        Err(NoMemory) => Err(SceneRefusal::NoMemory),
+    }
 }
 
 /// The first definition rule that an agent breaks.
