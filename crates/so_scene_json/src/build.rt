@@ -214,13 +214,13 @@ fn agent_with(
 
 /// The parts so far.
 #[derive(Drop)]
-pub(crate) struct Build {
-    pub(crate) names: Declared,
-    pub(crate) messages: Items<MessageDef>,
+pub struct Build {
+    pub names: Declared,
+    pub messages: Items<MessageDef>,
     /// The names of the cooperations.
-    pub(crate) coops: Items<Name>,
-    pub(crate) agents: Items<AgentDef>,
-    pub(crate) texts: Names,
+    pub coops: Items<Name>,
+    pub agents: Items<AgentDef>,
+    pub texts: Names,
 }
 
 impl Build {

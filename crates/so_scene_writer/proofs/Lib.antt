@@ -1,0 +1,5 @@
+pub mod Named
+pub mod Shown
+pub mod Walks
+pub mod Acts
+pub mod Bodies

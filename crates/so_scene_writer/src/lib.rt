@@ -1,0 +1,4 @@
+//! A scene as the bytes of its file.
+#![tactic(auto)]
+
+mod laws;
