@@ -3,3 +3,4 @@ pub mod Shown
 pub mod Walks
 pub mod Acts
 pub mod Bodies
+pub mod Objects

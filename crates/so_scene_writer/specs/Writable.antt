@@ -30,7 +30,7 @@ pub record IsStateName (name : List ℕ) : Type 0 where
 
 -- an initial state has a parent
 abbrev pub HasParent : State → Type 0
-HasParent state = (not state.initial) ≡ false → is_some state.parent ≡ true
+HasParent state = state.initial ≡ true → is_some state.parent ≡ true
 
 -- ---- numbers of 64 bits
 
