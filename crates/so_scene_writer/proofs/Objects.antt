@@ -20,6 +20,7 @@ use Rattle.so_state.specs.declared.choice.RowKind.TheVariants.{Run, Switch, Tran
 use Rattle.so_state.specs.declared.states.History.{History}
 use Rattle.so_state.specs.declared.states.History.TheVariants as history
 use Rattle.so_state.specs.declared.states.State.{State}
+use Rattle.so_state.specs.States.{default_state}
 use Rattle.so_scene.specs.declared.parts.AgentDef.{AgentDef}
 use Rattle.so_scene.specs.declared.parts.FilterDef.{FilterDef}
 use Rattle.so_scene.specs.declared.parts.MessageDef.{MessageDef}
@@ -27,7 +28,7 @@ use Rattle.so_scene.specs.declared.parts.SceneParts.{SceneParts}
 use Rattle.so_scene.specs.declared.fault.SceneFault.{SceneFault}
 use Rattle.so_scene.specs.declared.place.PlaceStep.TheVariants.{Key}
 use Rattle.so_scene.specs.declared.place.Field.TheVariants as field
-use Rattle.so_scene.specs.Checked.{IsScene, IsFilter, IsRow as IsSceneRow}
+use Rattle.so_scene.specs.Checked.{has_handler, IsKind, IsScene, IsFilter, IsRow as IsSceneRow}
 use Rattle.so_scene.specs.Names.{number_in}
 use Rattle.so_scene.specs.Parts.{message_name, mbox_name, mboxes}
 use Rattle.so_scene.specs.Words.{is_name}
@@ -512,3 +513,136 @@ row_id_at active (Some id) x y (transfers to state) i = rw i
 row_id_at active None x y (suppresses state) i = refl
 row_id_at active (Some id) x y (suppresses state) i = rw i
 
+
+what_of : Items → (StateId → List ℕ) → StateId → RowKind → What
+what_of acts text state Run = runs acts (text state)
+what_of acts text state Dead = dies acts
+what_of acts text state (Switch to) = switches (text to) (text state)
+what_of acts text state (Transfer to) = transfers (text to) (text state)
+what_of acts text state Suppress = suppresses (text state)
+
+-- the states that a row of a kind names
+abbrev OnStates : (StateId → Type 0) → StateId → RowKind → Type 0
+OnStates P state Run = P state
+OnStates P state Dead = state ≡ default_state
+OnStates P state (Switch to) = P to × P state
+OnStates P state (Transfer to) = P to × P state
+OnStates P state Suppress = P state
+
+on_states : (P Q : StateId → Type 0) → ((x : StateId) → P x → Q x) → (state : StateId) (kind : RowKind) → OnStates P state kind → OnStates Q state kind
+on_states P Q f state Run h = f state h
+on_states P Q f state Dead h = h
+on_states P Q f state (Switch to) h = (f to h.0, f state h.1)
+on_states P Q f state (Transfer to) h = (f to h.0, f state h.1)
+on_states P Q f state Suppress h = f state h
+
+row_shown_at : (s : SceneParts) (a : AgentDef) (id : Option (List ℕ)) (acts : List Instr) (mbox : MboxId) (msg : MsgId) (state : StateId) (kind : RowKind) (safe active : Bool)
+    → IsId id → is_utf8 (mbox_name s mbox) ≡ true → is_utf8 (message_text s msg) ≡ true → OnStates (λ x. is_utf8 (state_text a x) ≡ true) state kind
+    → row_data s a (record { id = id; row = record { mbox = mbox; msg = msg; state = state; kind = kind; safe = safe; active = active }; acts = acts })
+    ≡ row_plain active id (mbox_name s mbox) (message_text s msg) (what_of (act_items s a acts) (state_text a) state kind)
+unfolding row_plain what_of what_dead what_do what_state what_suppress what_switch what_transfer
+row_shown_at s a id acts mbox msg state Run safe active i e f h = rw (id_shown id i, e, f, h)
+row_shown_at s a id acts mbox msg state Dead safe active i e f h = rw (id_shown id i, e, f)
+row_shown_at s a id acts mbox msg state (Switch to) safe active i e f h = rw (id_shown id i, e, f, h.0, h.1)
+row_shown_at s a id acts mbox msg state (Transfer to) safe active i e f h = rw (id_shown id i, e, f, h.0, h.1)
+row_shown_at s a id acts mbox msg state Suppress safe active i e f h = rw (id_shown id i, e, f, h)
+
+-- the state has its number
+abbrev IsNumbered : Scope → (StateId → List ℕ) → StateId → Type 0
+IsNumbered scope text x = (number_in (all_states scope) (text x) ≡ Some x.0) × (narrow x.0 ≡ x.0)
+
+row_read_at : (k : ℕ) (names : Declared) (scope : Scope) (active : Bool) (id : Option (List ℕ)) (x y : List ℕ) (acts : Items) (text : StateId → List ℕ) (state : StateId) (kind : RowKind) (mbox : MboxId) (msg : MsgId)
+    → number_in (names_in space.Mboxes names) x ≡ Some mbox.0 → number_in names.messages y ≡ Some msg.0 → narrow mbox.0 ≡ mbox.0 → narrow msg.0 ≡ msg.0 → OnStates (IsNumbered scope text) state kind
+    → row_of k names scope (row_plain active id x y (what_of acts text state kind)) ≡ record { mbox = mbox; msg = msg; state = state; kind = kind; safe = false; active = active }
+unfolding row_plain what_of what_dead what_do what_state what_suppress what_switch what_transfer
+row_read_at k names scope active None x y acts text state Run mbox msg e f p q h = rw (e, f, p, q, h.0, h.1)
+row_read_at k names scope active (Some id) x y acts text state Run mbox msg e f p q h = rw (e, f, p, q, h.0, h.1)
+row_read_at k names scope active None x y acts text state Dead mbox msg e f p q h = rw (e, f, p, q, h)
+row_read_at k names scope active (Some id) x y acts text state Dead mbox msg e f p q h = rw (e, f, p, q, h)
+row_read_at k names scope active None x y acts text state (Switch to) mbox msg e f p q h = rw (e, f, p, q, h.0.0, h.0.1, h.1.0, h.1.1)
+row_read_at k names scope active (Some id) x y acts text state (Switch to) mbox msg e f p q h = rw (e, f, p, q, h.0.0, h.0.1, h.1.0, h.1.1)
+row_read_at k names scope active None x y acts text state (Transfer to) mbox msg e f p q h = rw (e, f, p, q, h.0.0, h.0.1, h.1.0, h.1.1)
+row_read_at k names scope active (Some id) x y acts text state (Transfer to) mbox msg e f p q h = rw (e, f, p, q, h.0.0, h.0.1, h.1.0, h.1.1)
+row_read_at k names scope active None x y acts text state Suppress mbox msg e f p q h = rw (e, f, p, q, h.0, h.1)
+row_read_at k names scope active (Some id) x y acts text state Suppress mbox msg e f p q h = rw (e, f, p, q, h.0, h.1)
+
+-- what a row of an agent keeps
+pub record IsRowOf (s : SceneParts) (a : AgentDef) (x : RowSource) : Type 0 where
+  pub row : IsSceneRow s (length a.tree) x.row
+  pub id : IsId x.id
+  pub acts : has_handler x.row.kind ≡ true → IsBody s a (body.Row (record { 0 = 0 })) x.acts
+
+abbrev IsStateId : AgentDef → StateId → Type 0
+IsStateId a x = x.0 ≤ length a.tree
+
+states_within : (a : AgentDef) (state : StateId) (kind : RowKind) → state.0 ≤ length a.tree → IsKind (length a.tree) state kind → OnStates (IsStateId a) state kind
+states_within a state Run l h = l
+states_within a state Dead l h = h
+states_within a state (Switch to) l h = (h, l)
+states_within a state (Transfer to) l h = (h, l)
+states_within a state Suppress l h = l
+
+abbrev plain_row : SceneParts → AgentDef → RowSource → Data
+plain_row s a x = row_plain x.row.active x.id (mbox_name s x.row.mbox) (message_text s x.row.msg) (what_of (act_items s a x.acts) (state_text a) x.row.state x.row.kind)
+
+row_states : (s : SceneParts) (a : AgentDef) (x : RowSource) → IsRowOf s a x → OnStates (IsStateId a) x.row.state x.row.kind
+row_states s a x h = states_within a x.row.state x.row.kind h.row.state h.row.kind
+
+row_shown : (s : SceneParts) (a : AgentDef) (x : RowSource) → Told s a → IsRowOf s a x → row_data s a x ≡ plain_row s a x
+row_shown s a x c h =
+    row_shown_at s a x.id x.acts x.row.mbox x.row.msg x.row.state x.row.kind x.row.safe x.row.active h.id (name_utf8 _ (mbox_legal s x.row.mbox c.writable h.row.mbox)) (name_utf8 _ (message_legal s x.row.msg c.writable h.row.msg))
+    (on_states (IsStateId a) (λ y. is_utf8 (state_text a y) ≡ true) (λ y l. name_utf8 _ (state_legal s a y c l)) x.row.state x.row.kind (row_states s a x h))
+
+what_fine : (s : SceneParts) (a : AgentDef) (acts : List Instr) (state : StateId) (kind : RowKind) (place : Place) → Told s a → (has_handler kind ≡ true → IsBody s a (body.Row (record { 0 = 0 })) acts) → OnStates (IsStateId a) state kind
+    → IsWhat place (what_of (act_items s a acts) (state_text a) state kind)
+unfolding what_of
+what_fine s a acts state Run place c b h = (acts_shape s a (body.Row (record { 0 = 0 })) acts _ c (b refl), state_legal s a state c h)
+what_fine s a acts state Dead place c b h = (acts_shape s a (body.Row (record { 0 = 0 })) acts _ c (b refl), tt)
+what_fine s a acts state (Switch to) place c b h = (state_legal s a to c h.0, state_legal s a state c h.1)
+what_fine s a acts state (Transfer to) place c b h = (state_legal s a to c h.0, state_legal s a state c h.1)
+what_fine s a acts state Suppress place c b h = (tt, state_legal s a state c h)
+
+state_there : (s : SceneParts) (a : AgentDef) (x : StateId) → Told s a → x.0 ≤ length a.tree → absent_from (all_states (scope_for a)) (Some (state_text a x)) ≡ None
+state_there s a x c l = is_there (all_states (scope_for a)) (state_text a x) x.0 (state_number_again s a x c l)
+
+what_known : (s : SceneParts) (a : AgentDef) (names : Declared) (acts : List Instr) (state : StateId) (kind : RowKind) (place : Place) → Told s a → Stands s names → (has_handler kind ≡ true → IsBody s a (body.Row (record { 0 = 0 })) acts) → OnStates (IsStateId a) state kind
+    → IsKnownWhat (knows_at names a) place (what_of (act_items s a acts) (state_text a) state kind)
+unfolding what_of
+what_known s a names acts state Run place c st b h = (acts_known s a names (body.Row (record { 0 = 0 })) acts _ c st (b refl), state_there s a state c h)
+what_known s a names acts state Dead place c st b h = (acts_known s a names (body.Row (record { 0 = 0 })) acts _ c st (b refl), tt)
+what_known s a names acts state (Switch to) place c st b h = (state_there s a to c h.0, state_there s a state c h.1)
+what_known s a names acts state (Transfer to) place c st b h = (state_there s a to c h.0, state_there s a state c h.1)
+what_known s a names acts state Suppress place c st b h = (tt, state_there s a state c h)
+
+pub row_shape : (sh : Shape) (s : SceneParts) (a : AgentDef) (n : ℕ) (x : RowSource) (place : Place) → Told s a → IsRowOf s a x → run shape_step sh (visits (suc n) object.Row place (row_data s a x)) ≡ Ok sh
+row_shape sh s a n x place c h =
+    ap (λ (d : Data). run shape_step sh (visits (suc n) object.Row place d)) (row_shown s a x c h)
+    ∙ row_shape_at sh n place x.row.active x.id (mbox_name s x.row.mbox) (message_text s x.row.msg) _ h.id (mbox_legal s x.row.mbox c.writable h.row.mbox) (message_legal s x.row.msg c.writable h.row.msg) (what_fine s a x.acts x.row.state x.row.kind place c h.acts (row_states s a x h))
+
+pub row_twice : (d : Declared) (s : SceneParts) (a : AgentDef) (n : ℕ) (x : RowSource) (place : Place) → Told s a → IsRowOf s a x → IsNew d.rows x.id → run twice_step d (visits (suc n) object.Row place (row_data s a x)) ≡ Ok (with_row d x.id)
+row_twice d s a n x place c h e =
+    ap (λ (y : Data). run twice_step d (visits (suc n) object.Row place y)) (row_shown s a x c h)
+    ∙ row_twice_at d n place x.row.active x.id (mbox_name s x.row.mbox) (message_text s x.row.msg) _ h.id e
+
+pub row_known : (s : SceneParts) (a : AgentDef) (names : Declared) (n : ℕ) (x : RowSource) (place : Place) → Told s a → Stands s names → IsRowOf s a x → run known_step (knows_at names a) (visits (suc n) object.Row place (row_data s a x)) ≡ Ok (knows_at names a)
+row_known s a names n x place c st h =
+    ap (λ (y : Data). run known_step (knows_at names a) (visits (suc n) object.Row place y)) (row_shown s a x c h)
+    ∙ row_known_at (knows_at names a) n place x.row.active x.id (mbox_name s x.row.mbox) (message_text s x.row.msg) x.row.mbox.0 x.row.msg.0 _ (mbox_number s names x.row.mbox c.scene st h.row.mbox) (message_number s names x.row.msg c.scene st h.row.msg)
+    (what_known s a names x.acts x.row.state x.row.kind place c st h.acts (row_states s a x h))
+
+not_safe : (x : Row) → x.safe ≡ false → (record { mbox = x.mbox; msg = x.msg; state = x.state; kind = x.kind; safe = false; active = x.active }) ≡ x
+not_safe x e = rw e
+
+state_numbered : (s : SceneParts) (a : AgentDef) (x : StateId) → Told s a → x.0 ≤ length a.tree → IsNumbered (scope_for a) (state_text a) x
+state_numbered s a x c l = let few : length a.tree ≤ 63 = c.agent.tree.few in (state_number_again s a x c l, narrow_small x.0 (omega arith))
+
+pub row_read : (k : ℕ) (s : SceneParts) (a : AgentDef) (names : Declared) (x : RowSource) → Told s a → Stands s names → IsRowOf s a x → row_of k names (scope_for a) (row_data s a x) ≡ x.row
+row_read k s a names x c st h =
+    ap (row_of k names (scope_for a)) (row_shown s a x c h)
+    ∙ (row_read_at k names (scope_for a) x.row.active x.id (mbox_name s x.row.mbox) (message_text s x.row.msg) (act_items s a x.acts) (state_text a) x.row.state x.row.kind x.row.mbox x.row.msg (mbox_number s names x.row.mbox c.scene st h.row.mbox) (message_number s names x.row.msg c.scene st h.row.msg)
+    (small_mbox s x.row.mbox c.scene h.row.mbox) (small_msg s x.row.msg c.scene h.row.msg)
+    (on_states (IsStateId a) (IsNumbered (scope_for a) (state_text a)) (λ y l. state_numbered s a y c l) x.row.state x.row.kind (row_states s a x h))
+    ∙ not_safe x.row h.row.not_safe)
+
+pub row_id_read : (s : SceneParts) (a : AgentDef) (x : RowSource) → Told s a → IsRowOf s a x → id_in (row_data s a x) ≡ x.id
+row_id_read s a x c h = ap id_in (row_shown s a x c h) ∙ row_id_at x.row.active x.id (mbox_name s x.row.mbox) (message_text s x.row.msg) _ h.id
