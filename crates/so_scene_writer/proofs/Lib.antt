@@ -4,3 +4,4 @@ pub mod Walks
 pub mod Acts
 pub mod Bodies
 pub mod Objects
+pub mod Kept
