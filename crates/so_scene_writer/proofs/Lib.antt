@@ -5,3 +5,4 @@ pub mod Acts
 pub mod Bodies
 pub mod Objects
 pub mod Kept
+pub mod Agents

@@ -1,7 +1,7 @@
 -- A pass over an object, field by field, and over the items of a list.
 use Rattle.std.proofs.Common.{◌≡◌, ℕ, suc, zero, List, [], ◌∷◌, ◌++◌, length, map, Option, Some, None, Result, Ok, refl, ap, ◌∙◌}
 use Rattle.std.specs.List.{AllByRecursion}
-use Rattle.serde_json.specs.Data.{Data}
+use Rattle.serde_json.specs.Data.{Data, Items, item, no_items}
 use Rattle.serde_json.specs.Events.{items_len}
 use Rattle.serde_json.specs.Find.{get}
 use Rattle.serde_json.specs.View.{items_of}
@@ -66,6 +66,15 @@ first_fine f shown (x ∷ xs) h = rw h.0 (first_fine f shown xs h.1)
 pub every : {X : Type 0} (P : X → Type 0) → ((x : X) → P x) → (xs : List X) → AllByRecursion P xs
 every P f [] = tt
 every P f (x ∷ xs) = (f x, every P f xs)
+
+-- one item of a list, and no more
+pub items_go : {S : Type 0} (step : S → Visit → Result S SceneFault) (inside : Place → Data → List Visit) (s t : S) (d : Data) (ds : Items) (place : Place) (i : ℕ) → run step s (inside (at_item place i) d) ≡ Ok t → run step s (items_from inside place i (item d ds)) ≡ run step t (items_from inside place (suc i) ds)
+unfolding items_from
+items_go step inside s t d ds place i h = goes_on step s t (inside (at_item place i) d) (items_from inside place (suc i) ds) h
+
+pub items_done : {S : Type 0} (step : S → Visit → Result S SceneFault) (inside : Place → Data → List Visit) (s : S) (place : Place) (i : ℕ) → run step s (items_from inside place i no_items) ≡ Ok s
+unfolding run items_from
+items_done step inside s place i = refl
 
 -- a pass that each item leaves as it was
 pub run_same : {X S : Type 0} (step : S → Visit → Result S SceneFault) (inside : Place → Data → List Visit) (shown : X → Data) (P : X → Type 0) (s : S)
