@@ -47,7 +47,7 @@ use Rattle.so_scene_json.specs.Scope.{scope_of, names_of, ids_of, state_items, r
 use Rattle.so_scene_json.specs.Shape.{shape_step, has_unknown, is_known, list_trouble, number_trouble, object_trouble, first_of}
 use Rattle.so_scene_json.specs.Twice.{twice_step}
 use Rattle.so_scene_json.specs.Values.{name_in, id_in, ok_or}
-use Rattle.so_scene_json.specs.Visits.{Visit, enters, tries, leaves, listed, at_key, Place, visits, items_from, run, at_item, ◌>>=◌}
+use Rattle.so_scene_json.specs.Visits.{Visit, enters, tries, leaves, listed, at_key, Place, visits, fields_of, field_visits, items_from, run, at_item, ◌>>=◌}
 use Rattle.so_scene_json.proofs.Runs.{goes_on}
 use Rattle.so_scene_writer.specs.Sources.{acts_in, behind, StateSource, RowSource, states_of, rows_of, states_in, behind_states, start_acts, finish_acts}
 use Rattle.so_scene_writer.specs.ActData.{text_data, acts_data}
@@ -301,3 +301,103 @@ agent_known s names scope n a place c st =
     refl (run_same known_step (visits (suc n) object.Filter) (filter_data s) (IsFilterOf s) k (λ x p h. filter_known k s n x p c.scene c.writable st h) a.filters _ 0 (agent_filters s a c))
     (start_known s a names place c st) (finish_known s a names place c st)
     refl (run_same known_step (visits (suc n) object.Row) (row_data s a) (IsRowOf s a) k (λ x p h. row_known s a names n x p c st h) (rows_of a) _ 0 (agent_rows s a c)) refl
+
+-- ---- the fourth pass
+
+var_again : (zs : List ℤ) (k : ℕ) → AllByRecursion (λ z. fits z ≡ true) zs → k < length zs → get_or zs k (pos 0) ≡ var_at k (items_of (map number_data zs))
+var_again [] k h l = absurd (omega arith)
+var_again (z ∷ zs) zero h l = sym (ap (ok_or (pos 0)) (number_again z h.0))
+var_again (z ∷ zs) (suc k) h l = var_again zs k h.1 (omega arith)
+
+vars_again : (zs : List ℤ) → length zs ≡ 16 → AllByRecursion (λ z. fits z ≡ true) zs → vars_in (items_of (map number_data zs)) ≡ zs
+vars_again zs e h = sym (fill_by_all (λ (k : ℕ). var_at k (items_of (map number_data zs))) zs 16 (pos 0) e (λ k l. var_again zs k h (subst (λ m. k < m) (sym e) l)))
+
+states_again : (s : SceneParts) (a : AgentDef) → Told s a → states_read (scope_for a) (state_items (agent_data s a)) ≡ a.tree
+states_again s a c =
+    map_again (state_data s a) (state_of (scope_for a)) (λ x. x.state) (states_of a) (each-weaker (IsStateOf s a) (λ x. state_of (scope_for a) (state_data s a x) ≡ x.state) (λ x h. state_read s a x c h) (states_of a) (agent_states s a c))
+    ∙ states_stated a.state_names a.tree (behind (behind a.code)) c.agent.state_names
+
+rows_again : (k : ℕ) (s : SceneParts) (a : AgentDef) (names : Declared) → Told s a → Stands s names → rows_read k names (scope_for a) (row_items (agent_data s a)) ≡ a.rows
+rows_again k s a names c st =
+    map_again (row_data s a) (row_of k names (scope_for a)) (λ x. x.row) (rows_of a) (each-weaker (IsRowOf s a) (λ x. row_of k names (scope_for a) (row_data s a x) ≡ x.row) (λ x h. row_read k s a names x c st h) (rows_of a) (agent_rows s a c))
+    ∙ rows_rows a.row_ids a.rows (behind_states (length a.tree) (behind (behind a.code))) c.agent.row_ids
+
+map_same : {X : Type 0} (xs : List X) → map (λ (x : X). x) xs ≡ xs
+map_same [] = refl
+map_same {X = X} (x ∷ xs) = ap (λ (l : List X). x ∷ l) (map_same xs)
+
+filters_again : (s : SceneParts) (a : AgentDef) (names : Declared) → Told s a → Stands s names → filters_read names (filter_items (agent_data s a)) ≡ a.filters
+filters_again s a names c st =
+    map_again (filter_data s) (filter_of names) (λ x. x) a.filters (each-weaker (IsFilterOf s) (λ x. filter_of names (filter_data s x) ≡ x) (λ x h. filter_read names s x c.scene c.writable st h) a.filters (agent_filters s a c))
+    ∙ map_same a.filters
+
+agent_made : (a : AgentDef) (name : List ℕ) (coop : ℕ) (vars : List ℤ) (rows : List Row) (filters : List FilterDef) → name ≡ a.name → coop ≡ a.coop.0 → vars ≡ a.vars.0 → rows ≡ a.rows → filters ≡ a.filters
+    → (record { name = name; coop = record { 0 = coop }; vars = record { 0 = vars }; state_names = a.state_names; tree = a.tree; rows = rows; row_ids = a.row_ids; filters = filters; code = a.code }) ≡ a
+agent_made a name coop vars rows filters p q r e f = rw (p, q, r, e, f)
+
+agent_name_read : (s : SceneParts) (a : AgentDef) → is_name a.name ≡ true → name_in (agent_data s a) ≡ a.name
+agent_name_read s a e = rw (name_utf8 a.name e, e)
+
+agent_read : (k : ℕ) (s : SceneParts) (a : AgentDef) (names : Declared) → Told s a → Stands s names → agent_with k names (agent_data s a) a.tree (scope_for a) a.code ≡ a
+agent_read k s a names c st =
+    agent_made a _ _ _ _ _ (agent_name_read s a c.written.name) (sym c.agent.coop) (vars_again a.vars.0 c.agent.vars c.written.vars) (rows_again k s a names c st) (filters_again s a names c st)
+
+abbrev fresh_at : List (List ℕ) → Scope → Writer
+fresh_at texts scope = record { texts = texts; code = []; scope = scope }
+
+written_again : (s : SceneParts) (a : AgentDef) (names : Declared) (n : ℕ) → Told s a → Stands s names → AreNumbered n a.code → n ≤ length s.texts
+    → agent_written names (fresh (take n s.texts) (agent_data s a)) (agent_data s a) ≡ at s a (texts_behind n a.code) a.code
+written_again s a names n c st m l = ap (λ (x : Scope). agent_written names (fresh_at (take n s.texts) x) (agent_data s a)) (scope_again s a c) ∙ agent_again s a names n c st m l
+
+not_long : (s : SceneParts) (a : AgentDef) → Told s a → is_long (agent_data s a) ≡ false
+not_long s a c =
+    let fs : length a.tree ≤ 63 = c.agent.tree.few in
+    let fr : length a.rows ≤ 128 = c.agent.few_rows in
+    let ls : length (states_of a) ≡ length a.tree = states_len a.state_names a.tree (behind (behind a.code)) c.agent.state_names in
+    let lr : length (rows_of a) ≡ length a.rows = rows_len a.row_ids a.rows (behind_states (length a.tree) (behind (behind a.code))) c.agent.row_ids in
+    rw (shown_len (state_data s a) (states_of a), shown_len (row_data s a) (rows_of a), le-ltb 63 (length (states_of a)) (omega arith), le-ltb 128 (length (rows_of a)) (omega arith))
+
+-- what has been built, with so many texts
+abbrev pub built : SceneParts → Declared → List (List ℕ) → List AgentDef → ℕ → Build
+built s names coops agents n = record { names = names; messages = s.messages; coops = coops; agents = agents; texts = take n s.texts }
+
+tree_sound : (place : Place) (states : List State) → tree_fault states ≡ None → tree_of place states ≡ Ok states
+tree_sound place states e = rw e
+
+agent_opens : (s : SceneParts) (names : Declared) (coops : List (List ℕ)) (agents : List AgentDef) (n : ℕ) (a : AgentDef) (place : Place) → Told s a → Stands s names → AreNumbered n a.code → n ≤ length s.texts
+    → with_agent place (built s names coops agents n) (agent_data s a) ≡ Ok (built s names coops (agents ++ a ∷ []) (texts_behind n a.code))
+agent_opens s names coops agents n a place c st m l =
+    let b : Build = built s names coops agents n in
+    let d : Data = agent_data s a in
+    let few : length a.code ≤ 1024 = c.agent.code.few in
+    rw (not_long s a c)
+    (ap (λ (x : Scope). tree_of place (states_read x (state_items d)) >>= λ tree. with_code place b d tree (written b d)) (scope_again s a c)
+    ∙ (ap (λ (x : List State). tree_of place x >>= λ tree. with_code place b d tree (written b d)) (states_again s a c)
+    ∙ (ap (λ r. r >>= λ tree. with_code place b d tree (written b d)) (tree_sound place a.tree c.agent.tree.sound)
+    ∙ (ap (λ (w : Writer). with_code place b d a.tree w) (written_again s a names n c st m l)
+    ∙ rw (le-ltb 1024 (length a.code) few) (ap (λ (x : AgentDef). ok (built s names coops (agents ++ x ∷ []) (texts_behind n a.code))) (agent_read (length agents) s a names c st))))))
+
+state_build : (b : Build) (n : ℕ) (d : Data) (place : Place) → run build_step b (visits (suc n) object.State place d) ≡ Ok b
+unfolding visits fields_of field_visits run
+state_build b n d place = refl
+
+row_build : (b : Build) (n : ℕ) (d : Data) (place : Place) → run build_step b (visits (suc n) object.Row place d) ≡ Ok b
+unfolding visits fields_of field_visits run
+row_build b n d place = refl
+
+filter_build : (b : Build) (n : ℕ) (d : Data) (place : Place) → run build_step b (visits (suc n) object.Filter place d) ≡ Ok b
+unfolding visits fields_of field_visits run
+filter_build b n d place = refl
+
+pub all_unit : {X : Type 0} (xs : List X) → AllByRecursion (λ (x : X). Unit {0}) xs
+all_unit [] = tt
+all_unit (x ∷ xs) = (tt, all_unit xs)
+
+pub agent_build : (s : SceneParts) (names : Declared) (coops : List (List ℕ)) (agents : List AgentDef) (n : ℕ) (k : ℕ) (a : AgentDef) (place : Place) → Told s a → Stands s names → AreNumbered n a.code → n ≤ length s.texts
+    → run build_step (built s names coops agents n) (visits (suc (suc k)) object.Agent place (agent_data s a)) ≡ Ok (built s names coops (agents ++ a ∷ []) (texts_behind n a.code))
+agent_build s names coops agents n k a place c st m l =
+    let b : Build = built s names coops (agents ++ a ∷ []) (texts_behind n a.code) in
+    agent_run build_step (built s names coops agents n) b b b b k s a place (λ f x. refl) (agent_opens s names coops agents n a place c st m l) refl refl
+    refl (run_same build_step (visits (suc k) object.State) (state_data s a) (λ x. Unit {0}) b (λ x p h. state_build b k (state_data s a x) p) (states_of a) _ 0 (all_unit (states_of a)))
+    refl (run_same build_step (visits (suc k) object.Filter) (filter_data s) (λ x. Unit {0}) b (λ x p h. filter_build b k (filter_data s x) p) a.filters _ 0 (all_unit a.filters))
+    refl refl refl (run_same build_step (visits (suc k) object.Row) (row_data s a) (λ x. Unit {0}) b (λ x p h. row_build b k (row_data s a x) p) (rows_of a) _ 0 (all_unit (rows_of a))) refl
