@@ -85,10 +85,10 @@ abbrev on_rule : Rule
 on_rule = optional field.On (form.Objects object.Row (Some 128))
 
 -- a field is tried, and the pass stays as it was
-abbrev Tries : {S : Type 0} → (S → Visit → Result S SceneFault) → S → Place → Rule → Option Data → Type 0
+abbrev pub Tries : {S : Type 0} → (S → Visit → Result S SceneFault) → S → Place → Rule → Option Data → Type 0
 Tries step s place rule found = step s (tries rule (at_key place rule) found) ≡ Ok s
 
-abbrev Passes : {S : Type 0} → (S → Visit → Result S SceneFault) → S → S → ℕ → Place → Rule → ObjectKind → Items → Type 0
+abbrev pub Passes : {S : Type 0} → (S → Visit → Result S SceneFault) → S → S → ℕ → Place → Rule → ObjectKind → Items → Type 0
 Passes step s t n place rule kind ds = run step s (items_from (visits n kind) (at_key place rule) 0 ds) ≡ Ok t
 
 agent_run : {S : Type 0} (step : S → Visit → Result S SceneFault) (r t u v w : S) (n : ℕ) (s : SceneParts) (a : AgentDef) (place : Place)
@@ -173,11 +173,11 @@ agent_shape sh s n a place c =
 
 -- ---- the second pass
 
-each_back : {X : Type 0} (P : X → Type 0) (xs ys : List X) → AllByRecursion P (xs ++ ys) → AllByRecursion P ys
+pub each_back : {X : Type 0} (P : X → Type 0) (xs ys : List X) → AllByRecursion P (xs ++ ys) → AllByRecursion P ys
 each_back P [] ys h = h
 each_back P (x ∷ xs) ys h = each_back P xs ys h.1
 
-front_new : (old new : List (List ℕ)) (x : List ℕ) → IsDistinct bytes_eq (old ++ x ∷ new) → AllByRecursion (λ y. bytes_eq x y ≡ false) old
+pub front_new : (old new : List (List ℕ)) (x : List ℕ) → IsDistinct bytes_eq (old ++ x ∷ new) → AllByRecursion (λ y. bytes_eq x y ≡ false) old
 unfolding IsDistinct
 front_new [] new x d = tt
 front_new (y ∷ old) new x d = (swap y x (each_back (λ z. bytes_eq y z ≡ false) old (x ∷ new) d.0).0, front_new old new x d.1)

@@ -152,7 +152,7 @@ pub record Wrote (s : SceneParts) (a : AgentDef) (last : ℕ) (total left : List
   pub behind : texts_behind texts left ≡ last
   pub few : texts ≤ length s.texts
 
-next_log : (n k m : ℕ) (b : Bool) → (k == n) ≡ b → k < m → n ≤ m → (if b then suc n else n) ≤ m
+pub next_log : (n k m : ℕ) (b : Bool) → (k == n) ≡ b → k < m → n ≤ m → (if b then suc n else n) ≤ m
 next_log n k m true e l h = let q : k ≡ n = eqb-true k n e in omega arith
 next_log n k m false e l h = h
 

@@ -6,3 +6,4 @@ pub mod Bodies
 pub mod Objects
 pub mod Kept
 pub mod Agents
+pub mod Scenes

@@ -2,3 +2,4 @@ pub mod Sources
 pub mod ActData
 pub mod Canonical
 pub mod Writable
+pub mod Laws

@@ -1,8 +1,8 @@
 //! What is written is read again.
 
-ghost use Rattle.std.specs.Prelude.{◌≡◌};
-ghost use Rattle.so_scene_writer.specs.Canonical.{scene_data};
-ghost use Rattle.so_scene_writer.specs.Writable.{IsWritable};
+ghost use Rattle.so_scene_writer.specs.Laws.{ReadsAgain};
 
-/// Nothing yet.
-pub fn nothing() {}
+/// The data of a scene reads as that scene.
+pub fn reads_again()
+    ensures { ReadsAgain }
+{}
