@@ -22,9 +22,9 @@ use Rattle.so_scene.specs.Checked.{has_handler, handlers, handlers_from, row_num
 use Rattle.so_scene_writer.specs.Sources.{acts_in, behind, StateSource, RowSource, state_source, row_source, states_in, behind_states, behind_row, rows_in, states_of, rows_of}
 use Rattle.so_scene_writer.specs.Writable.{IsName, IsStateName, HasParent, FitsValue}
 use Rattle.so_scene_writer.proofs.Named.{each_of}
-use Rattle.so_scene_writer.proofs.Acts.{Told, IsTold}
-use Rattle.so_scene_writer.proofs.Bodies.{AreTold, IsLaid, AreLaid, agent_laid}
-use Rattle.so_scene_writer.proofs.Objects.{IsBody, IsId, IsWithin, IsStateOf, IsRowOf, IsFilterOf}
+use Rattle.so_scene_writer.proofs.ActLaws.{Told, IsTold}
+use Rattle.so_scene_writer.proofs.BodyLaws.{AreTold, IsLaid, AreLaid, agent_laid}
+use Rattle.so_scene_writer.proofs.ObjectLaws.{IsBody, IsId, IsWithin, IsStateOf, IsRowOf, IsFilterOf}
 
 told_as : (s : SceneParts) (a : AgentDef) (b c : Body) (acts : List Instr) → may_switch b ≡ may_switch c → AreTold s a b acts → AreTold s a c acts
 told_as s a b c [] e t = tt

@@ -1,9 +1,10 @@
 pub mod Named
 pub mod Shown
 pub mod Walks
-pub mod Acts
-pub mod Bodies
-pub mod Objects
+pub mod ActLaws
+pub mod BodyLaws
+pub mod ObjectLaws
 pub mod Kept
-pub mod Agents
-pub mod Scenes
+pub mod AgentLaws
+pub mod SceneLaws
+pub mod Listed

@@ -1,9 +1,9 @@
 -- Names and texts: what is legal is UTF-8, and each has its number.
-use Rattle.std.proofs.Common.{◌≡◌, ℕ, ◌+◌, ◌<◌, ◌≤◌, suc, zero, List, [], ◌∷◌, ◌++◌, length, get_or, take, map, Bool, true, false, cond, ◌&&◌, ◌||◌, nat_le, ◌==◌, not, Option, Some, None, is_some, refl, sym, ap, ◌∙◌, arith, bytes_eq}
+use Rattle.std.proofs.Common.{◌≡◌, ℕ, ◌+◌, ◌<◌, ◌≤◌, suc, zero, List, [], ◌∷◌, ◌++◌, length, get_or, take, map, Bool, true, false, cond, ◌&&◌, ◌||◌, nat_le, ◌==◌, not, Option, Some, None, is_some, refl, sym, ap, ◌∙◌, arith, bytes_eq, if◌then◌else◌}
 use Rattle.std.specs.List.{All, AllByRecursion, IsDistinct, position, position_from, list_all}
-use Rattle.std.specs.Str.{is_utf8, IsAscii}
+use Rattle.std.specs.Str.{is_utf8, IsUtf8}
 use Rattle.std.proofs.lemmas.Bool.{leb-true, eqb-true, true≢false}
-use Rattle.std.proofs.lemmas.Str.{IsUtf8-from_ascii, is_utf8-from_IsUtf8}
+use Rattle.std.proofs.lemmas.Str.{IsUtf8-from_ascii, is_utf8-from_IsUtf8, IsUtf8-from_is_utf8}
 use Rattle.std.proofs.lemmas.Str.Ascii.{IsAscii-from_all}
 use Rattle.std.proofs.lemmas.Iterator.Adapters.{position_from-zero}
 use Rattle.std.proofs.lemmas.Slice.Eq.{bytes_eq-Decides}
@@ -15,6 +15,7 @@ use Rattle.so_scene_json.specs.Scope.{is_id, number_with}
 use Rattle.so_scene_json.specs.Values.{text_or_empty}
 use Rattle.so_scene.specs.Checked.{given}
 use Rattle.so_scene_json.proofs.Ends.{all_of}
+use Rattle.so_scene_writer.specs.ActData.{shown}
 
 -- ---- lists
 
@@ -139,3 +140,15 @@ id_legal P (None ∷ ids) zero h e = absurd (true≢false (sym e))
 id_legal P (Some x ∷ ids) zero h e = h.0
 id_legal P (None ∷ ids) (suc k) h e = id_legal P ids k h e
 id_legal P (Some x ∷ ids) (suc k) h e = id_legal P ids k h.1 e
+
+-- ---- bytes that are shown
+
+pub shown_same : (bytes : List ℕ) → IsUtf8 bytes → shown bytes ≡ bytes
+shown_same bytes h = rw (is_utf8-from_IsUtf8 bytes h)
+
+none_at : (bytes : List ℕ) (b : Bool) → is_utf8 bytes ≡ b → (IsUtf8 bytes → ⊥) → (if b then bytes else []) ≡ []
+none_at bytes true e f = absurd (f (IsUtf8-from_is_utf8 bytes e))
+none_at bytes false e f = refl
+
+pub shown_none : (bytes : List ℕ) → (IsUtf8 bytes → ⊥) → shown bytes ≡ []
+shown_none bytes f = none_at bytes (is_utf8 bytes) refl f

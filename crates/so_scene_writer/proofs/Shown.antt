@@ -17,7 +17,7 @@ use Rattle.so_code.specs.Values.{fits}
 use Rattle.so_code.specs.Valid.{IsOperand, IsDest, AreArgs}
 use Rattle.so_scene_json.specs.Values.{integer_of, operand_of, dest_of, cmp_of, count_of, numbered, read_or, ok_or}
 use Rattle.so_scene_json.specs.Writer.{args_from, operand_at}
-use Rattle.so_scene_writer.specs.ActData.{operand_data, dest_data, cmp_data, count_data, args_data, var_words, field_words, temp_words, word_at}
+use Rattle.so_scene_writer.specs.ActData.{operand_data, dest_data, cmp_data, count_data, args_data}
 use Rattle.so_scene_writer.specs.Canonical.{number_data}
 use Rattle.so_scene_writer.specs.Writable.{Fits, fits_operand, ArePadded, AreWritten, is_zero}
 

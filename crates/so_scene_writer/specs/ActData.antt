@@ -1,5 +1,5 @@
 -- Acts as data: a list of a word and what stands behind it, with names in place of numbers.
-use Rattle.std.specs.Prelude.{ℕ, pos, List, [], ◌∷◌, map, take, codes, slice_index_or, Bool, Option, None, if◌then◌else◌}
+use Rattle.std.specs.Prelude.{ℕ, pos, List, [], ◌∷◌, map, take, codes, slice_index_or, ◌==◌, Bool, Option, None, if◌then◌else◌}
 use Rattle.std.specs.Str.{is_utf8}
 use Rattle.serde_json.specs.Data.{Data, number, string, array, Items, no_items, item}
 use Rattle.serde_json.specs.Find.{of_integer}
@@ -28,9 +28,12 @@ use Rattle.so_scene_json.specs.Values.{text_or_empty}
 
 -- ---- names
 
--- a string of these bytes, empty where they are no UTF-8. Names and texts are ASCII
+-- these bytes, none where they are no UTF-8. Names and texts are ASCII
+abbrev pub shown : List ℕ → List ℕ
+shown bytes = if is_utf8 bytes then bytes else []
+
 abbrev pub text_data : List ℕ → Data
-text_data bytes = string (if is_utf8 bytes then bytes else [])
+text_data bytes = string (shown bytes)
 
 abbrev pub message_text : SceneParts → MsgId → List ℕ
 message_text s m = (message_of s m).name
@@ -45,30 +48,49 @@ id_text ids k = text_or_empty (slice_index_or ids k None)
 
 -- ---- operands
 
-abbrev pub var_words : List (List ℕ)
-var_words =
-    codes "v0" ∷ codes "v1" ∷ codes "v2" ∷ codes "v3" ∷ codes "v4" ∷ codes "v5" ∷ codes "v6" ∷ codes "v7"
-    ∷ codes "v8" ∷ codes "v9" ∷ codes "v10" ∷ codes "v11" ∷ codes "v12" ∷ codes "v13" ∷ codes "v14" ∷ codes "v15" ∷ []
+abbrev pub var_word : ℕ → List ℕ
+var_word k =
+    if k == 0 then codes "v0" else (
+    if k == 1 then codes "v1" else (
+    if k == 2 then codes "v2" else (
+    if k == 3 then codes "v3" else (
+    if k == 4 then codes "v4" else (
+    if k == 5 then codes "v5" else (
+    if k == 6 then codes "v6" else (
+    if k == 7 then codes "v7" else (
+    if k == 8 then codes "v8" else (
+    if k == 9 then codes "v9" else (
+    if k == 10 then codes "v10" else (
+    if k == 11 then codes "v11" else (
+    if k == 12 then codes "v12" else (
+    if k == 13 then codes "v13" else (
+    if k == 14 then codes "v14" else (
+    if k == 15 then codes "v15" else [])))))))))))))))
 
-abbrev pub field_words : List (List ℕ)
-field_words = codes "m0" ∷ codes "m1" ∷ codes "m2" ∷ codes "m3" ∷ []
+abbrev pub field_word : ℕ → List ℕ
+field_word k =
+    if k == 0 then codes "m0" else (
+    if k == 1 then codes "m1" else (
+    if k == 2 then codes "m2" else (
+    if k == 3 then codes "m3" else [])))
 
-abbrev pub temp_words : List (List ℕ)
-temp_words = codes "t0" ∷ codes "t1" ∷ codes "t2" ∷ codes "t3" ∷ []
-
-abbrev pub word_at : List (List ℕ) → ℕ → List ℕ
-word_at words k = slice_index_or words k []
+abbrev pub temp_word : ℕ → List ℕ
+temp_word k =
+    if k == 0 then codes "t0" else (
+    if k == 1 then codes "t1" else (
+    if k == 2 then codes "t2" else (
+    if k == 3 then codes "t3" else [])))
 
 abbrev pub operand_data : Operand → Data
 operand_data (operand.Num z) = number (of_integer z)
-operand_data (operand.Var k) = string (word_at var_words k)
-operand_data (operand.Msg k) = string (word_at field_words k)
-operand_data (operand.Temp k) = string (word_at temp_words k)
+operand_data (operand.Var k) = string (var_word k)
+operand_data (operand.Msg k) = string (field_word k)
+operand_data (operand.Temp k) = string (temp_word k)
 operand_data operand.Ans = string (codes "ans")
 
 abbrev pub dest_data : Dest → Data
-dest_data (dest.Var k) = string (word_at var_words k)
-dest_data (dest.Temp k) = string (word_at temp_words k)
+dest_data (dest.Var k) = string (var_word k)
+dest_data (dest.Temp k) = string (temp_word k)
 
 abbrev pub cmp_word : Cmp → List ℕ
 cmp_word cmp.Eq = codes "=="

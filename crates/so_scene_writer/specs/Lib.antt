@@ -3,3 +3,4 @@ pub mod ActData
 pub mod Canonical
 pub mod Writable
 pub mod Laws
+pub mod Fields

@@ -1,4 +1,4 @@
-use Rattle.so_scene_writer.proofs.Scenes.{scene_again}
+use Rattle.so_scene_writer.proofs.SceneLaws.{scene_again}
 use Rattle.so_scene_writer.proofs.laws.reads_again.Goals as goal
 
 pub returns : goal.returns

@@ -47,10 +47,10 @@ use Rattle.so_scene_writer.specs.Canonical.{scene_data, coop_data, agent_data, m
 use Rattle.so_scene_writer.specs.Writable.{IsName, IsWritable, IsWritableAgent, AreNumbered, AreNumberedIn, texts_behind, texts_of_agents, next_text}
 use Rattle.so_scene_writer.proofs.Named.{absent, each_of, name_utf8}
 use Rattle.so_scene_writer.proofs.Walks.{ok, object_run, field_run, fields_none, plain_field, list_field, shown_len, first_fine, every, run_same, items_go, items_done}
-use Rattle.so_scene_writer.proofs.Acts.{Stands, Told, knows_at, name_read, narrow_small, map_len, message_signal}
-use Rattle.so_scene_writer.proofs.Bodies.{next_log}
-use Rattle.so_scene_writer.proofs.Objects.{with_message, message_shape, message_twice, message_known, message_build, build_message}
-use Rattle.so_scene_writer.proofs.Agents.{list_fine, next_new, next_distinct, front_new, each_back, with_agent_names, agent_shape, agent_twice, agent_known, agent_build, built, all_unit, Tries, Passes}
+use Rattle.so_scene_writer.proofs.ActLaws.{Stands, Told, knows_at, name_read, narrow_small, map_len, message_signal}
+use Rattle.so_scene_writer.proofs.BodyLaws.{next_log}
+use Rattle.so_scene_writer.proofs.ObjectLaws.{with_message, message_shape, message_twice, message_known, message_build, build_message}
+use Rattle.so_scene_writer.proofs.AgentLaws.{list_fine, next_new, next_distinct, front_new, each_back, with_agent_names, agent_shape, agent_twice, agent_known, agent_build, built, all_unit, Tries, Passes}
 
 -- ---- any pass over a cooperation and over the scene
 

@@ -56,9 +56,9 @@ use Rattle.so_scene_writer.specs.Writable.{IsWritable, AreNumbered, texts_behind
 use Rattle.so_scene_writer.proofs.Named.{absent, each_at, name_utf8, swap}
 use Rattle.so_scene_writer.proofs.Shown.{number_again}
 use Rattle.so_scene_writer.proofs.Walks.{ok, object_run, field_run, fields_none, plain_field, list_field, shown_len, shown_listed, map_again, first_fine, every, run_same, items_go, items_done}
-use Rattle.so_scene_writer.proofs.Acts.{Stands, Told, at, scope_for, knows_at, name_read, map_len}
-use Rattle.so_scene_writer.proofs.Bodies.{agent_again}
-use Rattle.so_scene_writer.proofs.Objects.{IsStateOf, IsRowOf, IsFilterOf, IsId, IsNew, with_id, with_state, with_row, with_filter, acts_shape, acts_known, state_shape, state_twice, state_known, state_read, state_name_read, filter_shape, filter_twice, filter_known, filter_read, filter_id_read, row_shape, row_twice, row_known, row_read, row_id_read}
+use Rattle.so_scene_writer.proofs.ActLaws.{Stands, Told, at, scope_for, knows_at, name_read, map_len}
+use Rattle.so_scene_writer.proofs.BodyLaws.{agent_again}
+use Rattle.so_scene_writer.proofs.ObjectLaws.{IsStateOf, IsRowOf, IsFilterOf, IsId, IsNew, with_id, with_state, with_row, with_filter, acts_shape, acts_known, state_shape, state_twice, state_known, state_read, state_name_read, filter_shape, filter_twice, filter_known, filter_read, filter_id_read, row_shape, row_twice, row_known, row_read, row_id_read}
 use Rattle.so_scene_writer.proofs.Kept.{agent_states, agent_rows, agent_filters, agent_start, agent_finish, states_named, states_stated, rows_ids, rows_rows, states_len, rows_len}
 
 -- ---- any pass over an agent

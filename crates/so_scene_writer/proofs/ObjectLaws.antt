@@ -58,8 +58,8 @@ use Rattle.so_scene_writer.proofs.Named.{name_utf8, swap, number_at}
 use Rattle.so_scene_writer.proofs.Shown.{number_again, cmp_again, count_again}
 use Rattle.so_scene_writer.proofs.Walks.{ok, AllFine, acts_fine, shown_len}
 use Rattle.so_code.specs.Values.{fits}
-use Rattle.so_scene_writer.proofs.Acts.{narrow_small, Stands, Told, IsTold, scope_for, knows_at, is_there, act_fine, act_known, name_read, shown_name, message_legal, message_number, mbox_legal, mbox_number, state_legal, state_number_again}
-use Rattle.so_scene_writer.proofs.Bodies.{AreTold}
+use Rattle.so_scene_writer.proofs.ActLaws.{narrow_small, Stands, Told, IsTold, scope_for, knows_at, is_there, act_fine, act_known, name_read, shown_name, message_legal, message_number, mbox_legal, mbox_number, state_legal, state_number_again}
+use Rattle.so_scene_writer.proofs.BodyLaws.{AreTold}
 
 -- ---- messages
 

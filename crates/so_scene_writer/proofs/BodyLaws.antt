@@ -35,7 +35,7 @@ use Rattle.so_scene_writer.specs.Canonical.{state_data, row_data, do_data, agent
 use Rattle.so_scene_writer.specs.Writable.{IsWrittenInstr, are_short, next_text, texts_behind, IsNumbered, AreNumbered}
 use Rattle.so_scene_writer.proofs.Named.{and_true, each_of}
 use Rattle.so_scene_writer.proofs.Walks.{shown_len}
-use Rattle.so_scene_writer.proofs.Acts.{Stands, Told, IsTold, at, scope_for, act_again, narrow_small}
+use Rattle.so_scene_writer.proofs.ActLaws.{Stands, Told, IsTold, at, scope_for, act_again, narrow_small}
 
 -- ---- a code is its bodies
 
