@@ -8,3 +8,6 @@ pub mod Kept
 pub mod AgentLaws
 pub mod SceneLaws
 pub mod Listed
+pub mod Joined
+pub mod Depths
+pub mod Written

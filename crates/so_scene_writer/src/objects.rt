@@ -5,7 +5,9 @@ ghost use Rattle.serde_json.specs.Data.{boolean};
 ghost use Rattle.serde_json.specs.View.{view};
 ghost use Rattle.so_scene.specs.Checked.{has_handler};
 ghost use Rattle.so_scene_writer.specs.Sources.{acts_in, behind_row, state_source, row_source};
-ghost use Rattle.so_scene_writer.specs.ActData.{text_data, state_text};
+ghost use Rattle.so_scene.specs.Parts.{mbox_name};
+ghost use Rattle.so_scene_writer.specs.ActData.{text_data, state_text, message_text};
+ghost use Rattle.so_scene_writer.specs.Fields.{state_base, filter_base, row_base};
 ghost use Rattle.so_scene_writer.specs.Canonical.{kind_word, message_data, history_word, state_data, filter_data, row_data, dead_data, do_data, row_state_data, suppress_data, switch_data, transfer_data};
 
 use crate::acts::{acts_value, behind};
@@ -59,22 +61,27 @@ fn parent_value(alloc: Global, agent: &AgentDef, parent: Option<StateId>) -> Res
     }
 }
 
+fn state_base(alloc: Global, enter: Value, exit: Value, state: State, name: &[u8]) -> Result<Value, AllocError>
+    ensures { IfOk result (λ v. view v ≡ state_base (view enter) (view exit) state.history state.initial name.now) }
+{
+    let history = history_word(state.history);
+    let initial = state.initial;
+    let name = text(name);
+    json!(in alloc; {"enter": enter, "exit": exit, "history": history, "initial": initial, "name": name})
+}
+
 /// A state of this name, whose bodies begin the code.
 pub(crate) fn state_value(alloc: Global, scene: &SceneParts, agent: &AgentDef, name: &Name, state: State, code: &[Instr]) -> Result<Value, AllocError>
     ensures { IfOk result (λ v. view v ≡ state_data scene.now agent.now (state_source name.now state code.now)) }
 {
     let enter = acts_value(alloc, scene, agent, code)?;
     let exit = acts_value(alloc, scene, agent, behind(code))?;
-    let history = history_word(state.history);
-    let initial = state.initial;
-    let name = text(name.bytes());
-    let value = json!(in alloc; {"enter": enter, "exit": exit, "history": history, "initial": initial, "name": name})?;
+    let value = state_base(alloc, enter, exit, state, name.bytes())?;
     with_field(alloc, value, "parent", parent_value(alloc, agent, state.parent)?)
 }
 
-/// A filter.
-pub(crate) fn filter_value(alloc: Global, scene: &SceneParts, filter: &FilterDef) -> Result<Value, AllocError>
-    ensures { IfOk result (λ v. view v ≡ filter_data scene.now filter.now) }
+fn filter_base(alloc: Global, scene: &SceneParts, filter: &FilterDef) -> Result<Value, AllocError>
+    ensures { IfOk result (λ v. view v ≡ filter_base filter.now.active filter.now.cmp filter.now.field (mbox_name scene.now filter.now.mbox) (message_text scene.now filter.now.msg) filter.now.value) }
 {
     let active = filter.active;
     let cmp = cmp_value(alloc, filter.cmp)?;
@@ -82,7 +89,14 @@ pub(crate) fn filter_value(alloc: Global, scene: &SceneParts, filter: &FilterDef
     let mbox = text(mbox_text(scene, filter.mbox));
     let msg = text(message_name(scene, filter.msg));
     let number = filter.value;
-    let value = json!(in alloc; {"active": active, "cmp": cmp, "field": field, "mbox": mbox, "msg": msg, "value": number})?;
+    json!(in alloc; {"active": active, "cmp": cmp, "field": field, "mbox": mbox, "msg": msg, "value": number})
+}
+
+/// A filter.
+pub(crate) fn filter_value(alloc: Global, scene: &SceneParts, filter: &FilterDef) -> Result<Value, AllocError>
+    ensures { IfOk result (λ v. view v ≡ filter_data scene.now filter.now) }
+{
+    let value = filter_base(alloc, scene, filter)?;
     with_field(alloc, value, "id", id_value(alloc, &filter.id)?)
 }
 
@@ -158,14 +172,20 @@ fn do_value(alloc: Global, scene: &SceneParts, agent: &AgentDef, kind: RowKind, 
     }
 }
 
-/// A row with this id, whose body begins the code if it has one.
-pub(crate) fn row_value(alloc: Global, scene: &SceneParts, agent: &AgentDef, id: &Option<Name>, row: Row, code: &[Instr]) -> Result<Value, AllocError>
-    ensures { IfOk result (λ v. view v ≡ row_data scene.now agent.now (row_source id.now row code.now)) }
+fn row_base(alloc: Global, scene: &SceneParts, row: Row) -> Result<Value, AllocError>
+    ensures { IfOk result (λ v. view v ≡ row_base row.active (mbox_name scene.now row.mbox) (message_text scene.now row.msg)) }
 {
     let active = row.active;
     let mbox = text(mbox_text(scene, row.mbox));
     let msg = text(message_name(scene, row.msg));
-    let value = json!(in alloc; {"active": active, "mbox": mbox, "msg": msg})?;
+    json!(in alloc; {"active": active, "mbox": mbox, "msg": msg})
+}
+
+/// A row with this id, whose body begins the code if it has one.
+pub(crate) fn row_value(alloc: Global, scene: &SceneParts, agent: &AgentDef, id: &Option<Name>, row: Row, code: &[Instr]) -> Result<Value, AllocError>
+    ensures { IfOk result (λ v. view v ≡ row_data scene.now agent.now (row_source id.now row code.now)) }
+{
+    let value = row_base(alloc, scene, row)?;
     let value = with_field(alloc, value, "dead", dead_value(row.kind))?;
     let value = with_field(alloc, value, "do", do_value(alloc, scene, agent, row.kind, code)?)?;
     let value = with_field(alloc, value, "id", id_value(alloc, id)?)?;
