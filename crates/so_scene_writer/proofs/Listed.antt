@@ -106,7 +106,7 @@ states_more s a all vs new names states n k d x e left one two v y m l h f g p q
     let ln : k < length names = omega arith in
     let ls : k < length states = omega arith in
     let step : states_in (drop k names) (drop k states) left ≡ state_source (get_or names k d) (get_or states k e) left ∷ states_in (drop (k + 1) names) (drop (k + 1) states) (behind (behind left)) =
-      ap (λ x. states_in x (drop k states) left) (drop_more names k d ln) ∙ (ap (λ x. states_in (get_or names k d ∷ drop (k + 1) names) x left) (drop_more states k e ls) ∙ states_next (get_or names k d) (drop (k + 1) names) (get_or states k e) (drop (k + 1) states) left) in
+    ap (λ x. states_in x (drop k states) left) (drop_more names k d ln) ∙ (ap (λ x. states_in (get_or names k d ∷ drop (k + 1) names) x left) (drop_more states k e ls) ∙ states_next (get_or names k d) (drop (k + 1) names) (get_or states k e) (drop (k + 1) states) left) in
     ap (λ x. map view new ++ map (state_data s a) (states_in (drop (k + 1) names) (drop (k + 1) states) x)) (q ∙ ap behind p)
     ∙ rest_more (state_data s a) all vs new (state_source (get_or names k d) (get_or states k e) left) (states_in (drop (k + 1) names) (drop (k + 1) states) (behind (behind left))) v
     (ap (λ x. map view vs ++ map (state_data s a) x) (sym step) ∙ h) (f ∙ ap (λ z. state_data s a (state_source z (get_or states k e) left)) y) g
@@ -142,7 +142,7 @@ rows_more s a all vs new ids rows n k d x e left one v y m l h f g p =
     let ln : k < length ids = omega arith in
     let ls : k < length rows = omega arith in
     let step : rows_in (drop k ids) (drop k rows) left ≡ row_source (get_or ids k d) (get_or rows k e) left ∷ rows_in (drop (k + 1) ids) (drop (k + 1) rows) (behind_row (get_or rows k e) left) =
-      ap (λ x. rows_in x (drop k rows) left) (drop_more ids k d ln) ∙ (ap (λ x. rows_in (get_or ids k d ∷ drop (k + 1) ids) x left) (drop_more rows k e ls) ∙ rows_next (get_or ids k d) (drop (k + 1) ids) (get_or rows k e) (drop (k + 1) rows) left) in
+    ap (λ x. rows_in x (drop k rows) left) (drop_more ids k d ln) ∙ (ap (λ x. rows_in (get_or ids k d ∷ drop (k + 1) ids) x left) (drop_more rows k e ls) ∙ rows_next (get_or ids k d) (drop (k + 1) ids) (get_or rows k e) (drop (k + 1) rows) left) in
     ap (λ x. map view new ++ map (row_data s a) (rows_in (drop (k + 1) ids) (drop (k + 1) rows) x)) p
     ∙ rest_more (row_data s a) all vs new (row_source (get_or ids k d) (get_or rows k e) left) (rows_in (drop (k + 1) ids) (drop (k + 1) rows) (behind_row (get_or rows k e) left)) v
     (ap (λ x. map view vs ++ map (row_data s a) x) (sym step) ∙ h) (f ∙ ap (λ z. row_data s a (row_source z (get_or rows k e) left)) y) g

@@ -513,7 +513,6 @@ row_id_at active (Some id) x y (transfers to state) i = rw i
 row_id_at active None x y (suppresses state) i = refl
 row_id_at active (Some id) x y (suppresses state) i = rw i
 
-
 what_of : Items → (StateId → List ℕ) → StateId → RowKind → What
 what_of acts text state Run = runs acts (text state)
 what_of acts text state Dead = dies acts

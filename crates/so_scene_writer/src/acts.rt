@@ -8,7 +8,9 @@ ghost use Rattle.so_scene_writer.specs.Sources.{acts_in, behind};
 ghost use Rattle.so_scene_writer.specs.ActData.{act_one, act_two, act_three, act_of, if_data, operand_data, dest_data, count_data, text_data, args_data, act_data, acts_data};
 
 use crate::operands::{cmp_value, count_value, dest_value, operand_value};
-use crate::words::{filter_name, message_name, row_name, state_name, target_name, text, text_bytes};
+use crate::words::{
+    filter_name, message_name, row_name, state_name, target_name, text, text_bytes,
+};
 use serde_json::{Value, json};
 use so_code::{Args, Cmp, Dest, Instr, Operand};
 use so_scene::{AgentDef, SceneParts};
@@ -60,7 +62,13 @@ fn set_value(alloc: Global, to: Dest, a: Operand) -> Result<Value, AllocError>
     act_two(alloc, "set", to, a)
 }
 
-fn compute_value(alloc: Global, word: &str, to: Dest, a: Operand, b: Operand) -> Result<Value, AllocError>
+fn compute_value(
+    alloc: Global,
+    word: &str,
+    to: Dest,
+    a: Operand,
+    b: Operand,
+) -> Result<Value, AllocError>
     ensures { IfOk result (λ v. view v ≡ act_three word.now (dest_data to) (operand_data a) (operand_data b)) }
 {
     let to = dest_value(alloc, to)?;
@@ -69,7 +77,13 @@ fn compute_value(alloc: Global, word: &str, to: Dest, a: Operand, b: Operand) ->
     act_three(alloc, word, to, a, b)
 }
 
-fn if_value(alloc: Global, a: Operand, cmp: Cmp, b: Operand, count: u32) -> Result<Value, AllocError>
+fn if_value(
+    alloc: Global,
+    a: Operand,
+    cmp: Cmp,
+    b: Operand,
+    count: u32,
+) -> Result<Value, AllocError>
     ensures { IfOk result (λ v. view v ≡ if_data a cmp b count) }
 {
     let a = operand_value(alloc, a)?;
@@ -127,7 +141,12 @@ fn no_act(alloc: Global) -> Value
 }
 
 /// An act.
-fn act_value(alloc: Global, scene: &SceneParts, agent: &AgentDef, instr: Instr) -> Result<Value, AllocError>
+fn act_value(
+    alloc: Global,
+    scene: &SceneParts,
+    agent: &AgentDef,
+    instr: Instr,
+) -> Result<Value, AllocError>
     ensures { IfOk result (λ v. view v ≡ act_data scene.now agent.now instr) }
 {
     match instr {
@@ -139,7 +158,12 @@ fn act_value(alloc: Global, scene: &SceneParts, agent: &AgentDef, instr: Instr) 
         Instr::Skip { count } => with_count(alloc, "skip", count),
         Instr::Throw { a } => with_operand(alloc, "throw", a),
         Instr::Log { text, args } => log_value(alloc, text_bytes(scene, text), &args),
-        Instr::Send { target, msg, args } => send_value(alloc, target_name(scene, target), message_name(scene, msg), &args),
+        Instr::Send { target, msg, args } => send_value(
+            alloc,
+            target_name(scene, target),
+            message_name(scene, msg),
+            &args,
+        ),
         Instr::Switch { to } => with_name(alloc, "switch", state_name(agent, to)),
         Instr::Subscribe { row } => with_name(alloc, "subscribe", row_name(agent, row)),
         Instr::Unsubscribe { row } => with_name(alloc, "unsubscribe", row_name(agent, row)),
@@ -166,7 +190,12 @@ fn is_end(instr: &Instr) -> bool
 }
 
 /// The acts up to the next end.
-pub(crate) fn acts_value(alloc: Global, scene: &SceneParts, agent: &AgentDef, code: &[Instr]) -> Result<Value, AllocError>
+pub(crate) fn acts_value(
+    alloc: Global,
+    scene: &SceneParts,
+    agent: &AgentDef,
+    code: &[Instr],
+) -> Result<Value, AllocError>
     ensures { IfOk result (λ v. view v ≡ acts_data scene.now agent.now (acts_in code.now)) }
 {
     let mut list = Vec::new(alloc);

@@ -54,7 +54,11 @@ fn numbers_value(alloc: Global, numbers: &[i64]) -> Result<Value, AllocError>
     Ok(Value::Array(list))
 }
 
-fn filters_value(alloc: Global, scene: &SceneParts, filters: &[FilterDef]) -> Result<Value, AllocError>
+fn filters_value(
+    alloc: Global,
+    scene: &SceneParts,
+    filters: &[FilterDef],
+) -> Result<Value, AllocError>
     ensures { IfOk result (λ v. view v ≡ list_data (filter_data scene.now) filters.now) }
 {
     let mut list = Vec::new(alloc);
@@ -71,7 +75,14 @@ fn least(a: usize, b: usize) -> usize
 }
 
 /// States of these names, whose bodies begin the code.
-fn states_value(alloc: Global, scene: &SceneParts, agent: &AgentDef, names: &[Name], states: &[State], code: &[Instr]) -> Result<Value, AllocError>
+fn states_value(
+    alloc: Global,
+    scene: &SceneParts,
+    agent: &AgentDef,
+    names: &[Name],
+    states: &[State],
+    code: &[Instr],
+) -> Result<Value, AllocError>
     ensures { IfOk result (λ v. view v ≡ list_data (state_data scene.now agent.now) (states_in names.now states.now code.now)) }
 {
     let mut list = Vec::new(alloc);
@@ -95,7 +106,14 @@ fn behind_states(states: usize, code: &[Instr]) -> &[Instr]
 }
 
 /// Rows with these ids, whose bodies begin the code.
-fn rows_value(alloc: Global, scene: &SceneParts, agent: &AgentDef, ids: &[Option<Name>], rows: &[Row], code: &[Instr]) -> Result<Value, AllocError>
+fn rows_value(
+    alloc: Global,
+    scene: &SceneParts,
+    agent: &AgentDef,
+    ids: &[Option<Name>],
+    rows: &[Row],
+    code: &[Instr],
+) -> Result<Value, AllocError>
     ensures { IfOk result (λ v. view v ≡ list_data (row_data scene.now agent.now) (rows_in ids.now rows.now code.now)) }
 {
     let mut list = Vec::new(alloc);
@@ -118,9 +136,23 @@ fn agent_value(alloc: Global, scene: &SceneParts, agent: &AgentDef) -> Result<Va
     let filters = filters_value(alloc, scene, agent.filters.as_slice())?;
     let finish = acts_value(alloc, scene, agent, past_start)?;
     let name = text(agent.name.bytes());
-    let on = rows_value(alloc, scene, agent, agent.row_ids.as_slice(), agent.rows.as_slice(), past_states)?;
+    let on = rows_value(
+        alloc,
+        scene,
+        agent,
+        agent.row_ids.as_slice(),
+        agent.rows.as_slice(),
+        past_states,
+    )?;
     let start = acts_value(alloc, scene, agent, code)?;
-    let states = states_value(alloc, scene, agent, agent.state_names.as_slice(), agent.tree.states(), past_finish)?;
+    let states = states_value(
+        alloc,
+        scene,
+        agent,
+        agent.state_names.as_slice(),
+        agent.tree.states(),
+        past_finish,
+    )?;
     let vars = numbers_value(alloc, &agent.vars.0)?;
     json!(in alloc; {"filters": filters, "finish": finish, "name": name, "on": on, "start": start, "states": states, "vars": vars})
 }

@@ -27,7 +27,12 @@ fn add_field(alloc: Global, object: Value, key: &str, value: Value) -> Result<Va
 }
 
 /// The object with one more field, if there is a value.
-pub(crate) fn with_field(alloc: Global, object: Value, key: &str, value: Option<Value>) -> Result<Value, AllocError>
+pub(crate) fn with_field(
+    alloc: Global,
+    object: Value,
+    key: &str,
+    value: Option<Value>,
+) -> Result<Value, AllocError>
     ensures { IfOk result (λ v. view v ≡ with_field key.now (option_map view value) (view object)) }
 {
     match value {

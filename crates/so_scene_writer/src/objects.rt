@@ -52,7 +52,11 @@ fn state_text_value(alloc: Global, agent: &AgentDef, state: StateId) -> Result<V
     Value::try_from_str(alloc, text(state_name(agent, state)))
 }
 
-fn parent_value(alloc: Global, agent: &AgentDef, parent: Option<StateId>) -> Result<Option<Value>, AllocError>
+fn parent_value(
+    alloc: Global,
+    agent: &AgentDef,
+    parent: Option<StateId>,
+) -> Result<Option<Value>, AllocError>
     ensures { IfOk result (λ o. option_map view o ≡ option_map (λ p. text_data (state_text agent.now p)) parent) }
 {
     match parent {
@@ -61,7 +65,13 @@ fn parent_value(alloc: Global, agent: &AgentDef, parent: Option<StateId>) -> Res
     }
 }
 
-fn state_base(alloc: Global, enter: Value, exit: Value, state: State, name: &[u8]) -> Result<Value, AllocError>
+fn state_base(
+    alloc: Global,
+    enter: Value,
+    exit: Value,
+    state: State,
+    name: &[u8],
+) -> Result<Value, AllocError>
     ensures { IfOk result (λ v. view v ≡ state_base (view enter) (view exit) state.history state.initial name.now) }
 {
     let history = history_word(state.history);
@@ -71,13 +81,25 @@ fn state_base(alloc: Global, enter: Value, exit: Value, state: State, name: &[u8
 }
 
 /// A state of this name, whose bodies begin the code.
-pub(crate) fn state_value(alloc: Global, scene: &SceneParts, agent: &AgentDef, name: &Name, state: State, code: &[Instr]) -> Result<Value, AllocError>
+pub(crate) fn state_value(
+    alloc: Global,
+    scene: &SceneParts,
+    agent: &AgentDef,
+    name: &Name,
+    state: State,
+    code: &[Instr],
+) -> Result<Value, AllocError>
     ensures { IfOk result (λ v. view v ≡ state_data scene.now agent.now (state_source name.now state code.now)) }
 {
     let enter = acts_value(alloc, scene, agent, code)?;
     let exit = acts_value(alloc, scene, agent, behind(code))?;
     let value = state_base(alloc, enter, exit, state, name.bytes())?;
-    with_field(alloc, value, "parent", parent_value(alloc, agent, state.parent)?)
+    with_field(
+        alloc,
+        value,
+        "parent",
+        parent_value(alloc, agent, state.parent)?,
+    )
 }
 
 fn filter_base(alloc: Global, scene: &SceneParts, filter: &FilterDef) -> Result<Value, AllocError>
@@ -93,7 +115,11 @@ fn filter_base(alloc: Global, scene: &SceneParts, filter: &FilterDef) -> Result<
 }
 
 /// A filter.
-pub(crate) fn filter_value(alloc: Global, scene: &SceneParts, filter: &FilterDef) -> Result<Value, AllocError>
+pub(crate) fn filter_value(
+    alloc: Global,
+    scene: &SceneParts,
+    filter: &FilterDef,
+) -> Result<Value, AllocError>
     ensures { IfOk result (λ v. view v ≡ filter_data scene.now filter.now) }
 {
     let value = filter_base(alloc, scene, filter)?;
@@ -136,7 +162,11 @@ fn switch_value(alloc: Global, agent: &AgentDef, kind: RowKind) -> Result<Option
     }
 }
 
-fn transfer_value(alloc: Global, agent: &AgentDef, kind: RowKind) -> Result<Option<Value>, AllocError>
+fn transfer_value(
+    alloc: Global,
+    agent: &AgentDef,
+    kind: RowKind,
+) -> Result<Option<Value>, AllocError>
     ensures { IfOk result (λ o. option_map view o ≡ transfer_data agent.now kind) }
 {
     match kind {
@@ -160,7 +190,13 @@ fn row_state_value(alloc: Global, agent: &AgentDef, row: Row) -> Result<Option<V
     }
 }
 
-fn do_value(alloc: Global, scene: &SceneParts, agent: &AgentDef, kind: RowKind, code: &[Instr]) -> Result<Option<Value>, AllocError>
+fn do_value(
+    alloc: Global,
+    scene: &SceneParts,
+    agent: &AgentDef,
+    kind: RowKind,
+    code: &[Instr],
+) -> Result<Option<Value>, AllocError>
     ensures { IfOk result (λ o. option_map view o ≡ do_data scene.now agent.now (if has_handler kind then acts_in code.now else []) kind) }
 {
     match kind {
@@ -182,17 +218,39 @@ fn row_base(alloc: Global, scene: &SceneParts, row: Row) -> Result<Value, AllocE
 }
 
 /// A row with this id, whose body begins the code if it has one.
-pub(crate) fn row_value(alloc: Global, scene: &SceneParts, agent: &AgentDef, id: &Option<Name>, row: Row, code: &[Instr]) -> Result<Value, AllocError>
+pub(crate) fn row_value(
+    alloc: Global,
+    scene: &SceneParts,
+    agent: &AgentDef,
+    id: &Option<Name>,
+    row: Row,
+    code: &[Instr],
+) -> Result<Value, AllocError>
     ensures { IfOk result (λ v. view v ≡ row_data scene.now agent.now (row_source id.now row code.now)) }
 {
     let value = row_base(alloc, scene, row)?;
     let value = with_field(alloc, value, "dead", dead_value(row.kind))?;
-    let value = with_field(alloc, value, "do", do_value(alloc, scene, agent, row.kind, code)?)?;
+    let value = with_field(
+        alloc,
+        value,
+        "do",
+        do_value(alloc, scene, agent, row.kind, code)?,
+    )?;
     let value = with_field(alloc, value, "id", id_value(alloc, id)?)?;
     let value = with_field(alloc, value, "state", row_state_value(alloc, agent, row)?)?;
     let value = with_field(alloc, value, "suppress", suppress_value(row.kind))?;
-    let value = with_field(alloc, value, "switch", switch_value(alloc, agent, row.kind)?)?;
-    with_field(alloc, value, "transfer", transfer_value(alloc, agent, row.kind)?)
+    let value = with_field(
+        alloc,
+        value,
+        "switch",
+        switch_value(alloc, agent, row.kind)?,
+    )?;
+    with_field(
+        alloc,
+        value,
+        "transfer",
+        transfer_value(alloc, agent, row.kind)?,
+    )
 }
 
 /// What stands behind the body of a row, if it has one.
