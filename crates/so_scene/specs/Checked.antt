@@ -28,6 +28,7 @@ use Rattle.so_scene.specs.declared.parts.AgentDef.{AgentDef}
 use Rattle.so_scene.specs.declared.parts.SceneParts.{SceneParts}
 use Rattle.so_scene.specs.Parts.{message_name, mbox_names, mboxes, agent_of, disp_of, disp_name, groups_of, default_disp}
 use Rattle.so_scene.specs.Words.{is_name, is_text}
+use Rattle.so_scene.specs.Written.{is_state_name, HasParent, IsNumber, IsWritten, are_short}
 use Rattle.so_scene.specs.Lanes.{agent_number, bound_to, lanes}
 use Rattle.so_scene.specs.Definition.{definition_fault}
 
@@ -188,6 +189,7 @@ pub record IsFilter (s : SceneParts) (f : FilterDef) : Type 0 where
   pub mbox : f.mbox.0 < mboxes s
   pub msg : f.msg.0 < length s.messages
   pub field : f.field ≤ 3
+  pub value : IsNumber f.value
 
 -- the ids that are given
 abbrev pub given : List (Option (List ℕ)) → List (List ℕ)
@@ -204,10 +206,12 @@ pub record IsAgent (s : SceneParts) (a : AgentDef) : Type 0 where
   pub group : IsGroup (disp_of s a.disp).kind (length (groups_of s a.disp)) a.group
   pub priority : a.priority.level ≡ 0
   pub vars : length a.vars.0 ≡ 16
+  pub numbers : All IsNumber a.vars.0
   pub tree : IsTree a.tree
   pub no_limits : All HasNoLimit a.tree
   pub state_names : length a.state_names ≡ length a.tree
-  pub states_named : All (λ name. is_name name ≡ true) a.state_names
+  pub states_named : All (λ name. is_state_name name ≡ true) a.state_names
+  pub initial : All HasParent a.tree
   pub each_state_once : IsDistinct bytes_eq a.state_names
   pub few_rows : length a.rows ≤ 128
   pub rows : All (IsRow s (length a.tree)) a.rows
@@ -221,6 +225,8 @@ pub record IsAgent (s : SceneParts) (a : AgentDef) : Type 0 where
   pub code : IsCode a.code
   pub bodies : bodies_in a.code ≡ agent_bodies (length a.tree) (handlers a.rows)
   pub parts : All (NamesParts s a) a.code
+  pub written : All (IsWritten s) a.code
+  pub short : are_short 0 a.code ≡ true
 
 -- the parts are those of a scene: no name stands twice in its space, and each agent may be registered
 pub record IsScene (s : SceneParts) : Type 0 where

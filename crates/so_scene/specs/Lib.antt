@@ -7,3 +7,4 @@ pub mod Names
 pub mod Parts
 pub mod Subscriptions
 pub mod Words
+pub mod Written
