@@ -12,11 +12,20 @@ use std::alloc::Global;
 use std::process::Abort;
 use std::test::Fail;
 
+/// One agent, on the dispatcher `default`.
+const ONE_QUEUE: &str = "{\"version\":1,\"coops\":[{\"name\":\"main\",\"agents\":[{\"name\":\"a\"}]}]}";
+
+/// An agent on the dispatcher `default`, and two on a pool of one thread with a queue for each. The queues have the
+/// numbers of their agents.
+const THREE_QUEUES: &str =
+    "{\"version\":1,\"dispatchers\":[{\"name\":\"d\",\"kind\":\"thread_pool\",\"threads\":1,\"fifo\":\"individual\"}],\"coops\":[{\"name\":\"main\",\"agents\":[{\"name\":\"f\"},{\"name\":\"x\",\"disp\":\"d\"},{\"name\":\"y\",\"disp\":\"d\"}]}]}";
+
+/// Two agents with a lane each, and three of two groups.
+const OWN_LANES: &str =
+    "{\"version\":1,\"dispatchers\":[{\"name\":\"o\",\"kind\":\"active_obj\"},{\"name\":\"g\",\"kind\":\"active_group\"}],\"coops\":[{\"name\":\"main\",\"agents\":[{\"name\":\"a\",\"disp\":\"o\"},{\"name\":\"b\",\"disp\":\"o\"},{\"name\":\"c\",\"disp\":\"g\",\"group\":\"r\"},{\"name\":\"d\",\"disp\":\"g\",\"group\":\"s\"},{\"name\":\"e\",\"disp\":\"g\",\"group\":\"r\"}]}]}";
+
 /// The scenes on which both picks are compared.
-const SCENES: [&str; 2] = [
-    "{\"version\": 1, \"coops\": [{\"name\": \"main\", \"agents\": [{\"name\": \"a\"}]}]}",
-    "{\"version\": 1, \"coops\": [{\"name\": \"main\", \"agents\": [{\"name\": \"a\"}, {\"name\": \"b\"}, {\"name\": \"c\"}]}]}",
-];
+const SCENES: [&str; 3] = [ONE_QUEUE, THREE_QUEUES, OWN_LANES];
 
 /// A call on the queues.
 #[derive(Clone, Copy, Debug)]
@@ -97,17 +106,17 @@ fn make(queues: &mut Queues, count: u32, step: Step)
     }
 }
 
-/// The place of the demand that the scene's first lane may take.
-fn first_pick(scene: &Scene, queues: &Queues) -> Option<u32>
+/// The place of the demand that a lane may take, if there is such a lane.
+fn picked(scene: &Scene, queues: &Queues, lane: u32) -> Option<u32>
     requires { keys_of queues.now ≡ keys scene.now }
 {
-    if scene.lanes() == 0 {
+    if lane >= scene.lanes() {
         return None;
     }
-    pick(scene, queues, LaneId(0)).map(|found| found.place.0)
+    pick(scene, queues, LaneId(lane)).map(|found| found.place.0)
 }
 
-/// A call, and what the first lane may take then. All have one queue, that of the dispatcher `default`.
+/// A call, and what the lane may take then where there is one queue.
 const PICKS: [(Step, Option<u32>); 12] = [
     (Step::Take(0, 0), None),
     (Step::Push(0, 0, 3), Some(3)),
@@ -125,14 +134,47 @@ const PICKS: [(Step, Option<u32>); 12] = [
 
 #[test]
 fn picks_the_least_of_the_open_queues(rt: HostRuntime) -> Result<(), Fail> {
-    let Ok(scene) = read_scene(rt.alloc(), SCENES[0].as_bytes()) else {
+    let Ok(scene) = read_scene(rt.alloc(), ONE_QUEUE.as_bytes()) else {
         panic!(rt; "no scene")
     };
     let count = scene.keys();
     let mut queues = Queues::with(rt.alloc(), count, 8)?;
     for (step, found) in PICKS {
         make(&mut queues, count, step);
-        assert_eq!(rt; first_pick(&scene, &queues), found);
+        assert_eq!(rt; picked(&scene, &queues, 0), found);
+    }
+    Ok(())
+}
+
+/// A call, and what each of two lanes may take then: the first serves queue 0, the second queues 1 and 2.
+const PICKS_OF_TWO: [(Step, Option<u32>, Option<u32>); 14] = [
+    (Step::Push(2, 0, 1), None, Some(1)),
+    (Step::Push(1, 0, 2), None, Some(1)),
+    (Step::Push(0, 0, 3), Some(3), Some(1)),
+    (Step::Push(2, 0, 4), Some(3), Some(1)),
+    (Step::Start(2, false), Some(3), Some(2)),
+    (Step::Take(2, 0), Some(3), Some(2)),
+    (Step::Start(1, false), Some(3), None),
+    (Step::Take(1, 0), Some(3), None),
+    (Step::End(2, false), Some(3), Some(4)),
+    (Step::Push(1, 0, 5), Some(3), Some(4)),
+    (Step::Take(2, 0), Some(3), None),
+    (Step::End(1, false), Some(3), Some(5)),
+    (Step::Start(0, false), None, Some(5)),
+    (Step::End(0, false), Some(3), Some(5)),
+];
+
+#[test]
+fn each_lane_takes_from_its_own_queues(rt: HostRuntime) -> Result<(), Fail> {
+    let Ok(scene) = read_scene(rt.alloc(), THREE_QUEUES.as_bytes()) else {
+        panic!(rt; "no scene")
+    };
+    let count = scene.keys();
+    let mut queues = Queues::with(rt.alloc(), count, 8)?;
+    for (step, first, second) in PICKS_OF_TWO {
+        make(&mut queues, count, step);
+        assert_eq!(rt; picked(&scene, &queues, 0), first);
+        assert_eq!(rt; picked(&scene, &queues, 1), second);
     }
     Ok(())
 }
