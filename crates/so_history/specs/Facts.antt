@@ -1,5 +1,5 @@
 -- What a legal history has, in plain words.
-use Rattle.std.specs.Prelude.{◌≡◌, ℕ, ◌==◌, ◌<◌, ◌≤◌, List, [], true, Option, Some, None, count_by}
+use Rattle.std.specs.Prelude.{◌≡◌, ◌⊎◌, ℕ, ◌==◌, ◌<◌, ◌≤◌, List, [], Bool, true, false, Option, Some, None, count_by}
 use Rattle.std.specs.List.{filter, last_or}
 use Rattle.so_ids.specs.declared.AgentId.{AgentId}
 use Rattle.so_ids.specs.declared.CoopId.{CoopId}
@@ -10,7 +10,9 @@ use Rattle.so_ids.specs.declared.Reason.{Reason}
 use Rattle.so_ids.specs.Ids.{is_earlier}
 use Rattle.so_lists.specs.Lists.{head}
 use Rattle.so_scene.specs.declared.parts.SceneParts.{SceneParts}
-use Rattle.so_scene.specs.Parts.{agents_of}
+use Rattle.so_scene.specs.Parts.{agents_of, priority_of}
+use Rattle.so_scene.specs.declared.parts.DispKind.{DispKind}
+use Rattle.so_scene.specs.declared.parts.DispKind.TheVariants.{StrictlyOrdered, QuotedRoundRobin}
 use Rattle.so_scene.specs.Lanes.{queue_of}
 use Rattle.so_history.specs.declared.entry.Entry.{Entry}
 use Rattle.so_history.specs.declared.entry.EntryKind.{EntryKind}
@@ -21,6 +23,7 @@ use Rattle.so_history.specs.declared.entry.DemandKind.TheVariants.{Start, Finish
 use Rattle.so_history.specs.Places.{entry_at, before}
 use Rattle.so_history.specs.Demands.{ask_each, demands_from, demands, named, takes, waiting}
 use Rattle.so_history.specs.Turns.{ends, running}
+use Rattle.so_history.specs.Safety.{kind_of, is_safe}
 use Rattle.so_history.specs.Order.{opening_of, skipped}
 
 -- an entry of this kind stands at a place
@@ -29,11 +32,10 @@ pub record StandsAt (h : List Entry) (place : ℕ) (kind : EntryKind) : Type 0 w
   pub here : entry_at h place ≡ Some entry
   pub is : entry.kind ≡ kind
 
--- a turn of an agent begins at a place
-pub record BeginsAt (h : List Entry) (place : ℕ) (agent : AgentId) : Type 0 where
+-- a turn of an agent begins at a place, with this opening
+pub record BeginsAt (h : List Entry) (place : ℕ) (agent : AgentId) (opening : Opening) : Type 0 where
   pub lane : LaneId
   pub demand : Option DemandId
-  pub opening : Opening
   pub stands : StandsAt h place (Begin lane demand opening agent)
 
 -- the turn that began at place i ends before place j
@@ -49,10 +51,16 @@ pub record EndsBefore (h : List Entry) (i j : ℕ) : Type 0 where
 abbrev pub ShareQueue : SceneParts → AgentId → AgentId → Type 0
 ShareQueue s a b = queue_of s a ≡ queue_of s b
 
--- no overlap: of two turns whose agents share a queue, the earlier ends before the later begins
+-- turns of two agents that begin so are both thread-safe
+pub record AreSafe (s : SceneParts) (a b : AgentId) (first second : Opening) : Type 0 where
+  pub earlier : is_safe s a first ≡ true
+  pub later : is_safe s b second ≡ true
+
+-- no overlap: of two turns whose agents share a queue, the earlier ends before the later begins, unless both are thread-safe
 abbrev pub NoOverlap : SceneParts → List Entry → Type 0
 NoOverlap s h =
-    (i j : ℕ) (a b : AgentId) → i < j → BeginsAt h i a → BeginsAt h j b → ShareQueue s a b → EndsBefore h i j
+    (i j : ℕ) (a b : AgentId) (first second : Opening) → i < j → BeginsAt h i a first → BeginsAt h j b second → ShareQueue s a b →
+    EndsBefore h i j ⊎ AreSafe s a b first second
 
 -- how often a demand was taken
 abbrev pub takings : List Entry → DemandId → ℕ
@@ -74,10 +82,21 @@ pub record TakenBefore (h : List Entry) (d : DemandId) (place : ℕ) : Type 0 wh
   pub earlier : when < place
   pub takes : TakesAt h when d
 
--- in order: of two demands whose agents share a queue, the later is taken only after the earlier
+-- the dispatcher takes the demands of a queue by priority
+abbrev pub is_by_priority : DispKind → Bool
+is_by_priority StrictlyOrdered = true
+is_by_priority QuotedRoundRobin = true
+is_by_priority other = false
+
+-- the demands of two agents are taken in order: they share a queue, and have one priority where it is taken by priority
+pub record ShareOrder (s : SceneParts) (a b : AgentId) : Type 0 where
+  pub queue : ShareQueue s a b
+  pub priority : is_by_priority (kind_of s a) ≡ true → (priority_of s a).level ≡ (priority_of s b).level
+
+-- in order: of two demands whose agents share it, the later is taken only after the earlier
 abbrev pub InOrder : SceneParts → List Entry → Type 0
 InOrder s h =
-    (c d : Demand) (place : ℕ) → named c.id (demands s h) ≡ Some c → named d.id (demands s h) ≡ Some d → ShareQueue s c.agent d.agent →
+    (c d : Demand) (place : ℕ) → named c.id (demands s h) ≡ Some c → named d.id (demands s h) ≡ Some d → ShareOrder s c.agent d.agent →
     is_earlier c.id d.id ≡ true → TakesAt h place d.id → TakenBefore h c.id place
 
 -- the demand that a turn takes waits, and the turn begins as that demand says

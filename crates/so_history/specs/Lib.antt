@@ -4,8 +4,10 @@ pub mod Coops
 pub mod Leaves
 pub mod Delivery
 pub mod Demands
+pub mod Safety
 pub mod Turns
 pub mod Units
+pub mod Heads
 pub mod Order
 pub mod Steps
 pub mod Chain

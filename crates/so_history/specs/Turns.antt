@@ -1,5 +1,5 @@
 -- Which turns began, which run, and how far each has come.
-use Rattle.std.specs.Prelude.{ℕ, ◌==◌, List, [], ◌∷◌, ◌++◌, length, Bool, false, not, ◌||◌, Option, Some, None, if◌then◌else◌}
+use Rattle.std.specs.Prelude.{ℕ, ◌==◌, List, [], ◌∷◌, ◌++◌, length, Bool, false, not, ◌||◌, ◌&&◌, Option, Some, None, if◌then◌else◌}
 use Rattle.std.specs.List.{filter, find}
 use Rattle.std.specs.Option.{option_map}
 use Rattle.so_ids.specs.declared.PartyId.{PartyId}
@@ -24,6 +24,7 @@ use Rattle.so_history.specs.declared.entry.EntryKind.{EntryKind}
 use Rattle.so_history.specs.declared.entry.EntryKind.TheVariants.{Register, Begin, Act, End}
 use Rattle.so_history.specs.declared.entry.EventSource.{EventSource}
 use Rattle.so_history.specs.Demands.{message_of, event_of}
+use Rattle.so_history.specs.Safety.{is_safe}
 
 -- a turn: the place of its Begin, and what stands there
 pub record Started : Type 0 where
@@ -78,9 +79,10 @@ running_with s h key = running_at (key_number s) h key.0
 abbrev pub turn_at : List Entry → ℕ → Option Started
 turn_at h place = find (λ t. t.place == place) (running h)
 
--- how far a turn has come: whose it is, by what its event is looked up, and its frame
+-- how far a turn has come: whose it is, whether it is thread-safe, by what its event is looked up, and its frame
 pub record Course : Type 0 where
   pub agent : AgentId
+  pub safe : Bool
   pub event : Option EventSource
   pub frame : Frame
 
@@ -92,10 +94,10 @@ move_of s c = after (code_of s c.agent) c.frame
 abbrev pub answer_to : SceneParts → Answer → Course → Course
 answer_to s answer c = record c { frame = answered answer (move_of s c).1 }
 
--- the variables of an agent after a turn that ends: those of the turn's last move, where the turn is its own
+-- the variables of an agent after a turn that ends: those of the turn's last move, where the turn is its own and isn't thread-safe
 abbrev pub ended_vars : SceneParts → AgentId → Option Course → Vars → Vars
 ended_vars s a None v = v
-ended_vars s a (Some c) v = if c.agent.0 == a.0 then (move_of s c).1.vars else v
+ended_vars s a (Some c) v = if c.agent.0 == a.0 && not c.safe then (move_of s c).1.vars else v
 
 -- and after one more entry: a registration sets them anew
 abbrev pub vars_after : SceneParts → (ℕ → Option Course) → EntryKind → AgentId → Vars → Vars
@@ -112,13 +114,13 @@ pub record Beginnings : Type 0 where
 -- the course of the turn at place t after one more entry, at a place
 abbrev pub advanced : SceneParts → Beginnings → ℕ → EntryKind → ℕ → Option Course → Option Course
 advanced s b place (Begin lane demand opening agent) t c =
-    if place == t then Some (record { agent = agent; event = b.event demand; frame = begun opening (b.vars agent) (b.message demand) }) else c
+    if place == t then Some (record { agent = agent; safe = is_safe s agent opening; event = b.event demand; frame = begun opening (b.vars agent) (b.message demand) }) else c
 advanced s b place (Act turn effect answer) t c =
     if turn.0 == t then option_map (answer_to s answer) c else c
 advanced s b place other t c = c
 
 unfoldable mutual
-  -- the variables of an agent: those of its last turn that ended since its registration
+  -- the variables of an agent: those of its last turn that isn't thread-safe and ended since its registration
   pub vars : SceneParts → List Entry → AgentId → Vars
   vars s [] a = vars_of s a
   vars s (e ∷ h) a = vars_after s (course s h) e.kind a (vars s h a)
