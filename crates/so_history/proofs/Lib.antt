@@ -3,6 +3,7 @@ pub mod NameLaws
 pub mod TakingLaws
 pub mod AskedLaws
 pub mod DemandLaws
+pub mod HeadLaws
 pub mod TurnLaws
 pub mod OpeningLaws
 pub mod CourseLaws

@@ -1,10 +1,11 @@
--- Which turns run after one more entry, and that lanes and queues run one at a time.
-use Rattle.std.proofs.Common.{◌≡◌, ℕ, ◌<◌, ◌≤◌, List, [], ◌∷◌, ◌++◌, length, Bool, true, false, not, ◌||◌, cond, Option, Some, None, arith, refl, sym, ◌∙◌, ap, eqb, inl, inr}
+-- Which turns run after one more entry, and that lanes run one at a time, and queues one or such as are thread-safe.
+use Rattle.std.proofs.Common.{◌≡◌, ℕ, ◌<◌, ◌≤◌, List, [], ◌∷◌, ◌++◌, length, Bool, true, false, not, ◌&&◌, ◌||◌, cond, Option, Some, None, is_some, arith, refl, sym, ◌∙◌, ap, subst, eqb, inl, inr}
 use Rattle.std.specs.Prelude.{◌==◌, ◌⊎◌}
-use Rattle.std.specs.List.{filter, find, AllByRecursion}
+use Rattle.std.specs.List.{filter, find, list_all, AllByRecursion}
 use Rattle.std.proofs.lemmas.List.{append-nil}
-use Rattle.std.proofs.lemmas.List.Elements.{filter-append, filter_agree}
-use Rattle.std.proofs.lemmas.Bool.{cases_Bool, or_cases, and_parts, ne_eqb, eq-eqb, eqb-true}
+use Rattle.std.proofs.lemmas.List.Elements.{filter-append, filter_agree, recursion_from_All}
+use Rattle.std.proofs.lemmas.List.Sums.{AllPass-from_list_all}
+use Rattle.std.proofs.lemmas.Bool.{cases_Bool, or_cases, ne_eqb, eq-eqb, eqb-true, false≢true}
 use Rattle.std.proofs.lemmas.Option.{same_Some}
 use Rattle.so_ids.specs.declared.PartyId.{PartyId}
 use Rattle.so_ids.specs.declared.LaneId.{LaneId}
@@ -16,17 +17,19 @@ use Rattle.so_lists.proofs.Filters.{each-append, each-weaker, each-filter, each_
 use Rattle.so_lists.proofs.First.{empty-list}
 use Rattle.so_scene.specs.declared.parts.SceneParts.{SceneParts}
 use Rattle.so_scene.specs.Checked.{IsScene}
-use Rattle.so_scene.specs.Lanes.{lanes, key_of, serves}
+use Rattle.so_scene.specs.Lanes.{lanes, key_of}
 use Rattle.so_history.specs.declared.entry.Entry.{Entry}
 use Rattle.so_history.specs.declared.entry.EntryKind.{EntryKind}
 use Rattle.so_history.specs.declared.entry.EntryKind.TheVariants.{Register, Begin, Skip, Act, End, Leaving, Left, Stop, Abort}
 use Rattle.so_history.specs.declared.entry.Demand.{Demand}
-use Rattle.so_history.specs.Demands.{waiting}
+use Rattle.so_history.specs.declared.entry.SkipWhy.{SkipWhy}
+use Rattle.so_history.specs.Safety.{is_safe}
 use Rattle.so_history.specs.Turns.{Started, started_by, turns, ends, ended, running, running_at, running_on, running_with, lane_number, key_number, turn_at}
-use Rattle.so_history.specs.Order.{may_take, opening_of, skipped}
+use Rattle.so_history.specs.Order.{pick, opening_of, skipped, runs_safe, goes_beside}
 use Rattle.so_history.specs.Steps.{IsTaking, IsRow, Legal}
 use Rattle.so_history.proofs.TakingLaws.{begins_as}
 use Rattle.so_history.proofs.DemandLaws.{picked, picked_of}
+use Rattle.so_history.proofs.HeadLaws.{picked_may}
 
 started_here : (place : ℕ) (by : PartyId) (kind : EntryKind) → AllByRecursion (λ t. t.place ≡ place) (started_by place by kind)
 started_here place by (Begin lane demand opening agent) = (refl, tt)
@@ -184,7 +187,7 @@ single f s (e ∷ h) n frees legal =
           (let less = filter-short (λ t. not (ends e.kind t.place)) (running_at f h n) in omega (arith, less))
     ]
 
--- lanes are such numbers, and queues too
+-- lanes are such numbers
 begin_free_lane : (s : SceneParts) (h : List Entry) (by : PartyId) (lane : LaneId) (kind : EntryKind) → IsTaking s h by lane kind → running_on h lane ≡ []
 begin_free_lane s h by lane kind row = empty-list (running_on h lane) (picked s h lane row.demand row.picked).0
 
@@ -199,37 +202,137 @@ lanes_free s h by (Skip lane demand why) row = tt
 lanes_free s h by (Stop cause) row = tt
 lanes_free s h by (Abort cause) row = tt
 
--- the demand that is picked may be taken
-pub may_be_taken : (s : SceneParts) (h : List Entry) (lane : LaneId) (ds : List Demand) (d : Demand) → find (may_take s h lane) ds ≡ Some d → may_take s h lane d ≡ true
-may_be_taken s h lane [] d e = cc
-may_be_taken s h lane (x ∷ ds) d e =
-    elim (cases_Bool (may_take s h lane x)) [
-      | inl y ↦ (let same : Some x ≡ Some d = rw y at e in let it : x ≡ d = same_Some x d same in rw (← it) y)
-      | inr n ↦ may_be_taken s h lane ds d (rw n at e)
+-- ---- which turns run beside one that begins
+
+-- all of these turns are thread-safe
+abbrev pub AllSafe : SceneParts → List Started → Type 0
+AllSafe s ts = AllByRecursion (λ t. runs_safe s t ≡ true) ts
+
+all_safe : (s : SceneParts) (ts : List Started) → list_all (runs_safe s) ts ≡ true → AllSafe s ts
+all_safe s ts e = recursion_from_All (λ t. runs_safe s t ≡ true) ts (AllPass-from_list_all (runs_safe s) ts e)
+
+-- a turn that begins so goes beside these: there are none, or all are thread-safe and it is too
+abbrev pub GoesBeside : SceneParts → AgentId → Opening → List Started → Type 0
+GoesBeside s a begins runs = (runs ≡ []) ⊎ ((is_safe s a begins ≡ true) × AllSafe s runs)
+
+beside_case : (s : SceneParts) (a : AgentId) (begins : Opening) (runs : List Started) (empty safe all : Bool) (w : Option SkipWhy) → is_empty runs ≡ empty → is_safe s a begins ≡ safe → list_all (runs_safe s) runs ≡ all → w ≡ None →
+    (empty || ((safe || is_some w) && all)) ≡ true → GoesBeside s a begins runs
+beside_case s a begins runs true safe all w none its are begun e = inl (empty-list runs none)
+beside_case s a begins runs false true true w none its are begun e = inr (its, all_safe s runs are)
+beside_case s a begins runs false true false w none its are begun e = cc
+beside_case s a begins runs false false all (Some why) none its are begun e = cc
+beside_case s a begins runs false false all None none its are begun e = cc
+
+pub begins_beside : (s : SceneParts) (h : List Entry) (by : PartyId) (lane : LaneId) (demand : Option DemandId) (opening : Opening) (agent : AgentId) → IsTaking s h by lane (Begin lane demand opening agent) → GoesBeside s agent opening (running_with s h (key_of s agent))
+begins_beside s h by lane demand opening agent row =
+    let d : Demand = row.demand in
+    let runs : List Started = running_with s h (key_of s d.agent) in
+    let it = begins_as lane lane d (opening_of s h d) (skipped (opening_of s h d)) demand opening agent row.is in
+    let beside : GoesBeside s d.agent (opening_of s h d) runs =
+    beside_case s d.agent (opening_of s h d) runs (is_empty runs) (is_safe s d.agent (opening_of s h d)) (list_all (runs_safe s) runs) (skipped (opening_of s h d)) refl refl refl it.not_skipped (picked_may s h lane d row.picked).allowed in
+    rw (it.opening_is, it.agent_is) beside
+
+-- a turn that isn't thread-safe begins where none of its queue runs
+pub begins_alone : (s : SceneParts) (h : List Entry) (by : PartyId) (lane : LaneId) (demand : Option DemandId) (opening : Opening) (agent : AgentId) → IsTaking s h by lane (Begin lane demand opening agent) → is_safe s agent opening ≡ false → running_with s h (key_of s agent) ≡ []
+begins_alone s h by lane demand opening agent row unsafe =
+    elim (begins_beside s h by lane demand opening agent row) [
+      | inl none ↦ none
+      | inr both ↦ absurd (false≢true (sym unsafe ∙ both.0))
     ]
 
-begin_free_key : (s : SceneParts) (h : List Entry) (by : PartyId) (lane : LaneId) (demand : Option DemandId) (opening : Opening) (agent : AgentId) → IsTaking s h by lane (Begin lane demand opening agent) → running_with s h (key_of s agent) ≡ []
-begin_free_key s h by lane demand opening agent row =
-    let may = may_be_taken s h lane (waiting s h) row.demand (picked s h lane row.demand row.picked).1 in
-    let free : is_empty (running_with s h (key_of s row.demand.agent)) ≡ true = (and_parts (serves s lane (key_of s row.demand.agent)) (is_empty (running_with s h (key_of s row.demand.agent))) may).1 in
-    let its : agent ≡ row.demand.agent = (begins_as lane lane row.demand (opening_of s h row.demand) (skipped (opening_of s h row.demand)) demand opening agent row.is).agent_is in
-    let there : running_with s h (key_of s row.demand.agent) ≡ [] = empty-list (running_with s h (key_of s row.demand.agent)) free in
-    rw its there
+-- and any begins where all that run are thread-safe
+all_of_none : (s : SceneParts) (ts : List Started) → ts ≡ [] → AllSafe s ts
+all_of_none s [] e = tt
+all_of_none s (t ∷ ts) e = absurd cc
 
-pub keys_free : (s : SceneParts) → Frees (key_number s) s
-keys_free s h by (Begin lane demand opening agent) row = (begin_free_key s h by lane demand opening agent row, tt)
-keys_free s h by (Register coop) row = tt
-keys_free s h by (Leaving coop reason) row = tt
-keys_free s h by (Act turn effect answer) row = tt
-keys_free s h by (End turn) row = tt
-keys_free s h by (Left coop) row = tt
-keys_free s h by (Skip lane demand why) row = tt
-keys_free s h by (Stop cause) row = tt
-keys_free s h by (Abort cause) row = tt
+pub begins_safe : (s : SceneParts) (h : List Entry) (by : PartyId) (lane : LaneId) (demand : Option DemandId) (opening : Opening) (agent : AgentId) → IsTaking s h by lane (Begin lane demand opening agent) → AllSafe s (running_with s h (key_of s agent))
+begins_safe s h by lane demand opening agent row =
+    elim (begins_beside s h by lane demand opening agent row) [
+      | inl none ↦ all_of_none s (running_with s h (key_of s agent)) none
+      | inr both ↦ both.1
+    ]
 
--- the running turn at a place is alone at its number
+-- so does whatever is taken, a skip too
+allowed_case : (s : SceneParts) (runs : List Started) (empty beside all : Bool) → is_empty runs ≡ empty → list_all (runs_safe s) runs ≡ all → (empty || (beside && all)) ≡ true → AllSafe s runs
+allowed_case s runs true beside all none are e = all_of_none s runs (empty-list runs none)
+allowed_case s runs false true true none are e = all_safe s runs are
+allowed_case s runs false true false none are e = cc
+allowed_case s runs false false all none are e = cc
+
+pub takes_beside : (s : SceneParts) (h : List Entry) (lane : LaneId) (d : Demand) → pick s h lane ≡ Some d → AllSafe s (running_with s h (key_of s d.agent))
+takes_beside s h lane d picks =
+    let runs : List Started = running_with s h (key_of s d.agent) in
+    allowed_case s runs (is_empty runs) (goes_beside s d.agent (opening_of s h d)) (list_all (runs_safe s) runs) refl refl (picked_may s h lane d picks).allowed
+
+-- ---- the turns of a queue that run: one, or all are thread-safe
+
+abbrev pub AreAlike : SceneParts → List Started → Type 0
+AreAlike s ts = (length ts ≤ 1) ⊎ AllSafe s ts
+
+fewer_alike : (s : SceneParts) (p : Started → Bool) (ts : List Started) → AreAlike s ts → AreAlike s (filter p ts)
+fewer_alike s p ts alike =
+    elim alike [
+      | inl few ↦ (let less = filter-short p ts in inl (omega (arith, few, less)))
+      | inr safe ↦ inr (each-filter (λ t. runs_safe s t ≡ true) p ts safe)
+    ]
+
+more_alike : (s : SceneParts) (n : ℕ) (xs : List Started) (t : Started) (b : Bool) → (key_number s t == n) ≡ b → AreAlike s xs → (key_number s t ≡ n → GoesBeside s t.agent t.opening xs) → AreAlike s (xs ++ cond b (t ∷ []) [])
+more_alike s n xs t false e alike beside = rw append-nil alike
+more_alike s n xs t true e alike beside =
+    elim (beside (eqb-true (key_number s t) n e)) [
+      | inl none ↦ inl (rw none (omega arith))
+      | inr both ↦ inr (each-append (λ x. runs_safe s x ≡ true) xs (t ∷ []) both.1 (both.0, tt))
+    ]
+
+-- a turn of a queue begins beside those of it that run
+abbrev BeginBeside : SceneParts → List Entry → List Started → Type 0
+BeginBeside s h ts = AllByRecursion (λ t. GoesBeside s t.agent t.opening (running_with s h (key_of s t.agent))) ts
+
+begin_beside : (s : SceneParts) (h : List Entry) (by : PartyId) (kind : EntryKind) → IsRow s h by kind → BeginBeside s h (started_by (length h) by kind)
+begin_beside s h by (Begin lane demand opening agent) row = (begins_beside s h by lane demand opening agent row, tt)
+begin_beside s h by (Register coop) row = tt
+begin_beside s h by (Leaving coop reason) row = tt
+begin_beside s h by (Act turn effect answer) row = tt
+begin_beside s h by (End turn) row = tt
+begin_beside s h by (Left coop) row = tt
+begin_beside s h by (Skip lane demand why) row = tt
+begin_beside s h by (Stop cause) row = tt
+begin_beside s h by (Abort cause) row = tt
+
+begun_alike : (s : SceneParts) (h : List Entry) (n : ℕ) (ts : List Started) → length ts ≤ 1 → AreAlike s (running_at (key_number s) h n) → BeginBeside s h ts → AreAlike s (running_at (key_number s) h n ++ filter (λ t. key_number s t == n) ts)
+begun_alike s h n [] few alike beside = rw append-nil alike
+begun_alike s h n (t ∷ u ∷ ts) few alike beside = absurd (omega arith)
+begun_alike s h n (t ∷ []) few alike beside =
+    more_alike s n (running_at (key_number s) h n) t (key_number s t == n) refl alike
+    (λ same. subst (λ k. GoesBeside s t.agent t.opening (running_at (key_number s) h k)) same beside.0)
+
+pub keys_alike : (s : SceneParts) (h : List Entry) (n : ℕ) → Legal s h → AreAlike s (running_at (key_number s) h n)
+keys_alike s [] n legal = inl (rw (none_first (key_number s) n) (omega arith))
+keys_alike s (e ∷ h) n legal =
+    let before : AreAlike s (running_at (key_number s) h n) = keys_alike s h n legal.0 in
+    elim (ends_or_begins e.kind (length h) e.by) [
+      | inl none ↦
+          rw (running_at-begun (key_number s) s h e n legal.0 none)
+          (begun_alike s h n (started_by (length h) e.by e.kind) (few_started (length h) e.by e.kind) before (begin_beside s h e.by e.kind legal.1.row))
+      | inr none ↦ rw (running_at-ended (key_number s) h e n none) (fewer_alike s (λ t. not (ends e.kind t.place)) (running_at (key_number s) h n) before)
+    ]
+
+-- the running turn at a place is found among those of its number
+found_at_number : (f : Started → ℕ) (h : List Entry) (place : ℕ) (t : Started) → turn_at h place ≡ Some t → find (λ x. x.place == place) (running_at f h (f t)) ≡ Some t
+found_at_number f h place t e = find-filter (λ x. x.place == place) (λ x. f x == f t) (running h) t (eq-eqb (f t) (f t) refl) e
+
+-- where one runs at a time, it is alone there
 pub alone : (f : Started → ℕ) (s : SceneParts) (h : List Entry) (place : ℕ) (t : Started) → Frees f s → Legal s h → turn_at h place ≡ Some t → running_at f h (f t) ≡ t ∷ []
-alone f s h place t frees legal e = lone (λ x. x.place == place) (running_at f h (f t)) t (single f s h (f t) frees legal) (find-filter _ (λ x. f x == f t) (running h) t (eq-eqb (f t) (f t) refl) e)
+alone f s h place t frees legal e = lone (λ x. x.place == place) (running_at f h (f t)) t (single f s h (f t) frees legal) (found_at_number f h place t e)
+
+-- a running turn that isn't thread-safe is the only one of its queue
+pub alone_there : (s : SceneParts) (h : List Entry) (place : ℕ) (t : Started) → Legal s h → turn_at h place ≡ Some t → runs_safe s t ≡ false → running_with s h (key_of s t.agent) ≡ t ∷ []
+alone_there s h place t legal e unsafe =
+    let its = found_at_number (key_number s) h place t e in
+    elim (keys_alike s h (key_number s t) legal) [
+      | inl few ↦ lone (λ x. x.place == place) (running_at (key_number s) h (key_number s t)) t few its
+      | inr safe ↦ absurd (false≢true (sym unsafe ∙ (found (λ x. runs_safe s x ≡ true) (λ x. x.place == place) (running_at (key_number s) h (key_number s t)) t safe its).0))
+    ]
 
 -- the turn that began at a place, looked up
 abbrev pub started_at_entry : List Started → Option Started
