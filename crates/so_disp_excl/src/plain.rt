@@ -10,7 +10,7 @@ use so_queue::{Queues, lesser_of};
 use so_scene::Scene;
 
 /// The demand that a lane may take. Slow: it is what the other pick is compared with.
-#[tactic(auto, unfolding(crate::specs::Pick::least_below, crate::specs::Pick::pick))]
+#[tactic(auto, unfolding(so_queue::specs::Picks::least_below, crate::specs::Pick::pick))]
 pub fn plain_pick(scene: &Scene, queues: &Queues, lane: LaneId) -> Option<DemandId>
     requires lane { lane.0 < lanes scene.now }
     requires keys { keys_of queues.now ≡ keys scene.now }

@@ -2,7 +2,8 @@
 ghost use Rattle.std.specs.Prelude.{◌≡◌, ◌<◌};
 ghost use Rattle.so_scene.specs.Lanes.{lanes, keys};
 ghost use Rattle.so_queue.specs.Queues.{keys_of};
-ghost use Rattle.so_disp_excl.specs.Pick.{is_quiet, is_open, pick};
+ghost use Rattle.so_queue.specs.Picks.{is_quiet};
+ghost use Rattle.so_disp_excl.specs.Pick.{is_open, pick};
 
 use so_ids::{DemandId, KeyId, LaneId};
 use so_queue::Queues;

@@ -16,7 +16,8 @@ use Rattle.so_scene.specs.declared.parts.SceneParts.{SceneParts}
 use Rattle.so_scene.specs.Lanes.{keys, key_of, serves}
 use Rattle.so_queue.specs.Queues.{QueueTable, keys_of, list_at, head_of, lesser, least_to, front_of_key, is_behind, IsNextKey}
 use Rattle.so_queue.proofs.OrderLaws.{earlier_itself, not_both}
-use Rattle.so_disp_excl.specs.Pick.{is_open, open_front, least_below, pick}
+use Rattle.so_queue.specs.Picks.{least_below}
+use Rattle.so_disp_excl.specs.Pick.{is_open, open_front, pick}
 use Rattle.so_scene.specs.Parts.{priority_of}
 use Rattle.so_deliver.proofs.CommitLaws.{low}
 use Rattle.so_history.specs.declared.entry.Demand.{Demand}

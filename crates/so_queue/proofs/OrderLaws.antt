@@ -1,7 +1,7 @@
 -- Demands compare as their ranks, and their order is transitive.
-use Rattle.std.proofs.Common.{◌≡◌, ◌<◌, ◌≤◌, true, false, arith, refl, sym, ◌∙◌, inl, inr}
+use Rattle.std.proofs.Common.{◌≡◌, ℕ, ◌<◌, ◌≤◌, true, false, arith, refl, sym, ◌∙◌, ap, inl, inr}
 use Rattle.std.specs.Prelude.{◌⊎◌, ◌^◌, ◌==◌, ◌&&◌, nat_lt}
-use Rattle.std.proofs.lemmas.Bool.{cases_Bool, or_cases, and_parts, ltb-true, ltb-false, eqb-true, lt-ltb, eq-eqb, false≢true}
+use Rattle.std.proofs.lemmas.Bool.{cases_Bool, cases_lt, or_cases, and_parts, ltb-true, ltb-false, eqb-true, lt-ltb, eq-eqb, false≢true}
 use Rattle.so_ids.specs.declared.DemandId.{DemandId}
 use Rattle.so_ids.specs.Ids.{is_earlier}
 use Rattle.so_queue.specs.Cells.{rank}
@@ -84,4 +84,31 @@ not_both a b h =
     elim (cases_Bool (is_earlier b a)) [
       | inl t ↦ absurd (false≢true (sym (earlier_itself a) ∙ earlier_trans a b a h t))
       | inr f ↦ f
+    ]
+
+-- of two demands one is earlier, or they are the same
+pub later_or_same : (a b : DemandId) → is_earlier a b ≡ false → is_earlier b a ≡ false → a ≡ b
+later_or_same a b h g =
+    let places : a.place.0 ≡ b.place.0 =
+        elim (cases_lt a.place.0 b.place.0) [
+          | inl l ↦ absurd (false≢true (sym h ∙ earlier_at_once a b l))
+          | inr m ↦ elim (cases_lt b.place.0 a.place.0) [ inl l ↦ absurd (false≢true (sym g ∙ earlier_at_once b a l)) | inr n ↦ omega arith ]
+        ] in
+    let numbers : a.k ≡ b.k =
+        elim (cases_lt a.k b.k) [
+          | inl l ↦ absurd (false≢true (sym h ∙ earlier_there a b places l))
+          | inr m ↦ elim (cases_lt b.k a.k) [ inl l ↦ absurd (false≢true (sym g ∙ earlier_there b a (sym places) l)) | inr n ↦ omega arith ]
+        ] in
+    ap (λ (n : ℕ). record { place = record { 0 = n }; k = a.k }) places ∙ ap (λ (n : ℕ). record { place = record { 0 = b.place.0 }; k = n }) numbers
+
+-- and what is not later than a later one is earlier
+pub later_trans : (a b c : DemandId) → is_earlier b a ≡ false → is_earlier c b ≡ false → is_earlier c a ≡ false
+later_trans a b c h g =
+    elim (cases_Bool (is_earlier c a)) [
+      | inr f ↦ f
+      | inl t ↦
+          elim (cases_Bool (is_earlier b c)) [
+            | inl u ↦ absurd (false≢true (sym h ∙ earlier_trans b c a u t))
+            | inr o ↦ absurd (false≢true (sym h ∙ ap (λ x. is_earlier x a) (later_or_same b c o g) ∙ t))
+          ]
     ]

@@ -5,6 +5,7 @@ pub mod Faults
 pub mod Lanes
 pub mod Names
 pub mod Parts
+pub mod Rounds
 pub mod Subscriptions
 pub mod Words
 pub mod Written

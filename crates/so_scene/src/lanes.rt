@@ -394,19 +394,21 @@ impl Scene {
         self.lane(lane).serves(self.queue(AgentId(key.0)))
     }
 
-    /// A lane by its number.
+    /// A lane by its number. It is one of a dispatcher of the scene.
     pub fn lane(&self, lane: LaneId) -> Lane
         requires { lane.0 < lanes self.now }
-        ensures { result ≡ lane_at self.now lane }
+        ensures value { result ≡ lane_at self.now lane }
+        ensures range { result.disp.0 < length self.now.dispatchers }
     {
         let _parts = self.parts();
         self.layout.lane(lane)
     }
 
-    /// The queue of an agent's events.
+    /// The queue of an agent's events. It is one of a dispatcher of the scene.
     pub fn queue(&self, agent: AgentId) -> Queue
         requires { agent.0 < length self.now.agents }
-        ensures { result ≡ queue_of self.now agent }
+        ensures value { result ≡ queue_of self.now agent }
+        ensures range { result.disp.0 < length self.now.dispatchers }
     {
         let _parts = self.parts();
         self.layout.queue(agent)

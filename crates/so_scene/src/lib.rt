@@ -9,6 +9,7 @@ mod names;
 mod parts;
 mod place;
 mod print;
+mod round;
 mod scene;
 mod words;
 
@@ -20,5 +21,6 @@ pub use names::Names;
 pub use parts::{AgentDef, CoopDef, DispDef, DispKind, Fifo, FilterDef, MessageDef, SceneParts};
 pub use place::{Field, PlaceStep, ScenePlace};
 pub use print::{put_fault, put_place};
+pub use round::{Round, next_lower};
 pub use scene::{Scene, direct_mbox};
 pub use words::{Name, Text, is_name, is_text};

@@ -1,5 +1,6 @@
 use Rattle.std.proofs.Common.{◌≡◌}
-use Rattle.so_disp_excl.specs.Pick.{open_front, least_below}
+use Rattle.so_queue.specs.Picks.{least_below}
+use Rattle.so_disp_excl.specs.Pick.{open_front}
 use Rattle.so_disp_excl.proofs.plain.plain_pick.Given as goal
 
 abbrev pub invariant-loop-key : goal.invariant-loop-key

@@ -8,4 +8,4 @@ queue-requires c = c.requires.key
 
 pub returns : goal.returns
 unfolding serves
-returns c = rw (c.serves.ensures, c.lane.ensures, c.queue.ensures) refl
+returns c = rw (c.serves.ensures, c.lane.ensures.value, c.queue.ensures.value) refl

@@ -4,8 +4,8 @@ use Rattle.std.proofs.lemmas.Bool.{cases_eq, cases_Bool}
 use Rattle.so_ids.specs.declared.DemandId.{DemandId}
 use Rattle.so_ids.specs.Ids.{is_earlier}
 use Rattle.so_queue.specs.Queues.{lesser}
-use Rattle.so_queue.proofs.OrderLaws.{not_both}
-use Rattle.so_disp_excl.specs.Pick.{least_below}
+use Rattle.so_queue.proofs.OrderLaws.{not_both, earlier_trans, later_or_same, later_trans}
+use Rattle.so_queue.specs.Picks.{least_below}
 
 pub least_none : (f : ℕ → Option DemandId) (n : ℕ) → ((k : ℕ) → k < n → f k ≡ None) → least_below f n ≡ None
 unfolding least_below
@@ -59,4 +59,58 @@ least_some f (suc n) k d l here first =
           (let before : k < n = omega arith in
           let rest = least_some f n k d before here (λ j e m apart is. first j e (omega arith) apart is) in
           rw rest (earlier_least d (f n) (λ e is. first n e (omega arith) (λ (x : n ≡ k). omega arith) is)))
+    ]
+
+-- ---- the lesser of two: their order and how they are joined make no difference
+
+lesser_none : (a : Option DemandId) → lesser a None ≡ a
+lesser_none None = refl
+lesser_none (Some d) = refl
+
+pub lesser_other_way : (a b : Option DemandId) → lesser a b ≡ lesser b a
+lesser_other_way None b = sym (lesser_none b)
+lesser_other_way (Some d) None = refl
+lesser_other_way (Some d) (Some e) =
+    elim (cases_Bool (is_earlier e d)) [
+      | inl t ↦ rw (t, not_both e d t) refl
+      | inr o ↦ elim (cases_Bool (is_earlier d e)) [ inl t ↦ rw (o, t) refl | inr p ↦ rw (o, p) (ap (λ (x : DemandId). Some x) (later_or_same d e p o)) ]
+    ]
+
+joined_some : (a b c : DemandId) → lesser (lesser (Some a) (Some b)) (Some c) ≡ lesser (Some a) (lesser (Some b) (Some c))
+joined_some a b c =
+    elim (cases_Bool (is_earlier b a)) [
+      | inl t ↦ elim (cases_Bool (is_earlier c b)) [ inl u ↦ rw (t, u, earlier_trans c b a u t) refl | inr o ↦ rw (t, o, t) refl ]
+      | inr f ↦ elim (cases_Bool (is_earlier c b)) [ inl u ↦ rw (f, u) refl | inr o ↦ rw (f, o, f, later_trans a b c f o) refl ]
+    ]
+
+pub lesser_joined : (a b c : Option DemandId) → lesser (lesser a b) c ≡ lesser a (lesser b c)
+lesser_joined None b c = refl
+lesser_joined (Some x) None c = refl
+lesser_joined (Some x) (Some y) None = lesser_none (lesser (Some x) (Some y))
+lesser_joined (Some x) (Some y) (Some z) = joined_some x y z
+
+lesser_swap : (a b c : Option DemandId) → lesser (lesser a b) c ≡ lesser (lesser a c) b
+lesser_swap a b c = lesser_joined a b c ∙ (ap (lesser a) (lesser_other_way b c) ∙ sym (lesser_joined a c b))
+
+-- ---- functions that give the same
+
+pub least_same : (f g : ℕ → Option DemandId) (n : ℕ) → ((k : ℕ) → k < n → f k ≡ g k) → least_below f n ≡ least_below g n
+unfolding least_below
+least_same f g zero same = refl
+least_same f g (suc n) same = rw (least_same f g n (λ k l. same k (omega arith)), same n (omega arith)) refl
+
+-- what gives one demand more
+pub least_more : (f g : ℕ → Option DemandId) (n k : ℕ) → k < n → f k ≡ None → ((j : ℕ) → j < n → j ≢ k → g j ≡ f j) → least_below g n ≡ lesser (least_below f n) (g k)
+unfolding least_below
+least_more f g zero k l none same = absurd (omega arith)
+least_more f g (suc n) k l none same =
+    elim (cases_eq k n) [
+      | inl here ↦
+          (let gone : f n ≡ None = ap f (sym here) ∙ none in
+          let rest = least_same g f n (λ j m. same j (omega arith) (λ (x : j ≡ k). omega arith)) in
+          rw (rest, gone, lesser_none (least_below f n), here) refl)
+      | inr other ↦
+          (let before : k < n = omega arith in
+          let rest = least_more f g n k before none (λ j m apart. same j (omega arith) apart) in
+          rw (rest, same n (omega arith) (λ (x : n ≡ k). omega arith)) (lesser_swap (least_below f n) (g k) (f n)))
     ]

@@ -1,16 +1,13 @@
--- The walk from front to front, until a queue is open.
-use Rattle.std.proofs.Common.{◌≡◌, ◌≢◌, ℕ, zero, suc, ◌+◌, ◌<◌, ◌≤◌, true, false, Option, Some, None, arith, refl, sym, ◌∙◌, ap, inl, inr, cond}
+-- A walk from front to front, which ends at the first queue from which a demand may be taken.
+use Rattle.std.proofs.Common.{◌≡◌, ℕ, zero, suc, ◌+◌, ◌<◌, ◌≤◌, true, false, Option, Some, None, arith, refl, sym, ◌∙◌, ap, inl, inr, cond}
 use Rattle.std.proofs.lemmas.Bool.{cases_eq, cases_Bool, false≢true}
 use Rattle.so_ids.specs.declared.DemandId.{DemandId}
 use Rattle.so_ids.specs.declared.KeyId.{KeyId}
-use Rattle.so_ids.specs.declared.LaneId.{LaneId}
 use Rattle.so_ids.specs.Ids.{is_earlier}
-use Rattle.so_scene.specs.declared.parts.SceneParts.{SceneParts}
-use Rattle.so_scene.specs.Lanes.{keys}
 use Rattle.so_queue.specs.Queues.{QueueTable, keys_of, front_of_key, is_behind, IsNextKey}
-use Rattle.so_disp_excl.specs.Pick.{is_open, open_front, least_below, pick}
+use Rattle.so_queue.specs.Picks.{least_below}
 use Rattle.so_queue.proofs.OrderLaws.{earlier_trans, earlier_itself}
-use Rattle.so_disp_excl.proofs.LeastLaws.{least_none, least_some}
+use Rattle.so_queue.proofs.LeastLaws.{least_none, least_some}
 
 -- ---- how far the walk may go: the queues whose fronts are behind a demand
 
@@ -26,7 +23,7 @@ abbrev pub left : QueueTable → Option KeyId → ℕ
 left q None = 0
 left q (Some k) = suc (behind_below q (front_of_key q.lists k.0) (keys_of q))
 
-behind_trans : (after : Option DemandId) (f d : DemandId) → is_behind after f ≡ true → is_earlier f d ≡ true → is_behind after d ≡ true
+pub behind_trans : (after : Option DemandId) (f d : DemandId) → is_behind after f ≡ true → is_earlier f d ≡ true → is_behind after d ≡ true
 behind_trans None f d h g = refl
 behind_trans (Some a) f d h g = earlier_trans a f d h g
 
@@ -46,7 +43,7 @@ less_here : (after front : Option DemandId) (f : DemandId) → front ≡ Some f 
 less_here after None f e h = cc
 less_here after (Some d) f e h = let same : d ≡ f = cc in rw (same, earlier_itself f, h) (omega arith)
 
-pub less_below : (q : QueueTable) (after : Option DemandId) (f : DemandId) (k n : ℕ) → k < n → front_of_key q.lists k ≡ Some f → is_behind after f ≡ true → behind_below q (Some f) n < behind_below q after n
+less_below : (q : QueueTable) (after : Option DemandId) (f : DemandId) (k n : ℕ) → k < n → front_of_key q.lists k ≡ Some f → is_behind after f ≡ true → behind_below q (Some f) n < behind_below q after n
 less_below q after f k zero l e h = absurd (omega arith)
 less_below q after f k (suc n) l e h =
     elim (cases_eq k n) [
@@ -58,23 +55,27 @@ pub left_less : (q : QueueTable) (k : KeyId) (front : DemandId) (next : Option K
 left_less q k front None waits next = omega arith
 left_less q k front (Some m) waits next = rw next.waits (let l = less_below q (front_of_key q.lists k.0) next.front m.0 (keys_of q) next.within next.waits next.behind in omega arith)
 
--- ---- the walk: the queues whose fronts lie before are closed to the lane
+-- ---- the walk: of the queues whose fronts lie before, none may be taken
 
-pub record IsWalk (s : SceneParts) (q : QueueTable) (lane : LaneId) (at : Option KeyId) : Type 0 where
+-- what f gives of a queue is its front
+abbrev pub GivesFronts : QueueTable → (ℕ → Option DemandId) → Type 0
+GivesFronts q f = (j : ℕ) (d : DemandId) → f j ≡ Some d → front_of_key q.lists j ≡ Some d
+
+pub record IsWalk (q : QueueTable) (f : ℕ → Option DemandId) (at : Option KeyId) : Type 0 where
   pub after : Option DemandId
   pub next : IsNextKey q after at
-  pub closed : (j : ℕ) (d : DemandId) → j < keys_of q → front_of_key q.lists j ≡ Some d → is_behind after d ≡ false → is_open s q lane (record { 0 = j }) ≡ false
+  pub closed : (j : ℕ) (d : DemandId) → j < keys_of q → front_of_key q.lists j ≡ Some d → is_behind after d ≡ false → f j ≡ None
 
-pub walk_begins : (s : SceneParts) (q : QueueTable) (lane : LaneId) (at : Option KeyId) → IsNextKey q None at → IsWalk s q lane at
-walk_begins s q lane at next = record { after = None; next = next; closed = λ j d l is off. absurd (false≢true (sym off)) }
+pub walk_begins : (q : QueueTable) (f : ℕ → Option DemandId) (at : Option KeyId) → IsNextKey q None at → IsWalk q f at
+walk_begins q f at next = record { after = None; next = next; closed = λ j d l is off. absurd (false≢true (sym off)) }
 
-pub walk_goes : (s : SceneParts) (q : QueueTable) (lane : LaneId) (k : KeyId) (next : Option KeyId) → IsWalk s q lane (Some k) → is_open s q lane k ≡ false → IsNextKey q (front_of_key q.lists k.0) next → IsWalk s q lane next
-walk_goes s q lane k next w shut goes = record {
+pub walk_goes : (q : QueueTable) (f : ℕ → Option DemandId) (k : KeyId) (next : Option KeyId) → IsWalk q f (Some k) → f k.0 ≡ None → IsNextKey q (front_of_key q.lists k.0) next → IsWalk q f next
+walk_goes q f k next w shut goes = record {
   after = front_of_key q.lists k.0;
   next = goes;
   closed = λ j d l is off.
       elim (cases_eq j k.0) [
-        | inl same ↦ rw same shut
+        | inl same ↦ ap f same ∙ shut
         | inr other ↦
             elim (cases_Bool (is_behind w.after d)) [
               | inl t ↦ absurd (let e = w.next.least j d l other is t in false≢true (sym (rw w.next.waits at off) ∙ e))
@@ -83,28 +84,16 @@ walk_goes s q lane k next w shut goes = record {
       ];
 }
 
-shut_front : (s : SceneParts) (q : QueueTable) (lane : LaneId) (j : ℕ) → is_open s q lane (record { 0 = j }) ≡ false → open_front s q lane j ≡ None
-shut_front s q lane j off = rw off refl
-
-pub open_of : (s : SceneParts) (q : QueueTable) (lane : LaneId) (j : ℕ) (e : DemandId) → open_front s q lane j ≡ Some e → (is_open s q lane (record { 0 = j }) ≡ true) × (front_of_key q.lists j ≡ Some e)
-open_of s q lane j e is =
-    elim (cases_Bool (is_open s q lane (record { 0 = j }))) [
-      | inl t ↦ (t, rw t at is)
-      | inr o ↦ (let none = (rw o at is) in cc)
-    ]
-
--- where the key of the walk is open, its front is the pick
-pub walk_found : (s : SceneParts) (q : QueueTable) (lane : LaneId) (k : KeyId) (front : Option DemandId) → keys_of q ≡ keys s → IsWalk s q lane (Some k) → is_open s q lane k ≡ true → front ≡ front_of_key q.lists k.0 → front ≡ pick s q lane
-unfolding pick
-walk_found s q lane k front size w on is =
-    let within : k.0 < keys s = (let l = w.next.within in omega arith) in
-    let here : open_front s q lane k.0 ≡ Some w.next.front = rw on w.next.waits in
-    is ∙ (w.next.waits ∙ sym (least_some (open_front s q lane) (keys s) k.0 w.next.front within here (λ j e l apart has.
-    let o = open_of s q lane j e has in
+-- where the key of the walk may be taken from, its front is the least
+pub walk_found : (q : QueueTable) (f : ℕ → Option DemandId) (n : ℕ) (k : KeyId) (front : Option DemandId) → keys_of q ≡ n → GivesFronts q f → IsWalk q f (Some k) → f k.0 ≡ front_of_key q.lists k.0 → front ≡ front_of_key q.lists k.0 → front ≡ least_below f n
+walk_found q f n k front size gives w here is =
+    let within : k.0 < n = (let l = w.next.within in omega arith) in
+    is ∙ (w.next.waits ∙ sym (least_some f n k.0 w.next.front within (here ∙ w.next.waits) (λ j e l apart has.
+    let waits = gives j e has in
     let m : j < keys_of q = omega arith in
     elim (cases_Bool (is_behind w.after e)) [
-      | inl t ↦ w.next.least j e m apart o.1 t
-      | inr off ↦ absurd (false≢true (sym (w.closed j e m o.1 off) ∙ o.0))
+      | inl t ↦ w.next.least j e m apart waits t
+      | inr off ↦ (let shut = w.closed j e m waits off in cc)
     ])))
 
 some_front : (o : Option DemandId) → ((d : DemandId) → o ≡ Some d → ⊥) → o ≡ None
@@ -112,10 +101,9 @@ some_front None never = refl
 some_front (Some d) never = absurd (never d refl)
 
 -- and where the walk is over, there is none
-pub walk_over : (s : SceneParts) (q : QueueTable) (lane : LaneId) → keys_of q ≡ keys s → IsWalk s q lane None → None ≡ pick s q lane
-unfolding pick
-walk_over s q lane size w =
-    sym (least_none (open_front s q lane) (keys s) (λ j l. some_front (open_front s q lane j) (λ e has.
-    let o = open_of s q lane j e has in
+pub walk_over : (q : QueueTable) (f : ℕ → Option DemandId) (n : ℕ) → keys_of q ≡ n → GivesFronts q f → IsWalk q f None → None ≡ least_below f n
+walk_over q f n size gives w =
+    sym (least_none f n (λ j l. some_front (f j) (λ e has.
+    let waits = gives j e has in
     let m : j < keys_of q = omega arith in
-    false≢true (sym (w.closed j e m o.1 (w.next j e m o.1)) ∙ o.0))))
+    let shut = w.closed j e m waits (w.next j e m waits) in cc)))
