@@ -228,13 +228,16 @@ first_there : (s : SceneParts) (qs : List Demand) (p : ℕ) → some_of_priority
 first_there s qs p is = find_some (is_of_priority s p) qs is
 
 -- with priorities some priority has one
+highest_at : (s : SceneParts) (qs : List Demand) (p : ℕ) → find (some_of_priority s qs) from_highest ≡ Some p → (c : Demand) × (option_and_then (first_of_priority s qs) (find (some_of_priority s qs) from_highest) ≡ Some c)
+highest_at s qs p is =
+    let c = first_there s qs p (find-passes (some_of_priority s qs) from_highest p is) in
+    (c.0, ap (option_and_then (first_of_priority s qs)) is ∙ c.1)
+
 highest_there : (s : SceneParts) (qs : List Demand) (l : ℕ) → l ≤ 7 → some_of_priority s qs l ≡ true → (c : Demand) × (option_and_then (first_of_priority s qs) (find (some_of_priority s qs) from_highest) ≡ Some c)
 highest_there s qs l few is =
     let at : 7 - (7 - l) ≡ l = omega arith in
-    let any : list_any (some_of_priority s qs) from_highest ≡ true = any-each_below (some_of_priority s qs) (λ k. 7 - k) 8 (7 - l) (omega arith) (ap (some_of_priority s qs) at ∙ is) in
-    let p = find_some (some_of_priority s qs) from_highest any in
-    let c = first_there s qs p.0 (find-passes (some_of_priority s qs) from_highest p.0 p.1) in
-    (c.0, ap (option_and_then (first_of_priority s qs)) p.1 ∙ c.1)
+    let p = find_some (some_of_priority s qs) from_highest (any-each_below (some_of_priority s qs) (λ k. 7 - k) 8 (7 - l) (omega arith) (ap (some_of_priority s qs) at ∙ is)) in
+    highest_at s qs p.0 p.1
 
 -- the agents of a dispatcher that goes by rounds share its queue
 abbrev whole_queue : DispId → DispKind → Fifo → AgentId → AgentDef → Queue

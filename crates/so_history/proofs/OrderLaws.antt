@@ -1,8 +1,8 @@
 -- Demands of one queue are taken in order, and each turn begins as its demand says.
 use Rattle.std.proofs.Common.{◌≡◌, ℕ, ◌<◌, ◌≤◌, List, [], ◌∷◌, length, Bool, true, false, not, ◌&&◌, ◌||◌, Some, arith, refl, sym, ◌∙◌, ap, subst, inl, inr}
 use Rattle.std.specs.Prelude.{◌==◌}
-use Rattle.std.specs.List.{filter, find}
-use Rattle.std.proofs.lemmas.Bool.{cases_Bool, or_cases, and_left, ne_eqb, false≢true}
+use Rattle.std.specs.List.{find}
+use Rattle.std.proofs.lemmas.Bool.{cases_Bool, or_cases, and_left, eq-eqb, ne_eqb, false≢true}
 use Rattle.std.proofs.lemmas.Option.{same_Some}
 use Rattle.so_ids.specs.declared.AgentId.{AgentId}
 use Rattle.so_ids.specs.declared.LaneId.{LaneId}
@@ -11,10 +11,11 @@ use Rattle.so_ids.specs.declared.DemandId.{DemandId}
 use Rattle.so_ids.specs.declared.Opening.{Opening}
 use Rattle.so_ids.specs.declared.PartyId.{PartyId}
 use Rattle.so_ids.specs.Ids.{same_demand, is_earlier}
-use Rattle.so_lists.specs.Lists.{is_empty}
 use Rattle.so_lists.proofs.Filters.{each-weaker, find-filter, find_front}
 use Rattle.so_scene.specs.declared.parts.SceneParts.{SceneParts}
-use Rattle.so_scene.specs.Lanes.{key_of, serves}
+use Rattle.so_scene.specs.declared.lanes.Queue.{Queue}
+use Rattle.so_scene.specs.Parts.{agent_of, disp_of, priority_of}
+use Rattle.so_scene.specs.Lanes.{key_of}
 use Rattle.so_scene.proofs.LaneLaws.{same_queue-key}
 use Rattle.so_history.specs.declared.entry.Entry.{Entry}
 use Rattle.so_history.specs.declared.entry.EntryKind.{EntryKind}
@@ -23,14 +24,15 @@ use Rattle.so_history.specs.declared.entry.Demand.{Demand}
 use Rattle.so_history.specs.declared.entry.SkipWhy.{SkipWhy}
 use Rattle.so_history.specs.Places.{before}
 use Rattle.so_history.specs.Demands.{queued_by, demands, takes, taken, waiting, named, message_of, payload_in, payload_of, event_of, source_in, source_of}
-use Rattle.so_history.specs.Turns.{running_with}
+use Rattle.so_history.specs.Safety.{kind_of}
+use Rattle.so_history.specs.Heads.{is_of_priority}
 use Rattle.so_history.specs.Order.{may_take, pick, opening_of, skipped}
 use Rattle.so_history.specs.Steps.{IsTaking, IsRow, IsStep, Legal}
-use Rattle.so_history.specs.Facts.{StandsAt, ShareQueue, TakesAt, TakenBefore, InOrder, BeginsWith, SkipsWith, ByChoice}
+use Rattle.so_history.specs.Facts.{StandsAt, is_by_priority, ShareOrder, TakesAt, TakenBefore, InOrder, BeginsWith, SkipsWith, ByChoice}
 use Rattle.so_history.proofs.NameLaws.{same_place, found_by_name, found_least}
 use Rattle.so_history.proofs.DemandLaws.{queued_here, waiting_sorted, picked, takes_waiting, taken_early, demands_sorted}
 use Rattle.so_history.proofs.TakingLaws.{takes-taking, begins_as, skips_as}
-use Rattle.so_history.proofs.TurnLaws.{may_be_taken}
+use Rattle.so_history.proofs.HeadLaws.{find_within, is_queued_with, is_in_order_with, picked_waits, picked_in_order}
 use Rattle.so_history.proofs.PlaceLaws.{Where, is_last, is_early, place_of_entry, entry_at-last, entry_at-early, steps_at}
 
 or_true : (b : Bool) → (b || true) ≡ true
@@ -80,17 +82,27 @@ named_waits : (s : SceneParts) (h : List Entry) (d : Demand) → named d.id (dem
 unfolding waiting
 named_waits s h d there untaken = find-filter (λ x. same_demand d.id x.id) (λ x. not (taken h x.id)) (demands s h) d (rw untaken refl) there
 
--- a demand of the queue that is earlier than the one taken is not waiting any more
-earlier_taken : (s : SceneParts) (h : List Entry) (lane : LaneId) (c d : Demand) → pick s h lane ≡ Some d → named c.id (demands s h) ≡ Some c → key_of s c.agent ≡ key_of s d.agent → is_earlier c.id d.id ≡ true → taken h c.id ≡ true
-earlier_taken s h lane c d picks there key earlier =
+-- demands that are taken in order go by one order, told by a test
+and_or : (a b c : Bool) → a ≡ true → (b ≡ true → c ≡ true) → (a && (not b || c)) ≡ true
+and_or true true c e by = by refl
+and_or true false c e by = refl
+and_or false b c e by = cc
+
+in_order_with : (s : SceneParts) (c d : Demand) → ShareOrder s c.agent d.agent → is_in_order_with s d c ≡ true
+in_order_with s c d share =
+    let disp : (agent_of s d.agent).disp ≡ (agent_of s c.agent).disp = ap (λ (q : Queue). q.disp) (sym share.queue) in
+    let kind : kind_of s d.agent ≡ kind_of s c.agent = ap (λ x. (disp_of s x).kind) disp in
+    let key : (key_of s c.agent).0 ≡ (key_of s d.agent).0 = ap (λ (k : KeyId). k.0) (same_queue-key s c.agent d.agent share.queue) in
+    and_or (is_queued_with s d c) (is_by_priority (kind_of s d.agent)) (is_of_priority s (priority_of s d.agent).level c) (eq-eqb (key_of s c.agent).0 (key_of s d.agent).0 key)
+    (λ by. eq-eqb (priority_of s c.agent).level (priority_of s d.agent).level (share.priority (ap is_by_priority (sym kind) ∙ by)))
+
+-- a demand of the order that is earlier than the one taken is not waiting any more
+earlier_taken : (s : SceneParts) (h : List Entry) (lane : LaneId) (c d : Demand) → pick s h lane ≡ Some d → named c.id (demands s h) ≡ Some c → ShareOrder s c.agent d.agent → is_earlier c.id d.id ≡ true → taken h c.id ≡ true
+earlier_taken s h lane c d picks there share earlier =
     elim (cases_Bool (taken h c.id)) [
       | inl was ↦ was
       | inr waits ↦
-          (let found = (picked s h lane d picks).1 in
-          let may : may_take s h lane d ≡ true = may_be_taken s h lane (waiting s h) d found in
-          let P : KeyId → Type 0 = λ k. (serves s lane k && is_empty (running_with s h k)) ≡ true in
-          let its : may_take s h lane c ≡ true = subst P (sym key) may in
-          let not_earlier = found_least (may_take s h lane) (waiting s h) d c (waiting_sorted s h) its found (named_waits s h c there waits) in
+          (let not_earlier = found_least (is_in_order_with s d) (waiting s h) d c (waiting_sorted s h) (in_order_with s c d share) (picked_in_order s h lane d picks) (named_waits s h c there waits) in
           absurd (false≢true (sym not_earlier ∙ earlier)))
     ]
 
@@ -119,26 +131,26 @@ place_before : (a b : DemandId) → is_earlier a b ≡ true → a.place.0 ≤ b.
 place_before a b e = grind arith
 
 -- the entry takes the later demand
-now_case : (s : SceneParts) (e : Entry) (h : List Entry) (c d : Demand) → Legal s h → IsStep s h e → named c.id (demands s (e ∷ h)) ≡ Some c → named d.id (demands s (e ∷ h)) ≡ Some d → key_of s c.agent ≡ key_of s d.agent →
+now_case : (s : SceneParts) (e : Entry) (h : List Entry) (c d : Demand) → Legal s h → IsStep s h e → named c.id (demands s (e ∷ h)) ≡ Some c → named d.id (demands s (e ∷ h)) ≡ Some d → ShareOrder s c.agent d.agent →
     is_earlier c.id d.id ≡ true → takes e.kind d.id ≡ true → TakenBefore (e ∷ h) c.id (length h)
-now_case s e h c d legal step has_c has_d key earlier t =
+now_case s e h c d legal step has_c has_d share earlier t =
     let it = what s h e.by e.kind step.row d.id t in
     let waits = takes_waiting s h e.by e.kind step.row d.id t in
     let before_c : c.id.place.0 < length h = omega (arith, place_before c.id d.id earlier, waits.0) in
     let there_c : named c.id (demands s h) ≡ Some c = sym (named-early s e h c.id before_c) ∙ has_c in
     let there_d : named d.id (demands s h) ≡ Some d = sym (named-early s e h d.id waits.0) ∙ has_d in
     let waits_d : named d.id (waiting s h) ≡ Some d = named_waits s h d there_d waits.1 in
-    let by_name : named it.demand.id (waiting s h) ≡ Some it.demand = found_by_name (may_take s h it.lane) (waiting s h) it.demand (waiting_sorted s h) (picked s h it.lane it.demand it.picked).1 in
+    let by_name : named it.demand.id (waiting s h) ≡ Some it.demand = picked_waits s h it.lane it.demand it.picked in
     let same : Some it.demand ≡ Some d = sym by_name ∙ (ap (λ i. named i (waiting s h)) it.is ∙ waits_d) in
     let demand : it.demand ≡ d = same_Some it.demand d same in
     let picks : pick s h it.lane ≡ Some d = it.picked ∙ ap Some demand in
-    wider e h c.id (length h) (omega arith) (taken_somewhere h c.id (earlier_taken s h it.lane c d picks there_c key earlier))
+    wider e h c.id (length h) (omega arith) (taken_somewhere h c.id (earlier_taken s h it.lane c d picks there_c share earlier))
 
-order_case : (s : SceneParts) (e : Entry) (h : List Entry) (c d : Demand) (place : ℕ) → Legal s (e ∷ h) → named c.id (demands s (e ∷ h)) ≡ Some c → named d.id (demands s (e ∷ h)) ≡ Some d → ShareQueue s c.agent d.agent →
+order_case : (s : SceneParts) (e : Entry) (h : List Entry) (c d : Demand) (place : ℕ) → Legal s (e ∷ h) → named c.id (demands s (e ∷ h)) ≡ Some c → named d.id (demands s (e ∷ h)) ≡ Some d → ShareOrder s c.agent d.agent →
     is_earlier c.id d.id ≡ true → (takes : TakesAt (e ∷ h) place d.id) → Where e h place takes.entry → InOrder s h → TakenBefore (e ∷ h) c.id place
 order_case s e h c d place legal has_c has_d share earlier t (is_last at same) ih =
     let P : Entry → Type 0 = λ y. takes y.kind d.id ≡ true in
-    let it = now_case s e h c d legal.0 legal.1 has_c has_d (same_queue-key s c.agent d.agent share) earlier (subst P (sym same) t.takes) in
+    let it = now_case s e h c d legal.0 legal.1 has_c has_d share earlier (subst P (sym same) t.takes) in
     record { when = it.when; earlier = omega (arith, it.earlier, at); takes = it.takes }
 order_case s e h c d place legal has_c has_d share earlier t (is_early early there) ih =
     let old : TakesAt h place d.id = record { entry = t.entry; here = there; takes = t.takes } in
@@ -149,10 +161,6 @@ order_case s e h c d place legal has_c has_d share earlier t (is_early early the
 pub in_order : (s : SceneParts) (h : List Entry) → Legal s h → InOrder s h
 in_order s [] legal = λ c d place has_c has_d share earlier t. absurd (let e = t.here in cc)
 in_order s (e ∷ h) legal = λ c d place has_c has_d share earlier t. order_case s e h c d place legal has_c has_d share earlier t (place_of_entry e h place t.entry t.here) (in_order s h legal.0)
-
--- a demand that is picked waits under its name
-picked_waits : (s : SceneParts) (h : List Entry) (lane : LaneId) (d : Demand) → pick s h lane ≡ Some d → named d.id (waiting s h) ≡ Some d
-picked_waits s h lane d e = found_by_name (may_take s h lane) (waiting s h) d (waiting_sorted s h) (picked s h lane d e).1
 
 begins : (s : SceneParts) (h : List Entry) (by : PartyId) (lane : LaneId) (id : DemandId) (opening : Opening) (agent : AgentId) → IsTaking s h by lane (Begin lane (Some id) opening agent) → BeginsWith s h id opening agent
 begins s h by lane id opening agent row =
@@ -183,18 +191,6 @@ by_choice s h legal = record {
 }
 
 -- a demand that is picked is the one of its name, so that its turn begins with its message
-find_within : (p q : Demand → Bool) (ds : List Demand) (d : Demand) → find p (filter q ds) ≡ Some d → find (λ x. q x && p x) ds ≡ Some d
-find_within p q [] d e = absurd cc
-find_within p q (x ∷ ds) d e =
-    elim (cases_Bool (q x)) [
-      | inl y ↦
-          elim (cases_Bool (p x)) [
-            | inl z ↦ (let same : Some x ≡ Some d = rw (y, z) at e in rw (y, z) same)
-            | inr f ↦ (let rest : find p (filter q ds) ≡ Some d = rw (y, f) at e in rw (y, f) (find_within p q ds d rest))
-          ]
-      | inr f ↦ (let rest : find p (filter q ds) ≡ Some d = rw f at e in rw f (find_within p q ds d rest))
-    ]
-
 pub message_picked : (s : SceneParts) (h : List Entry) (lane : LaneId) (d : Demand) → pick s h lane ≡ Some d → message_of s h (Some d.id) ≡ payload_of d.kind
 unfolding waiting
 message_picked s h lane d e =

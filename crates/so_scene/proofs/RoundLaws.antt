@@ -63,6 +63,15 @@ next_has : (has : ℕ → Bool) (p : Priority) (o : Option Priority) → HasSome
 next_has has p None some is = absurd (false≢true (sym (none_within has 8 p some.at.level is some.at.in_range (all_within p.level some.at.level p.in_range some.at.in_range)) ∙ some.here))
 next_has has p (Some q) some is = found_has has 8 p q is
 
+-- so a moved round stands at a priority that has a demand
+pub moved_has : (quotes : List ℕ) (has : ℕ → Bool) (r : Round) → HasSome has → has (moved quotes has r).priority.level ≡ true
+unfolding moved
+moved_has quotes has r some =
+    elim (cases_Bool (has_left quotes r && has r.priority.level)) [
+      | inl t ↦ rw t (and_parts (has_left quotes r) (has r.priority.level) t).1
+      | inr f ↦ rw f (next_has has r.priority (find (has_demand has) (priorities_after r.priority)) some refl)
+    ]
+
 -- and after the taking, one more of the moved round is used
 moves_on : (quotes : List ℕ) (has : ℕ → Bool) (r : Round) (p : Priority) → (has_left quotes r && has r.priority.level) ≡ false → has p.level ≡ true → after_taking quotes p r ≡ one_used (begun p)
 moves_on quotes has r p stops some =
