@@ -1,11 +1,13 @@
 -- The entries of the picks, and that a run that is not over goes on.
-use Rattle.std.proofs.Common.{◌≡◌, ℕ, ◌<◌, List, [], ◌∷◌, length, Bool, true, false, not, ◌&&◌, ◌||◌, cond, Option, Some, None, refl, sym, ◌∙◌, ap, subst, is_some}
+use Rattle.std.proofs.Common.{◌≡◌, ℕ, ◌<◌, List, [], ◌∷◌, length, Bool, true, false, not, ◌&&◌, ◌||◌, cond, Option, Some, None, refl, sym, ◌∙◌, ap, subst, is_some, inl, inr}
 use Rattle.std.specs.List.{find, AllByRecursion}
 use Rattle.std.specs.Option.{option_map, option_and_then}
+use Rattle.std.specs.Cmp.Derive.{both_true}
 use Rattle.std.proofs.lemmas.Bool.{and_parts, false≢true}
 use Rattle.so_ids.specs.declared.CoopId.{CoopId}
 use Rattle.so_ids.specs.declared.LaneId.{LaneId}
 use Rattle.so_ids.specs.declared.MsgId.{MsgId}
+use Rattle.so_ids.specs.declared.Opening.{Opening}
 use Rattle.so_ids.specs.declared.AgentId.{AgentId}
 use Rattle.so_ids.specs.declared.Payload.{Payload}
 use Rattle.so_ids.specs.declared.Target.{Target}
@@ -14,6 +16,7 @@ use Rattle.so_ids.specs.declared.Reason.{Reason}
 use Rattle.so_ids.specs.declared.Reason.TheVariants.{Shutdown}
 use Rattle.so_lists.specs.Lists.{is_empty, or_else, head, first_below}
 use Rattle.so_lists.proofs.Filters.{each-weaker}
+use Rattle.so_state.proofs.Lists.{find-keeps}
 use Rattle.so_lists.proofs.First.{or_else-none, or_else-swap, first_below-none, none-first_below, first_below-some, option_map-none}
 use Rattle.so_scene.specs.declared.parts.SceneParts.{SceneParts}
 use Rattle.so_code.specs.declared.effect.Answer.{Answer}
@@ -36,10 +39,11 @@ use Rattle.so_history.specs.Turns.{Started, running, running_at, running_on, run
 use Rattle.so_history.specs.Coops.{the_coop, tried, present, leaving, stopped, stop_asked, aborted, has_reason}
 use Rattle.so_history.specs.declared.entry.EventSource.{EventSource}
 use Rattle.so_history.specs.Units.{fits}
-use Rattle.so_history.specs.Order.{is_free, may_take, pick}
+use Rattle.so_history.specs.Order.{opening_of, is_allowed_beside, is_allowed, is_free, may_take, pick}
 use Rattle.so_history.specs.Steps.{choice_for, NamesEffect, may_leave, may_stop, is_idle, finished, is_over, answer_to_send, answer_of, entry_of, Legal}
 use Rattle.so_history.specs.Chain.{by_main, signed, next_of, turn_entry, turn_on, taking_entry, registration, leaving_entry, left_entry, stop_entry, tidying, lane_entry, first, fitting, next_entry, StopsAtLimit}
 use Rattle.so_history.proofs.DemandLaws.{pick-free, waiting_of}
+use Rattle.so_history.proofs.HeadLaws.{not_missed, HasNext, some_next}
 use Rattle.so_history.proofs.TurnLaws.{turn_of, at_looked_up, running_nowhere, running_at-nil}
 use Rattle.so_history.proofs.CourseLaws.{has_course}
 use Rattle.so_history.proofs.SoundLaws.{names_parts, course_sound}
@@ -194,16 +198,26 @@ no_turn s h lane scene legal e =
     no_move s h (running_on h lane)
     (each-weaker _ _ (λ t p. has_move s h t scene legal p.0) (running_on h lane) (at_looked_up lane_number h lane.0)) e
 
+-- where no turn runs, some lane may take the next demand of a queue
+allowed_free : (s : SceneParts) (a : AgentId) (begins : Opening) (runs : List Started) → runs ≡ [] → is_allowed_beside s a begins runs ≡ true
+allowed_free s a begins runs none = rw none refl
+
+taken_next : (s : SceneParts) (h : List Entry) → IsScene s → running h ≡ [] → HasNext s h → ((l : ℕ) → l < lanes s → find (may_take s h (record { 0 = l })) (waiting s h) ≡ None) → ⊥
+taken_next s h scene quiet has none =
+    let d : Demand = has.demand in
+    let known : d.agent.0 < length s.agents = find-keeps (λ x. x.agent.0 < length s.agents) has.passes (waiting s h) d (waiting_of s h scene) has.waits in
+    let lane = some_lane s d.agent scene known in
+    let free : is_allowed s h d ≡ true = allowed_free s d.agent (opening_of s h d) (running_with s h (key_of s d.agent)) (running_at-nil (key_number s) h (key_of s d.agent).0 quiet) in
+    let may : may_take s h lane.lane d ≡ true = both_true lane.serves (both_true has.next free) in
+    not_missed (may_take s h lane.lane) has.passes (waiting s h) d may (none lane.lane.0 lane.in_range) has.waits
+
 -- where no lane may take a demand and no turn runs, none waits
-nothing_waits : (s : SceneParts) (h : List Entry) (ds : List Demand) → IsScene s → running h ≡ [] → AllByRecursion (λ d. d.agent.0 < length s.agents) ds → ((l : ℕ) → l < lanes s → find (may_take s h (record { 0 = l })) ds ≡ None) → ds ≡ []
-nothing_waits s h [] scene quiet a e = refl
-nothing_waits s h (d ∷ ds) scene quiet a e =
-    let lane = some_lane s d.agent scene a.0 in
-    let free : is_empty (running_with s h (key_of s d.agent)) ≡ true = ap is_empty (running_at-nil (key_number s) h (key_of s d.agent).0 quiet) in
-    let may : may_take s h lane.lane d ≡ true = rw (lane.serves, free) refl in
-    let none : find (may_take s h lane.lane) (d ∷ ds) ≡ None = e lane.lane.0 lane.in_range in
-    let some : Some d ≡ None = rw may at none in
-    absurd cc
+nothing_waits : (s : SceneParts) (h : List Entry) → IsScene s → running h ≡ [] → ((l : ℕ) → l < lanes s → find (may_take s h (record { 0 = l })) (waiting s h) ≡ None) → waiting s h ≡ []
+nothing_waits s h scene quiet none =
+    elim (some_next s h (waiting_of s h scene)) [
+      | inl empty ↦ empty
+      | inr has ↦ absurd (taken_next s h scene quiet has none)
+    ]
 
 if_none : (b : Bool) (e : Entry) → cond b (Some e) None ≡ None → b ≡ false
 if_none true e h = cc
@@ -264,7 +278,7 @@ goes_on s h scene legal none =
     λ l k.
     let entry : taking_entry s h (record { 0 = l }) ≡ None = none-first_below (λ i. taking_entry s h (record { 0 = i })) (lanes s) rest.1 l k in
     sym (pick-free s h (record { 0 = l }) (ap is_empty (free l k))) ∙ option_map-none _ (pick s h (record { 0 = l })) entry in
-    over s h (nothing_waits s h (waiting s h) scene quiet (waiting_of s h scene) unpicked) quiet (registered_none h parts.0) (tidied_none s h rest.0)
+    over s h (nothing_waits s h scene quiet unpicked) quiet (registered_none h parts.0) (tidied_none s h rest.0)
 
 -- a simulation that stops before the run is over stops at a first step that doesn't fit
 end_fits : (s : SceneParts) (limit : ℕ) (h : List Entry) (x : Entry) (b : Bool) → fits s limit h x ≡ b → cond b (Some x) None ≡ None → fits s limit h x ≡ false

@@ -60,6 +60,7 @@ use Rattle.so_history.specs.declared.entry.EventSource.{EventSource}
 use Rattle.so_history.specs.Demands.{source_of, event_of}
 use Rattle.so_history.specs.Leaves.{leaves, leaf_of, switch_of}
 use Rattle.so_history.specs.Delivery.{active_rows, active_filters, chosen_for}
+use Rattle.so_history.specs.Safety.{is_safe}
 use Rattle.so_history.specs.Order.{opening_of, skipped}
 use Rattle.so_history.specs.Turns.{Course, move_of, answer_to, advanced, course}
 use Rattle.so_history.specs.Steps.{NamesEffect, answer_of, answer_to_send, answer_to_switch, choice_for, yes_where, may_subscribe, is_active, entry_of, IsRow, Legal}
@@ -382,7 +383,7 @@ module _ (s : SceneParts) (scene : IsScene s) where
         }
 
   begun_sound : (h : List Entry) (by : PartyId) (lane : LaneId) (demand : Option DemandId) (opening : Opening) (agent : AgentId) (vs : Vars) (ms : Payload) →
-      IsRow s h by (Begin lane demand opening agent) → IsSound s (record { agent = agent; event = event_of s h demand; frame = begun opening vs ms })
+      IsRow s h by (Begin lane demand opening agent) → IsSound s (record { agent = agent; safe = is_safe s agent opening; event = event_of s h demand; frame = begun opening vs ms })
   begun_sound h by lane demand opening agent vs ms row =
       let it = begins_as lane lane row.demand (opening_of s h row.demand) (skipped (opening_of s h row.demand)) demand opening agent row.is in
       let within : OpensWithin (length (states_of s agent)) opening = rw (it.opening_is, it.agent_is) (opening_within s h row.demand scene) in
