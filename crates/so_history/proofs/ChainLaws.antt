@@ -16,6 +16,7 @@ use Rattle.so_ids.specs.declared.Reason.{Reason}
 use Rattle.so_ids.specs.declared.Reason.TheVariants.{Shutdown}
 use Rattle.so_lists.specs.Lists.{is_empty, or_else, head, first_below}
 use Rattle.so_lists.proofs.Filters.{each-weaker}
+use Rattle.so_lists.proofs.Found.{not_missed}
 use Rattle.so_state.proofs.Lists.{find-keeps}
 use Rattle.so_lists.proofs.First.{or_else-none, or_else-swap, first_below-none, none-first_below, first_below-some, option_map-none}
 use Rattle.so_scene.specs.declared.parts.SceneParts.{SceneParts}
@@ -43,7 +44,7 @@ use Rattle.so_history.specs.Order.{opening_of, is_allowed_beside, is_allowed, is
 use Rattle.so_history.specs.Steps.{choice_for, NamesEffect, may_leave, may_stop, is_idle, finished, is_over, answer_to_send, answer_of, entry_of, Legal}
 use Rattle.so_history.specs.Chain.{by_main, signed, next_of, turn_entry, turn_on, taking_entry, registration, leaving_entry, left_entry, stop_entry, tidying, lane_entry, first, fitting, next_entry, StopsAtLimit}
 use Rattle.so_history.proofs.DemandLaws.{pick-free, waiting_of}
-use Rattle.so_history.proofs.HeadLaws.{not_missed, HasNext, some_next}
+use Rattle.so_history.proofs.HeadLaws.{HasNext, some_next}
 use Rattle.so_history.proofs.TurnLaws.{turn_of, at_looked_up, running_nowhere, running_at-nil}
 use Rattle.so_history.proofs.CourseLaws.{has_course}
 use Rattle.so_history.proofs.SoundLaws.{names_parts, course_sound}

@@ -1,10 +1,9 @@
 -- The demand that is next in a queue: it is the first of its queue, or of its priority there, and where one waits there is a next.
-use Rattle.std.proofs.Common.{◌≡◌, ℕ, ◌-◌, ◌<◌, ◌≤◌, List, [], ◌∷◌, length, Bool, true, false, not, ◌&&◌, ◌||◌, cond, Option, Some, None, arith, refl, sym, ◌∙◌, ap, subst, inl, inr}
+use Rattle.std.proofs.Common.{◌≡◌, ℕ, ◌-◌, ◌<◌, ◌≤◌, List, [], ◌∷◌, length, Bool, true, false, not, ◌&&◌, ◌||◌, Option, Some, None, arith, refl, sym, ◌∙◌, ap, subst, inl, inr}
 use Rattle.std.specs.Prelude.{◌==◌, ◌⊎◌}
-use Rattle.std.specs.List.{filter, find, list_any, AllByRecursion}
+use Rattle.std.specs.List.{filter, find, AllByRecursion}
 use Rattle.std.specs.Option.{option_and_then}
-use Rattle.std.proofs.lemmas.Bool.{cases_Bool, and_parts, eq-eqb, eqb-true, false≢true}
-use Rattle.std.proofs.lemmas.Option.{same_Some}
+use Rattle.std.proofs.lemmas.Bool.{and_parts, eq-eqb, eqb-true}
 use Rattle.so_ids.specs.declared.AgentId.{AgentId}
 use Rattle.so_ids.specs.declared.DispId.{DispId}
 use Rattle.so_ids.specs.declared.KeyId.{KeyId}
@@ -14,6 +13,7 @@ use Rattle.so_ids.specs.Ids.{same_demand}
 use Rattle.so_lists.specs.Lists.{head}
 use Rattle.so_lists.proofs.Any.{any-each_below}
 use Rattle.so_lists.proofs.Filters.{found}
+use Rattle.so_lists.proofs.Found.{find_within, find_narrower, find_some, any_wider}
 use Rattle.so_state.proofs.Lists.{find-passes}
 use Rattle.so_scene.specs.declared.lanes.Part.TheVariants as part
 use Rattle.so_scene.specs.declared.lanes.Queue.{Queue}
@@ -37,71 +37,6 @@ use Rattle.so_history.specs.Order.{is_allowed, may_take, pick}
 use Rattle.so_history.specs.Facts.{is_by_priority}
 use Rattle.so_history.proofs.NameLaws.{same_place, itself, found_by_name}
 use Rattle.so_history.proofs.DemandLaws.{waiting_sorted, picked}
-
--- ---- what is found
-
--- what is found among those that pass a test is the first that passes both
-find_case : {X : Type 0} (p q : X → Bool) (x d : X) (xs : List X) (b c : Bool) → q x ≡ b → p x ≡ c → find p (cond b (x ∷ filter q xs) (filter q xs)) ≡ Some d →
-    (find p (filter q xs) ≡ Some d → find (λ y. q y && p y) xs ≡ Some d) → cond (b && c) (Some x) (find (λ y. q y && p y) xs) ≡ Some d
-find_case p q x d xs true true on is e rest = let same : Some x ≡ Some d = rw is at e in same
-find_case p q x d xs true false on is e rest = rest (rw is at e)
-find_case p q x d xs false c on is e rest = rest e
-
-pub find_within : {X : Type 0} (p q : X → Bool) (xs : List X) (d : X) → find p (filter q xs) ≡ Some d → find (λ x. q x && p x) xs ≡ Some d
-find_within p q [] d e = absurd cc
-find_within p q (x ∷ xs) d e = find_case p q x d xs (q x) (p x) refl refl e (find_within p q xs d)
-
--- what is found by a test is found by a narrower one that it passes
-narrower_case : {X : Type 0} (p q : X → Bool) (x d : X) (xs : List X) (b c : Bool) → p x ≡ b → q x ≡ c → (q x ≡ true → p x ≡ true) → q d ≡ true → cond b (Some x) (find p xs) ≡ Some d →
-    (find p xs ≡ Some d → find q xs ≡ Some d) → cond c (Some x) (find q xs) ≡ Some d
-narrower_case p q x d xs true true on is wider it e rest = e
-narrower_case p q x d xs true false on is wider it e rest = let same : x ≡ d = same_Some x d e in absurd (false≢true (sym is ∙ (ap q same ∙ it)))
-narrower_case p q x d xs false true on is wider it e rest = absurd (false≢true (sym on ∙ wider is))
-narrower_case p q x d xs false false on is wider it e rest = rest e
-
-pub find_narrower : {X : Type 0} (p q : X → Bool) (xs : List X) (d : X) → ((x : X) → q x ≡ true → p x ≡ true) → q d ≡ true → find p xs ≡ Some d → find q xs ≡ Some d
-find_narrower p q [] d wider it e = absurd cc
-find_narrower p q (x ∷ xs) d wider it e = narrower_case p q x d xs (p x) (q x) refl refl (wider x) it e (find_narrower p q xs d wider it)
-
--- where some pass, one is found
-some_case : {X : Type 0} (p : X → Bool) (x : X) (xs : List X) (b : Bool) → p x ≡ b → (b || list_any p xs) ≡ true → (list_any p xs ≡ true → (y : X) × (find p xs ≡ Some y)) → (y : X) × (cond b (Some x) (find p xs) ≡ Some y)
-some_case p x xs true is e rest = (x, refl)
-some_case p x xs false is e rest = rest e
-
-find_some : {X : Type 0} (p : X → Bool) (xs : List X) → list_any p xs ≡ true → (y : X) × (find p xs ≡ Some y)
-find_some p [] e = absurd cc
-find_some p (x ∷ xs) e = some_case p x xs (p x) refl e (find_some p xs)
-
--- what is found by one test is not there where another that it passes finds none
-missed_case : {X : Type 0} (p q : X → Bool) (x y : X) (xs : List X) (b c : Bool) → p x ≡ b → q x ≡ c → p y ≡ true → cond b (Some x) (find p xs) ≡ None → cond c (Some x) (find q xs) ≡ Some y →
-    (find p xs ≡ None → find q xs ≡ Some y → ⊥) → ⊥
-missed_case p q x y xs true c on is it none some rest = cc
-missed_case p q x y xs false true on is it none some rest = let same : x ≡ y = same_Some x y some in false≢true (sym on ∙ (ap p same ∙ it))
-missed_case p q x y xs false false on is it none some rest = rest none some
-
-pub not_missed : {X : Type 0} (p q : X → Bool) (xs : List X) (y : X) → p y ≡ true → find p xs ≡ None → find q xs ≡ Some y → ⊥
-not_missed p q [] y it none some = cc
-not_missed p q (x ∷ xs) y it none some = missed_case p q x y xs (p x) (q x) refl refl it none some (not_missed p q xs y it)
-
--- where one of a part passes, one of a wider part does
-or_wider : (a b c : Bool) → (a || b) ≡ true → (b ≡ true → c ≡ true) → (a || c) ≡ true
-or_wider true b c e wider = refl
-or_wider false b c e wider = wider e
-
-or_second : (a b : Bool) → b ≡ true → (a || b) ≡ true
-or_second true b e = refl
-or_second false b e = e
-
-wider_case : {X : Type 0} (p q r : X → Bool) (x : X) (xs : List X) (b c : Bool) → q x ≡ b → r x ≡ c → (q x ≡ true → r x ≡ true) → list_any p (cond b (x ∷ filter q xs) (filter q xs)) ≡ true →
-    (list_any p (filter q xs) ≡ true → list_any p (filter r xs) ≡ true) → list_any p (cond c (x ∷ filter r xs) (filter r xs)) ≡ true
-wider_case p q r x xs true true on is wider e rest = or_wider (p x) _ _ e rest
-wider_case p q r x xs true false on is wider e rest = absurd (false≢true (sym is ∙ wider on))
-wider_case p q r x xs false true on is wider e rest = or_second (p x) _ (rest e)
-wider_case p q r x xs false false on is wider e rest = rest e
-
-any_wider : {X : Type 0} (p q r : X → Bool) (xs : List X) → ((x : X) → q x ≡ true → r x ≡ true) → list_any p (filter q xs) ≡ true → list_any p (filter r xs) ≡ true
-any_wider p q r [] wider e = e
-any_wider p q r (x ∷ xs) wider e = wider_case p q r x xs (q x) (r x) refl refl (wider x) e (any_wider p q r xs wider)
 
 -- ---- the next is the first
 
@@ -149,16 +84,6 @@ is_that : (d : Demand) (o : Option Demand) → is_it d o ≡ true → (c : Deman
 is_that d None e = absurd cc
 is_that d (Some c) e = (c, refl, e)
 
--- a demand that waits and is next is the first in its order
-next_first : (s : SceneParts) (h : List Entry) (d : Demand) → find (λ x. same_demand d.id x.id) (waiting s h) ≡ Some d → is_next s h d ≡ true → find (is_in_order_with s d) (waiting s h) ≡ Some d
-next_first s h d waits next =
-    let it = is_that d (next_by (kind_of s d.agent) s (waiting s h) (round s h) d.agent) next in
-    let first : find (goes_with (kind_of s d.agent) s d it.0) (waiting s h) ≡ Some it.0 = next_found (kind_of s d.agent) s (waiting s h) (round s h) d it.0 it.1 in
-    let named : find (λ x. same_demand it.0.id x.id) (waiting s h) ≡ Some it.0 = found_by_name _ (waiting s h) it.0 (waiting_sorted s h) first in
-    let id : it.0.id ≡ d.id = same_place it.0.id d.id it.2 in
-    let one : Some it.0 ≡ Some d = sym named ∙ (ap (λ (i : DemandId). find (λ x. same_demand i x.id) (waiting s h)) id ∙ waits) in
-    subst (λ c. find (goes_with (kind_of s d.agent) s d c) (waiting s h) ≡ Some c) (same_Some it.0 d one) first
-
 -- what a demand that is picked may be
 pub record MayTake (s : SceneParts) (h : List Entry) (lane : LaneId) (d : Demand) : Type 0 where
   pub serves : serves s lane (key_of s d.agent) ≡ true
@@ -176,9 +101,21 @@ picked_may s h lane d picks =
 pub picked_waits : (s : SceneParts) (h : List Entry) (lane : LaneId) (d : Demand) → pick s h lane ≡ Some d → find (λ x. same_demand d.id x.id) (waiting s h) ≡ Some d
 picked_waits s h lane d picks = found_by_name (may_take s h lane) (waiting s h) d (waiting_sorted s h) (picked s h lane d picks).1
 
--- it is the first that waits in its order
+-- it is the next of its queue
+next_named : (s : SceneParts) (h : List Entry) (d : Demand) → find (λ x. same_demand d.id x.id) (waiting s h) ≡ Some d → is_next s h d ≡ true → next_by (kind_of s d.agent) s (waiting s h) (round s h) d.agent ≡ Some d
+next_named s h d waits next =
+    let it = is_that d (next_by (kind_of s d.agent) s (waiting s h) (round s h) d.agent) next in
+    let first : find (goes_with (kind_of s d.agent) s d it.0) (waiting s h) ≡ Some it.0 = next_found (kind_of s d.agent) s (waiting s h) (round s h) d it.0 it.1 in
+    let named : find (λ x. same_demand it.0.id x.id) (waiting s h) ≡ Some it.0 = found_by_name _ (waiting s h) it.0 (waiting_sorted s h) first in
+    let id : it.0.id ≡ d.id = same_place it.0.id d.id it.2 in
+    it.1 ∙ (sym named ∙ (ap (λ (i : DemandId). find (λ x. same_demand i x.id) (waiting s h)) id ∙ waits))
+
+pub picked_next : (s : SceneParts) (h : List Entry) (lane : LaneId) (d : Demand) → pick s h lane ≡ Some d → next_by (kind_of s d.agent) s (waiting s h) (round s h) d.agent ≡ Some d
+picked_next s h lane d picks = next_named s h d (picked_waits s h lane d picks) (picked_may s h lane d picks).next
+
+-- so the first that waits in its order
 pub picked_in_order : (s : SceneParts) (h : List Entry) (lane : LaneId) (d : Demand) → pick s h lane ≡ Some d → find (is_in_order_with s d) (waiting s h) ≡ Some d
-picked_in_order s h lane d picks = next_first s h d (picked_waits s h lane d picks) (picked_may s h lane d picks).next
+picked_in_order s h lane d picks = next_found (kind_of s d.agent) s (waiting s h) (round s h) d d (picked_next s h lane d picks)
 
 -- and so the first of its queue and priority
 both_or : (a b c : Bool) → (a && c) ≡ true → (a && (b || c)) ≡ true

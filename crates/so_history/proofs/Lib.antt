@@ -4,6 +4,7 @@ pub mod TakingLaws
 pub mod AskedLaws
 pub mod DemandLaws
 pub mod HeadLaws
+pub mod RoundLaws
 pub mod TurnLaws
 pub mod OpeningLaws
 pub mod CourseLaws

@@ -1,7 +1,6 @@
 -- Demands of one queue are taken in order, and each turn begins as its demand says.
 use Rattle.std.proofs.Common.{◌≡◌, ℕ, ◌<◌, ◌≤◌, List, [], ◌∷◌, length, Bool, true, false, not, ◌&&◌, ◌||◌, Some, arith, refl, sym, ◌∙◌, ap, subst, inl, inr}
 use Rattle.std.specs.Prelude.{◌==◌}
-use Rattle.std.specs.List.{find}
 use Rattle.std.proofs.lemmas.Bool.{cases_Bool, or_cases, and_left, eq-eqb, ne_eqb, false≢true}
 use Rattle.std.proofs.lemmas.Option.{same_Some}
 use Rattle.so_ids.specs.declared.AgentId.{AgentId}
@@ -12,6 +11,7 @@ use Rattle.so_ids.specs.declared.Opening.{Opening}
 use Rattle.so_ids.specs.declared.PartyId.{PartyId}
 use Rattle.so_ids.specs.Ids.{same_demand, is_earlier}
 use Rattle.so_lists.proofs.Filters.{each-weaker, find-filter, find_front}
+use Rattle.so_lists.proofs.Found.{find_within}
 use Rattle.so_scene.specs.declared.parts.SceneParts.{SceneParts}
 use Rattle.so_scene.specs.declared.lanes.Queue.{Queue}
 use Rattle.so_scene.specs.Parts.{agent_of, disp_of, priority_of}
@@ -32,7 +32,7 @@ use Rattle.so_history.specs.Facts.{StandsAt, is_by_priority, ShareOrder, TakesAt
 use Rattle.so_history.proofs.NameLaws.{same_place, found_by_name, found_least}
 use Rattle.so_history.proofs.DemandLaws.{queued_here, waiting_sorted, picked, takes_waiting, taken_early, demands_sorted}
 use Rattle.so_history.proofs.TakingLaws.{takes-taking, begins_as, skips_as}
-use Rattle.so_history.proofs.HeadLaws.{find_within, is_queued_with, is_in_order_with, picked_waits, picked_in_order}
+use Rattle.so_history.proofs.HeadLaws.{is_queued_with, is_in_order_with, picked_waits, picked_in_order}
 use Rattle.so_history.proofs.PlaceLaws.{Where, is_last, is_early, place_of_entry, entry_at-last, entry_at-early, steps_at}
 
 or_true : (b : Bool) → (b || true) ≡ true

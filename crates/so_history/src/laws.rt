@@ -10,7 +10,7 @@ ghost use Rattle.so_history.specs.Chain.{first};
 ghost use Rattle.so_history.specs.Facts.{NoOverlap, TakenOnce, InOrder, ByChoice, WholeCoops, StartsAndFinishes};
 ghost use Rattle.so_history.specs.Sharing.{SharesByRule, NumbersQueues};
 
-/// Of two turns whose agents share a queue, the earlier ends before the later begins.
+/// Of two turns whose agents share a queue, the earlier ends before the later begins, unless both are thread-safe.
 pub fn no_overlap()
     ensures { (s : SceneParts) (h : List Entry) → Legal s h → NoOverlap s h }
 {}
@@ -20,7 +20,8 @@ pub fn taken_once()
     ensures { (s : SceneParts) (h : List Entry) → Legal s h → TakenOnce h }
 {}
 
-/// Of two demands whose agents share a queue, the later is taken only after the earlier.
+/// Of two demands whose agents share a queue, and have one priority where the dispatcher goes by priority, the later
+/// is taken only after the earlier.
 pub fn in_order()
     ensures { (s : SceneParts) (h : List Entry) → Legal s h → InOrder s h }
 {}

@@ -2,4 +2,5 @@ pub mod Any
 pub mod EachBelow
 pub mod Filters
 pub mod First
+pub mod Found
 pub mod Given
