@@ -40,14 +40,15 @@ use Rattle.so_history.proofs.DemandLaws.{waiting_sorted, picked}
 
 -- ---- the next is the first
 
--- a demand stands in the queue of another; and goes by the order of it, where it has its priority if the dispatcher goes by priority
+-- a demand that stands in the queue of another, and one that is taken in order with it: it also has its priority, where the
+-- dispatcher goes by priority
 abbrev pub is_queued_with : SceneParts → Demand → Demand → Bool
 is_queued_with s d x = (key_of s x.agent).0 == (key_of s d.agent).0
 
 abbrev pub is_in_order_with : SceneParts → Demand → Demand → Bool
 is_in_order_with s d x = is_queued_with s d x && (not (is_by_priority (kind_of s d.agent)) || is_of_priority s (priority_of s d.agent).level x)
 
--- stands in its queue, and has its priority
+-- and one of its queue and priority, whatever the dispatcher
 abbrev pub is_ranked_with : SceneParts → Demand → Demand → Bool
 is_ranked_with s d x = is_queued_with s d x && is_of_priority s (priority_of s d.agent).level x
 
@@ -66,7 +67,7 @@ module _ (s : SceneParts) (q : Demand → Bool) (ds : List Demand) (c : Demand) 
   highest_found None e = absurd cc
   highest_found (Some p) e = priority_found p e
 
--- the next in the queue of d is the first that goes with itself there
+-- the next in the queue of d is the first there, or the first there of its own priority
 abbrev goes_with : DispKind → SceneParts → Demand → Demand → Demand → Bool
 goes_with kind s d c x = is_queued_with s d x && (not (is_by_priority kind) || is_of_priority s (priority_of s c.agent).level x)
 
@@ -84,7 +85,7 @@ is_that : (d : Demand) (o : Option Demand) → is_it d o ≡ true → (c : Deman
 is_that d None e = absurd cc
 is_that d (Some c) e = (c, refl, e)
 
--- what a demand that is picked may be
+-- a demand that is picked is served by the lane, next in its queue, and allowed by the turns that run
 pub record MayTake (s : SceneParts) (h : List Entry) (lane : LaneId) (d : Demand) : Type 0 where
   pub serves : serves s lane (key_of s d.agent) ≡ true
   pub next : is_next s h d ≡ true
