@@ -1,7 +1,6 @@
 -- A queue without a demand has none that comes first.
-use Rattle.std.proofs.Common.{◌≡◌, ℕ, ◌+◌, ◌-◌, ◌*◌, ◌<◌, ◌≤◌, List, [], true, false, Option, Some, None, arith, refl, sym, ◌∙◌, ap, inl, inr}
+use Rattle.std.proofs.Common.{◌≡◌, ℕ, ◌-◌, ◌<◌, List, None, arith, refl, ap, inl, inr}
 use Rattle.std.proofs.lemmas.Bool.{cases_Bool}
-use Rattle.so_ids.specs.declared.DemandId.{DemandId}
 use Rattle.so_ids.specs.declared.KeyId.{KeyId}
 use Rattle.so_ids.specs.declared.LaneId.{LaneId}
 use Rattle.so_lists.proofs.First.{first_below-none}
@@ -12,9 +11,9 @@ use Rattle.so_scene.specs.declared.round.Round.{Round}
 use Rattle.so_scene.specs.Parts.{disp_of}
 use Rattle.so_scene.specs.Lanes.{queue_at}
 use Rattle.so_scene.specs.Rounds.{moved}
-use Rattle.so_queue.specs.Queues.{QueueTable, list_at, head_of, front_of_key}
+use Rattle.so_queue.specs.Queues.{QueueTable, head_of, front_of_key}
 use Rattle.so_queue.proofs.FrontLaws.{front-none}
-use Rattle.so_disp_prio.specs.Pick.{first_with, waits_with, from_top, head_by, round_of, head, is_open, open_head}
+use Rattle.so_disp_prio.specs.Pick.{first_with, waits_with, from_top, head_by, round_of, is_open, open_head}
 
 none_with : (q : QueueTable) (key : KeyId) (level : ℕ) → front_of_key q.lists key.0 ≡ None → level < 8 → first_with q key level ≡ None
 none_with q key level none l = ap head_of (front-none q.lists key.0 level none l)

@@ -1,8 +1,8 @@
-use Rattle.std.proofs.Common.{◌≡◌, ℕ, suc, ◌∷◌, ◌+◌, ◌-◌, ◌<◌, Bool, true, false, Option, Some, None, is_some, arith, refl, sym, ◌∙◌, ap}
+use Rattle.std.proofs.Common.{◌≡◌, ℕ, suc, ◌∷◌, ◌+◌, ◌-◌, ◌<◌, Bool, true, false, Option, Some, is_some, arith, refl, sym, ◌∙◌, ap}
 use Rattle.std.specs.Prelude.{unwrap_or}
 use Rattle.std.specs.List.{find}
 use Rattle.so_ids.specs.declared.Priority.{Priority}
-use Rattle.so_scene.specs.Rounds.{has_demand, next_lower, down_from, priorities_after}
+use Rattle.so_scene.specs.Rounds.{has_demand, next_lower, down_from}
 use Rattle.so_disp_prio.specs.Pick.{waits_with}
 use Rattle.so_disp_prio.proofs.head.next_priority.Goals as goal
 

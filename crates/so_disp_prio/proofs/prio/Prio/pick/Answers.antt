@@ -1,7 +1,6 @@
-use Rattle.std.proofs.Common.{◌≡◌, ◌<◌, Option, Some, None, sym, ◌∙◌, ap, subst}
+use Rattle.std.proofs.Common.{◌<◌, Option, None, sym, subst}
 use Rattle.so_ids.specs.declared.DemandId.{DemandId}
 use Rattle.so_ids.specs.declared.KeyId.{KeyId}
-use Rattle.so_queue.specs.Queues.{lesser}
 use Rattle.so_queue.proofs.WalkLaws.{left, left_less}
 use Rattle.so_disp_prio.specs.Pick.{open_head, pick}
 use Rattle.so_disp_prio.proofs.HeadLaws.{none_open}
