@@ -2,7 +2,6 @@
 ghost use Rattle.std.specs.Prelude.{◌≡◌, ◌<◌};
 ghost use Rattle.so_scene.specs.Lanes.{lanes, keys};
 ghost use Rattle.so_queue.specs.Queues.{keys_of};
-ghost use Rattle.so_queue.specs.Picks.{is_quiet};
 ghost use Rattle.so_disp_excl.specs.Pick.{is_open, pick};
 
 use so_ids::{DemandId, KeyId, LaneId};
@@ -33,14 +32,5 @@ pub(crate) fn is_open(scene: &Scene, queues: &Queues, lane: LaneId, key: KeyId) 
     requires key { key.0 < keys scene.now }
     ensures { result ≡ is_open scene.now queues.now lane key }
 {
-    scene.serves(lane, key) && is_quiet(queues, key)
-}
-
-/// Tells whether no turn of the queue runs.
-fn is_quiet(queues: &Queues, key: KeyId) -> bool
-    requires { key.0 < keys_of queues.now }
-    ensures { result ≡ is_quiet queues.now key }
-{
-    let (safe, exclusive) = queues.running(key);
-    safe == 0 && exclusive == 0
+    scene.serves(lane, key) && queues.is_quiet(key)
 }

@@ -90,15 +90,15 @@ not_both a b h =
 pub later_or_same : (a b : DemandId) → is_earlier a b ≡ false → is_earlier b a ≡ false → a ≡ b
 later_or_same a b h g =
     let places : a.place.0 ≡ b.place.0 =
-        elim (cases_lt a.place.0 b.place.0) [
-          | inl l ↦ absurd (false≢true (sym h ∙ earlier_at_once a b l))
-          | inr m ↦ elim (cases_lt b.place.0 a.place.0) [ inl l ↦ absurd (false≢true (sym g ∙ earlier_at_once b a l)) | inr n ↦ omega arith ]
-        ] in
+    elim (cases_lt a.place.0 b.place.0) [
+      | inl l ↦ absurd (false≢true (sym h ∙ earlier_at_once a b l))
+      | inr m ↦ elim (cases_lt b.place.0 a.place.0) [ inl l ↦ absurd (false≢true (sym g ∙ earlier_at_once b a l)) | inr n ↦ omega arith ]
+    ] in
     let numbers : a.k ≡ b.k =
-        elim (cases_lt a.k b.k) [
-          | inl l ↦ absurd (false≢true (sym h ∙ earlier_there a b places l))
-          | inr m ↦ elim (cases_lt b.k a.k) [ inl l ↦ absurd (false≢true (sym g ∙ earlier_there b a (sym places) l)) | inr n ↦ omega arith ]
-        ] in
+    elim (cases_lt a.k b.k) [
+      | inl l ↦ absurd (false≢true (sym h ∙ earlier_there a b places l))
+      | inr m ↦ elim (cases_lt b.k a.k) [ inl l ↦ absurd (false≢true (sym g ∙ earlier_there b a (sym places) l)) | inr n ↦ omega arith ]
+    ] in
     ap (λ (n : ℕ). record { place = record { 0 = n }; k = a.k }) places ∙ ap (λ (n : ℕ). record { place = record { 0 = b.place.0 }; k = n }) numbers
 
 -- and what is not later than a later one is earlier
