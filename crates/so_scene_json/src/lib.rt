@@ -14,6 +14,7 @@ mod defs;
 mod finish;
 mod groups;
 mod known;
+mod probe;
 mod read;
 mod scope;
 mod shape;
