@@ -6,5 +6,6 @@ pub mod Joined
 pub mod Numbers
 pub mod Passed
 pub mod Runs
+pub mod Said
 pub mod Shapes
 pub mod Written
