@@ -85,6 +85,7 @@ message_signal m = m.signal
 pub record AreMessages (names : Declared) (messages : List MessageDef) : Type 0 where
   pub few : length names.messages ≤ 256
   pub named : AllByRecursion (λ name. is_name name ≡ true) names.messages
+  pub count : length messages ≡ length names.messages
   pub signals : map message_signal messages ≡ names.signals
 
 signal_there : (messages : List MessageDef) (n : ℕ) → slice_index_or (map message_signal messages) n false ≡ (slice_index_or messages n no_message).signal
