@@ -63,11 +63,11 @@ use Rattle.so_scene_json.specs.Visits.{Visit, enters, tries, leaves, Place, run,
 use Rattle.so_scene_json.specs.Shape.{shape_step}
 use Rattle.so_scene_json.specs.Scope.{ids_of, state_items, row_items, filter_items, scope_of, state_number}
 use Rattle.so_scene_json.specs.Numbers.{HasNumbers, HaveNumbers}
-use Rattle.so_scene_json.specs.Twice.{is_signal, twice_step, disp_number, disp_number_in, kinds_in, no_names, names_in, with_name, entering, declared_name, with_mbox_read, with_mboxes, with_field}
+use Rattle.so_scene_json.specs.Twice.{is_signal, twice_step, disp_number, kinds_in, no_names, names_in, with_name, entering, declared_name, with_mbox_read, with_mboxes, with_field}
 use Rattle.so_scene_json.specs.Known.{known_step, knows, kind_at}
 use Rattle.so_scene_json.specs.Groups.{names_for, names_at, with_group, group_number, group_lists}
 use Rattle.so_scene_json.specs.Defs.{var_at, vars_of, message_of, disp_of, disp_in, threads_in, state_named, state_in, state_of, states_of, row_of, rows_of, mbox_in, handler_kind, kind_of, number_named, narrow_or_zero, filter_of, filters_of, field_in}
-use Rattle.so_scene_json.specs.Build.{build_step, no_parts, agent_added, with_message, with_disp, with_coop, is_long, unless_broken, tree_of, with_tree, with_code, with_agent, agent_with, agent_of, agent_written, fresh, written}
+use Rattle.so_scene_json.specs.Build.{build_step, no_parts, agent_added, with_message, with_disp, with_coop, is_long, unless_broken, with_tree, with_code, with_agent, agent_with, agent_of, agent_written, fresh, written}
 use Rattle.so_scene_json.specs.Scene.{fields, no_state, exceeds, fault_of, first_fault, is_refused, coops_of, only, parts_of}
 use Rattle.so_scene_json.specs.Kept.{IsBuiltRow, IsBuiltFilter, IsBuiltAgent, AreBuiltGroups, disp_kind, agent_group, is_on, uses_on, texts_of, named_among, IsBuilt, IsChecked}
 use Rattle.so_scene_json.proofs.Grouped.{AreNames, NamedIfGiven, few_more, names_more, number_below, numbered_more, group_names_more, no_group_names, no_group_uses}

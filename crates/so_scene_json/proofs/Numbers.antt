@@ -1,5 +1,5 @@
 -- What is read has numbers of 64 bits, and so has every part of it.
-use Rattle.std.proofs.Common.{◌≡◌, ℕ, zero, suc, ◌<◌, ◌≤◌, ◌^◌, ℤ, pos, negsuc, List, [], ◌∷◌, ◌++◌, map, Bool, true, false, ◌&&◌, nat_lt, nat_le, if◌then◌else◌, Option, Some, None, option_map, option_and_then, bytes_eq, codes, Ordering, Less, Equal, Greater, nat_cmp, refl, subst, arith}
+use Rattle.std.proofs.Common.{◌≡◌, ℕ, zero, suc, ◌<◌, ◌≤◌, ◌^◌, ℤ, pos, List, [], ◌∷◌, Bool, true, false, ◌&&◌, nat_lt, nat_le, if◌then◌else◌, Option, Some, None, option_map, option_and_then, bytes_eq, codes, Ordering, Less, Equal, Greater, nat_cmp, refl, subst, arith}
 use Rattle.std.proofs.lemmas.Bool.{and_parts, ltb-true, leb-true, lt-ltb}
 use Rattle.std.specs.List.{AllByRecursion}
 use Rattle.std.specs.Prelude.{slice_index, ◌==◌, drop}
@@ -11,7 +11,7 @@ use Rattle.fast_float.specs.Text.{minus, Parts, scan, digits_of, nearest, with_s
 use Rattle.json.specs.Json as json
 use Rattle.json.specs.Lex.{tokens}
 use Rattle.serde_json.specs.Data.{Num, unsigned, negative, float, Data, null, boolean, number, string, array, object, Items, no_items, item, Members, no_members, member, put}
-use Rattle.serde_json.specs.Find.{get, get_member, get_item, as_i64, as_number}
+use Rattle.serde_json.specs.Find.{get, get_member, get_item, as_i64}
 use Rattle.serde_json.specs.Read.{read, max_depth, of_json, of_items, of_members, number_of, number_from, float_of, is_integer}
 use Rattle.so_code.specs.declared.instr.Operand.{Operand}
 use Rattle.so_code.specs.declared.instr.Operand.TheVariants as operand
@@ -25,7 +25,7 @@ use Rattle.so_scene_json.specs.declared.table.Rule.{Rule}
 use Rattle.so_scene_json.specs.Numbers.{IsNum, HasNumbers, HaveNumbers, MembersHaveNumbers, EntersNumbers}
 use Rattle.so_scene_json.specs.Scene.{reading}
 use Rattle.so_scene_json.specs.Table.{rules_of, objects_of}
-use Rattle.so_scene_json.specs.Visits.{Visit, enters, tries, leaves, Place, visits, fields_of, field_visits, in_objects, items_from, at_item, at_key, list_of, listed}
+use Rattle.so_scene_json.specs.Visits.{Visit, leaves, Place, visits, fields_of, field_visits, in_objects, items_from, at_item, at_key, list_of, listed}
 use Rattle.so_lists.proofs.Filters.{each-append}
 
 abbrev pub OnSome : {X : Type 0} → (X → Type 0) → Option X → Type 0

@@ -14,7 +14,6 @@ mod defs;
 mod finish;
 mod groups;
 mod known;
-mod probe;
 mod read;
 mod scope;
 mod shape;
