@@ -6,4 +6,5 @@ pub mod Joined
 pub mod Passed
 pub mod Runs
 pub mod Shapes
+pub mod Uses
 pub mod Written

@@ -1,0 +1,13 @@
+pub mod Named
+pub mod Shown
+pub mod Walks
+pub mod ActLaws
+pub mod BodyLaws
+pub mod ObjectLaws
+pub mod Kept
+pub mod AgentLaws
+pub mod SceneLaws
+pub mod Listed
+pub mod Joined
+pub mod Depths
+pub mod Written
