@@ -185,7 +185,7 @@ given_own d (Some name) groups few = (numbers d name groups).given (omega (arith
 disp_of_number : ℕ → DispId
 disp_of_number k = record { 0 = k }
 
-same_disp : (d e : DispId) → (e.0 == d.0) ≡ true → e ≡ d
+pub same_disp : (d e : DispId) → (e.0 == d.0) ≡ true → e ≡ d
 unfolding disp_of_number
 same_disp d e is = ap disp_of_number (exact_unsigned_eq e.0 d.0 is)
 

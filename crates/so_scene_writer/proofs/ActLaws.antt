@@ -27,7 +27,8 @@ use Rattle.so_scene.specs.declared.parts.MessageDef.{MessageDef}
 use Rattle.so_scene.specs.declared.parts.SceneParts.{SceneParts}
 use Rattle.so_scene.specs.Checked.{IsScene, IsAgent, NamesParts, HasId, given, filter_ids, filter_id}
 use Rattle.so_scene.specs.Names.{number_in, has_name}
-use Rattle.so_scene.specs.Parts.{message_of, message_name, agent_name, mbox_names, mboxes, mbox_name, no_message, text_of}
+use Rattle.so_scene.specs.declared.parts.DispKind.TheVariants.{OneThread}
+use Rattle.so_scene.specs.Parts.{message_of, message_name, agent_name, disp_name, mbox_names, mboxes, mbox_name, no_message, text_of}
 use Rattle.so_scene.specs.Words.{is_name, is_text}
 use Rattle.so_scene_json.specs.declared.act_table.Allowed.{Allowed}
 use Rattle.so_scene_json.specs.declared.act_table.Allowed.TheVariants.{AnyAct, NoSwitch}
@@ -44,6 +45,7 @@ use Rattle.so_scene_json.specs.declared.write.Writer.{Writer}
 use Rattle.so_scene_json.specs.ActTable.{is_allowed, args_of, needed_of, four_operands}
 use Rattle.so_scene_json.specs.Acts.{act_trouble, args_trouble, fits, parts_trouble}
 use Rattle.so_scene_json.specs.Build.{allowed_in}
+use Rattle.so_scene_json.specs.Kept.{disp_kind}
 use Rattle.so_scene_json.specs.Known.{act_unknown, absent_from, has_signal, signal_trouble}
 use Rattle.so_scene_json.specs.Scope.{all_states, state_number, number_with}
 use Rattle.so_scene_json.specs.Twice.{names_in}
@@ -51,7 +53,8 @@ use Rattle.so_scene_json.specs.Values.{name_of, text_of as text_read, text_or_em
 use Rattle.so_scene_json.specs.Visits.{narrow}
 use Rattle.so_scene_json.specs.Writer.{act_written, with_instr, or_idle, state_id}
 use Rattle.so_scene_writer.specs.ActData.{text_data, message_text, state_text, id_text, act_data, act_of, act_one, args_data, operand_data, target_text}
-use Rattle.so_scene_writer.specs.Writable.{IsName, IsText, IsStateName, IsWritable, IsWritableAgent, IsWrittenInstr, AreWritten, next_text, IsNumbered, Fits, ArePadded}
+use Rattle.so_scene.specs.Written.{AreOperands, IsOperand as Fits, ArePadded}
+use Rattle.so_scene_writer.proofs.Writable.{IsName, IsText, IsStateName, IsWritable, IsWritableAgent, IsWrittenInstr, next_text, IsNumbered}
 use Rattle.so_scene_writer.proofs.Named.{each_of, each_at, name_utf8, text_utf8, swap, number_at, number_take, new_take, id_number, id_legal, HasIdAt, within}
 use Rattle.so_scene_writer.proofs.Shown.{operand_again, dest_again, cmp_again, count_again, args_len, args_one, args_two, operands_of}
 
@@ -123,6 +126,8 @@ pub record Stands (s : SceneParts) (names : Declared) : Type 0 where
   pub mboxes : names.mboxes ≡ s.mboxes
   pub messages : names.messages ≡ map message_name s.messages
   pub signals : names.signals ≡ map (λ (m : MessageDef). m.signal) s.messages
+  pub dispatchers : codes "default" ∷ names.dispatchers ≡ map disp_name s.dispatchers
+  pub kinds : OneThread ∷ names.kinds ≡ map disp_kind s.dispatchers
 
 abbrev pub scope_for : AgentDef → Scope
 scope_for a = record { states = a.state_names; rows = a.row_ids; filters = filter_ids a }
@@ -217,7 +222,7 @@ operands_fine (suc n) rest (suc used) [] h p = refl
 operands_fine (suc n) rest zero (a ∷ list) h p = refl
 operands_fine (suc n) rest (suc used) (a ∷ list) h p = rw (operand_again a h.0 p.0) (operands_fine n rest used list h.1 p.1)
 
-four_fine : (rest : ℕ) (args : Args) → AreArgs args → AreWritten args → args_trouble four_operands rest (args_data args) ≡ None
+four_fine : (rest : ℕ) (args : Args) → AreArgs args → AreOperands args → args_trouble four_operands rest (args_data args) ≡ None
 four_fine rest args h g = operands_fine 4 rest args.used args.list (operands_of args h) g.padded
 
 fine_when : (b : Body) (rest : ℕ) (w : Word) (ds : Items) (args : List Arg) → is_switch_word w ≡ false → args_of w ≡ Some args → needed_of w ≤ items_len ds → items_len ds ≤ length args
@@ -232,13 +237,13 @@ names_first : (rest : ℕ) (x y : List ℕ) (ds : Items) → is_name x ≡ true 
 unfolding args_trouble
 names_first rest x y ds e f g = rw (name_read x e, name_read y f) g
 
-log_fine : (b : Body) (rest : ℕ) (text : List ℕ) (args : Args) → is_text text ≡ true → AreArgs args → AreWritten args → act_trouble (allowed_in b) rest (act_of (codes "log") (item (text_data text) (args_data args))) ≡ None
+log_fine : (b : Body) (rest : ℕ) (text : List ℕ) (args : Args) → is_text text ≡ true → AreArgs args → AreOperands args → act_trouble (allowed_in b) rest (act_of (codes "log") (item (text_data text) (args_data args))) ≡ None
 log_fine b rest text args e h g =
     let few : args.used ≤ 4 = h.few in
     let len : items_len (args_data args) ≡ args.used = args_len args h g in
     fine_when b rest word.Log (item (text_data text) (args_data args)) (arg.Text ∷ four_operands) refl refl (omega arith) (omega arith) (text_first rest text (args_data args) e (four_fine rest args h g))
 
-send_fine : (b : Body) (rest : ℕ) (x y : List ℕ) (args : Args) → is_name x ≡ true → is_name y ≡ true → AreArgs args → AreWritten args
+send_fine : (b : Body) (rest : ℕ) (x y : List ℕ) (args : Args) → is_name x ≡ true → is_name y ≡ true → AreArgs args → AreOperands args
     → act_trouble (allowed_in b) rest (act_of (codes "send") (item (text_data x) (item (text_data y) (args_data args)))) ≡ None
 send_fine b rest x y args e f h g =
     let few : args.used ≤ 4 = h.few in
@@ -350,13 +355,13 @@ writer texts code scope = record { texts = texts; code = code; scope = scope }
 abbrev pub at : SceneParts → AgentDef → ℕ → List Instr → Writer
 at s a n code = record { texts = take n s.texts; code = code; scope = scope_for a }
 
-taken_len : {X : Type 0} (xs : List X) (n : ℕ) → n ≤ length xs → length (take n xs) ≡ n
+pub taken_len : {X : Type 0} (xs : List X) (n : ℕ) → n ≤ length xs → length (take n xs) ≡ n
 taken_len [] zero h = refl
 taken_len [] (suc n) h = absurd (omega arith)
 taken_len (x ∷ xs) zero h = refl
 taken_len (x ∷ xs) (suc n) h = ap suc (taken_len xs n (omega arith))
 
-more_texts : (xs : List (List ℕ)) (n : ℕ) → n < length xs → take n xs ++ get_or xs n [] ∷ [] ≡ take (suc n) xs
+pub more_texts : (xs : List (List ℕ)) (n : ℕ) → n < length xs → take n xs ++ get_or xs n [] ∷ [] ≡ take (suc n) xs
 more_texts [] n h = absurd (omega arith)
 more_texts (x ∷ xs) zero h = refl
 more_texts (x ∷ xs) (suc n) h = ap (λ (ys : List (List ℕ)). x ∷ ys) (more_texts xs n (omega arith))
@@ -390,7 +395,7 @@ few_filters s a k c e =
 pub narrow_small : (k : ℕ) → k < 2 ^ 32 → narrow k ≡ k
 narrow_small k l = omega arith
 
-log_new : (s : SceneParts) (a : AgentDef) (names : Declared) (b : Body) (rest n : ℕ) (code : List Instr) (args : Args) → Told s a → n < length s.texts → AreArgs args → AreWritten args
+log_new : (s : SceneParts) (a : AgentDef) (names : Declared) (b : Body) (rest n : ℕ) (code : List Instr) (args : Args) → Told s a → n < length s.texts → AreArgs args → AreOperands args
     → act_written names (allowed_in b) rest (at s a n code) (act_data s a (instr.Log (record { 0 = n }) args)) ≡ at s a (suc n) (code ++ instr.Log (record { 0 = n }) args ∷ [])
 log_new s a names b rest n code args c l h g =
     let few : length s.texts ≤ 4096 = c.scene.few_texts in
@@ -399,14 +404,14 @@ log_new s a names b rest n code args c l h g =
     rw (may b word.Log refl, text_utf8 _ legal, legal, new_take s.texts n c.scene.each_text_once l, args_one (string (text_of s (record { 0 = n }))) args h g, len, narrow_small n (omega arith))
     (ap (λ (ts : List (List ℕ)). writer ts (code ++ instr.Log (record { 0 = n }) args ∷ []) (scope_for a)) (more_texts s.texts n l))
 
-log_old : (s : SceneParts) (a : AgentDef) (names : Declared) (b : Body) (rest n : ℕ) (code : List Instr) (text : TextId) (args : Args) → Told s a → text.0 < n → n ≤ length s.texts → AreArgs args → AreWritten args
+log_old : (s : SceneParts) (a : AgentDef) (names : Declared) (b : Body) (rest n : ℕ) (code : List Instr) (text : TextId) (args : Args) → Told s a → text.0 < n → n ≤ length s.texts → AreArgs args → AreOperands args
     → act_written names (allowed_in b) rest (at s a n code) (act_data s a (instr.Log text args)) ≡ at s a n (code ++ instr.Log text args ∷ [])
 log_old s a names b rest n code text args c l m h g =
     let few : length s.texts ≤ 4096 = c.scene.few_texts in
     let legal : is_text (text_of s text) ≡ true = text_legal s text c.writable (omega arith) in
     rw (may b word.Log refl, text_utf8 _ legal, legal, number_take s.texts n text.0 c.scene.each_text_once l m, args_one (string (text_of s text)) args h g, narrow_small text.0 (omega arith))
 
-log_at : (s : SceneParts) (a : AgentDef) (names : Declared) (b : Body) (rest n : ℕ) (code : List Instr) (text : TextId) (args : Args) (same : Bool) → Told s a → text.0 < length s.texts → text.0 ≤ n → n ≤ length s.texts → AreArgs args → AreWritten args → (text.0 == n) ≡ same
+log_at : (s : SceneParts) (a : AgentDef) (names : Declared) (b : Body) (rest n : ℕ) (code : List Instr) (text : TextId) (args : Args) (same : Bool) → Told s a → text.0 < length s.texts → text.0 ≤ n → n ≤ length s.texts → AreArgs args → AreOperands args → (text.0 == n) ≡ same
     → act_written names (allowed_in b) rest (at s a n code) (act_data s a (instr.Log text args)) ≡ at s a (if same then suc n else n) (code ++ instr.Log text args ∷ [])
 log_at s a names b rest n code text args true c l m k h g e =
     let is : text.0 ≡ n = eqb-true text.0 n e in
@@ -416,7 +421,7 @@ log_at s a names b rest n code text args false c l m k h g e =
     log_old s a names b rest n code text args c (less text.0 n m other) k h g
 
 send_at_again : (names : Declared) (b : Body) (rest : ℕ) (w : Writer) (x y : List ℕ) (i j : ℕ) (args : Args) → is_utf8 x ≡ true → is_utf8 y ≡ true → number_in (names_in space.Mboxes names) x ≡ Some i → number_in names.messages y ≡ Some j
-    → i < 2 ^ 32 → j < 2 ^ 32 → AreArgs args → AreWritten args
+    → i < 2 ^ 32 → j < 2 ^ 32 → AreArgs args → AreOperands args
     → act_written names (allowed_in b) rest w (act_of (codes "send") (item (text_data x) (item (text_data y) (args_data args)))) ≡ with_instr (instr.Send (Mbox (record { 0 = i })) (record { 0 = j }) args) w
 send_at_again names b rest w x y i j args e f p q k l h g =
     rw (may b word.Send refl, e, f, p, q, narrow_small i k, narrow_small j l) (ap (λ (z : Args). with_instr (instr.Send (Mbox (record { 0 = i })) (record { 0 = j }) z) w) (args_two (string x) (string y) args h g))

@@ -32,7 +32,9 @@ use Rattle.so_scene_json.specs.Writer.{with_instr, act_written, acts_written, st
 use Rattle.so_scene_writer.specs.Sources.{acts_in, behind, StateSource, RowSource, state_source, row_source, states_in, behind_states, behind_row, rows_in, states_of, rows_of}
 use Rattle.so_scene_writer.specs.ActData.{act_data, acts_data}
 use Rattle.so_scene_writer.specs.Canonical.{state_data, row_data, do_data, agent_data}
-use Rattle.so_scene_writer.specs.Writable.{IsWrittenInstr, are_short, next_text, texts_behind, IsNumbered, AreNumbered}
+use Rattle.so_scene.specs.Written.{are_short}
+use Rattle.so_scene_writer.proofs.Found.{agent_plain, got}
+use Rattle.so_scene_writer.proofs.Writable.{IsWrittenInstr, next_text, texts_behind, IsNumbered, AreNumbered}
 use Rattle.so_scene_writer.proofs.Named.{and_true, each_of}
 use Rattle.so_scene_writer.proofs.Walks.{shown_len}
 use Rattle.so_scene_writer.proofs.ActLaws.{Stands, Told, IsTold, at, scope_for, act_again, narrow_small}
@@ -287,9 +289,13 @@ rows_step s a names last total i (id ∷ ids) (x ∷ rows) left w c st e l h g =
 ap2_at : (s : SceneParts) (a : AgentDef) (m n : ℕ) (x y : List Instr) → m ≡ n → x ≡ y → at s a m x ≡ at s a n y
 ap2_at s a m n x y e f = rw (e, f)
 
-pub agent_again : (s : SceneParts) (a : AgentDef) (names : Declared) (texts : ℕ) → Told s a → Stands s names → AreNumbered texts a.code → texts ≤ length s.texts
-    → agent_written names (at s a texts []) (agent_data s a) ≡ at s a (texts_behind texts a.code) a.code
-agent_again s a names texts c st m l =
+-- the group isn't looked at
+plain_written : (s : SceneParts) (a : AgentDef) (names : Declared) (w : Writer) → agent_written names w (agent_data s a) ≡ agent_written names w (agent_plain s a)
+plain_written s a names w = rw (got s a (codes "start") (λ x y. refl), got s a (codes "finish") (λ x y. refl), got s a (codes "states") (λ x y. refl), got s a (codes "on") (λ x y. refl)) refl
+
+plain_again : (s : SceneParts) (a : AgentDef) (names : Declared) (texts : ℕ) → Told s a → Stands s names → AreNumbered texts a.code → texts ≤ length s.texts
+    → agent_written names (at s a texts []) (agent_plain s a) ≡ at s a (texts_behind texts a.code) a.code
+plain_again s a names texts c st m l =
     let laid = agent_laid s a c in
     let few : length a.tree ≤ 63 = c.agent.tree.few in
     let rows : length a.rows ≤ 128 = c.agent.few_rows in
@@ -299,3 +305,7 @@ agent_again s a names texts c st m l =
     let states = states_step s a names _ _ 1 a.state_names a.tree (behind (behind a.code)) (map body.Row (handlers a.rows)) _ c st c.agent.state_names (omega arith) laid.1.1 finished in
     let last = rows_step s a names _ _ 0 a.row_ids a.rows (behind_states (length a.tree) (behind (behind a.code))) _ c st c.agent.row_ids (omega arith) states.laid states.wrote in
     last.same ∙ ap2_at s a last.texts (texts_behind texts a.code) last.done a.code last.behind (sym (append-nil last.done) ∙ last.joined)
+
+pub agent_again : (s : SceneParts) (a : AgentDef) (names : Declared) (texts : ℕ) → Told s a → Stands s names → AreNumbered texts a.code → texts ≤ length s.texts
+    → agent_written names (at s a texts []) (agent_data s a) ≡ at s a (texts_behind texts a.code) a.code
+agent_again s a names texts c st m l = plain_written s a names (at s a texts []) ∙ plain_again s a names texts c st m l

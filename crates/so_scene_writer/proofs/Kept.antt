@@ -20,7 +20,8 @@ use Rattle.so_scene.specs.declared.parts.FilterDef.{FilterDef}
 use Rattle.so_scene.specs.declared.parts.SceneParts.{SceneParts}
 use Rattle.so_scene.specs.Checked.{has_handler, handlers, handlers_from, row_number, given, filter_id, filter_ids, IsFilter, IsRow, HasNoLimit}
 use Rattle.so_scene_writer.specs.Sources.{acts_in, behind, StateSource, RowSource, state_source, row_source, states_in, behind_states, behind_row, rows_in, states_of, rows_of}
-use Rattle.so_scene_writer.specs.Writable.{IsName, IsStateName, HasParent, FitsValue}
+use Rattle.so_scene.specs.Written.{HasParent}
+use Rattle.so_scene_writer.proofs.Writable.{IsName, IsStateName, FitsValue}
 use Rattle.so_scene_writer.proofs.Named.{each_of}
 use Rattle.so_scene_writer.proofs.ActLaws.{Told, IsTold}
 use Rattle.so_scene_writer.proofs.BodyLaws.{AreTold, IsLaid, AreLaid, agent_laid}

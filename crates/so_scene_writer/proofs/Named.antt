@@ -1,5 +1,5 @@
 -- Names and texts: what is legal is UTF-8, and each has its number.
-use Rattle.std.proofs.Common.{◌≡◌, ℕ, ◌+◌, ◌<◌, ◌≤◌, suc, zero, List, [], ◌∷◌, ◌++◌, length, get_or, take, map, Bool, true, false, cond, ◌&&◌, ◌||◌, nat_le, ◌==◌, not, Option, Some, None, is_some, refl, sym, ap, ◌∙◌, arith, bytes_eq, if◌then◌else◌}
+use Rattle.std.proofs.Common.{◌≡◌, ℕ, ◌+◌, ◌<◌, ◌≤◌, suc, zero, List, [], ◌∷◌, ◌++◌, length, get_or, take, map, Bool, true, false, cond, ◌&&◌, ◌||◌, nat_le, ◌==◌, not, Option, Some, None, is_some, refl, sym, ap, ◌∙◌, subst, append_assoc, arith, bytes_eq, if◌then◌else◌}
 use Rattle.std.specs.List.{All, AllByRecursion, IsDistinct, position, position_from, list_all}
 use Rattle.std.specs.Str.{is_utf8, IsUtf8}
 use Rattle.std.proofs.lemmas.Bool.{leb-true, eqb-true, true≢false}
@@ -103,6 +103,24 @@ new_take xs n d l = absent (take n xs) (get_or xs n []) (apart_take xs n d l)
 
 pub number_at : (xs : List (List ℕ)) (k : ℕ) → IsDistinct bytes_eq xs → k < length xs → number_in xs (get_or xs k []) ≡ Some k
 number_at xs k d l = sym (ap (λ (ys : List (List ℕ)). number_in ys (get_or xs k [])) (take_all (length xs) xs (omega arith))) ∙ number_take xs (length xs) k d l (omega arith)
+
+-- ---- a name behind others
+
+pub each_back : {X : Type 0} (P : X → Type 0) (xs ys : List X) → AllByRecursion P (xs ++ ys) → AllByRecursion P ys
+each_back P [] ys h = h
+each_back P (x ∷ xs) ys h = each_back P xs ys h.1
+
+pub front_new : (old new : List (List ℕ)) (x : List ℕ) → IsDistinct bytes_eq (old ++ x ∷ new) → AllByRecursion (λ y. bytes_eq x y ≡ false) old
+unfolding IsDistinct
+front_new [] new x d = tt
+front_new (y ∷ old) new x d = (swap y x (each_back (λ z. bytes_eq y z ≡ false) old (x ∷ new) d.0).0, front_new old new x d.1)
+
+-- the next name is new
+pub next_new : (old new : List (List ℕ)) (x : List ℕ) → IsDistinct bytes_eq (old ++ x ∷ new) → number_in old x ≡ None
+next_new old new x d = absent old x (front_new old new x d)
+
+pub next_distinct : (old new : List (List ℕ)) (x : List ℕ) → IsDistinct bytes_eq (old ++ x ∷ new) → IsDistinct bytes_eq ((old ++ x ∷ []) ++ new)
+next_distinct old new x d = subst (IsDistinct bytes_eq) (sym (append_assoc old (x ∷ []) new)) d
 
 -- ---- numbers of ids
 

@@ -53,7 +53,7 @@ use Rattle.so_scene_json.specs.Visits.{Visit, Place, visits, fields_of, field_vi
 use Rattle.so_scene_writer.specs.Sources.{StateSource, RowSource}
 use Rattle.so_scene_writer.specs.ActData.{text_data, message_text, state_text, act_data, acts_data, cmp_data, count_data}
 use Rattle.so_scene_writer.specs.Canonical.{message_data, state_data, filter_data, row_data, given, number_data, history_word}
-use Rattle.so_scene_writer.specs.Writable.{IsName, IsStateName, IsWritable, IsWritableAgent}
+use Rattle.so_scene_writer.proofs.Writable.{IsName, IsStateName, IsWritable, IsWritableAgent}
 use Rattle.so_scene_writer.proofs.Named.{name_utf8, swap, number_at}
 use Rattle.so_scene_writer.proofs.Shown.{number_again, cmp_again, count_again}
 use Rattle.so_scene_writer.proofs.Walks.{ok, AllFine, acts_fine, shown_len}

@@ -19,7 +19,7 @@ use Rattle.so_scene_json.specs.Values.{integer_of, operand_of, dest_of, cmp_of, 
 use Rattle.so_scene_json.specs.Writer.{args_from, operand_at}
 use Rattle.so_scene_writer.specs.ActData.{operand_data, dest_data, cmp_data, count_data, args_data}
 use Rattle.so_scene_writer.specs.Canonical.{number_data}
-use Rattle.so_scene_writer.specs.Writable.{Fits, fits_operand, ArePadded, AreWritten, is_zero}
+use Rattle.so_scene.specs.Written.{IsOperand as Fits, ArePadded, AreOperands, is_zero}
 
 pub number_again : (z : ℤ) → fits z ≡ true → integer_of (number_data z) ≡ Ok z
 number_again (pos n) e = rw e
@@ -134,7 +134,7 @@ operands_from (a ∷ list) h = (h 0 a refl, operands_from list (λ k b e. h (suc
 pub operands_of : (args : Args) → AreArgs args → AllByRecursion IsOperand args.list
 operands_of args h = operands_from args.list h.each
 
-pub args_len : (args : Args) → AreArgs args → AreWritten args → items_len (args_data args) ≡ args.used
+pub args_len : (args : Args) → AreArgs args → AreOperands args → items_len (args_data args) ≡ args.used
 args_len args h g = let four : length args.list ≡ 4 = g.four in let few : args.used ≤ 4 = h.few in used_len args.used args.list (omega arith)
 
 abbrev made : List Operand → ℕ → Args
@@ -146,19 +146,19 @@ args_same args xs n a b = rw (a, b)
 abbrev none : Operand
 none = operand.Num (pos 0)
 
-list_again : (args : Args) → AreArgs args → AreWritten args
+list_again : (args : Args) → AreArgs args → AreOperands args
     → operand_at 0 (args_data args) ∷ operand_at 1 (args_data args) ∷ operand_at 2 (args_data args) ∷ operand_at 3 (args_data args) ∷ [] ≡ args.list
 list_again args h g =
     let here : (i : ℕ) → operand_at i (args_data args) ≡ get_or args.list i none = λ i. operand_here args.used args.list i g.padded (operands_of args h) in
     rw (here 0, here 1, here 2, here 3) (four_of args.list none g.four)
 
-pub args_one : (d : Data) (args : Args) → AreArgs args → AreWritten args → args_from 1 (item d (args_data args)) ≡ args
+pub args_one : (d : Data) (args : Args) → AreArgs args → AreOperands args → args_from 1 (item d (args_data args)) ≡ args
 args_one d args h g =
     let few : args.used ≤ 4 = h.few in
     let len : items_len (args_data args) ≡ args.used = args_len args h g in
     args_same args _ _ (list_again args h g) (omega arith)
 
-pub args_two : (d e : Data) (args : Args) → AreArgs args → AreWritten args → args_from 2 (item d (item e (args_data args))) ≡ args
+pub args_two : (d e : Data) (args : Args) → AreArgs args → AreOperands args → args_from 2 (item d (item e (args_data args))) ≡ args
 args_two d e args h g =
     let few : args.used ≤ 4 = h.few in
     let len : items_len (args_data args) ≡ args.used = args_len args h g in

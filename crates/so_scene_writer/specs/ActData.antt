@@ -1,9 +1,10 @@
 -- Acts as data: a list of a word and what stands behind it, with names in place of numbers.
-use Rattle.std.specs.Prelude.{ℕ, pos, List, [], ◌∷◌, map, take, codes, slice_index_or, ◌==◌, Bool, Option, None, if◌then◌else◌}
+use Rattle.std.specs.Prelude.{ℕ, pos, List, [], ◌∷◌, map, take, codes, slice_index_or, ◌==◌, Bool, Option, None, option_map, if◌then◌else◌}
 use Rattle.std.specs.Str.{is_utf8}
 use Rattle.serde_json.specs.Data.{Data, number, string, array, Items, no_items, item}
 use Rattle.serde_json.specs.Find.{of_integer}
 use Rattle.serde_json.specs.View.{items_of}
+use Rattle.so_ids.specs.declared.DispId.{DispId}
 use Rattle.so_ids.specs.declared.FilterId.{FilterId}
 use Rattle.so_ids.specs.declared.MboxId.{MboxId}
 use Rattle.so_ids.specs.declared.MsgId.{MsgId}
@@ -22,7 +23,7 @@ use Rattle.so_code.specs.declared.instr.Operand.{Operand}
 use Rattle.so_code.specs.declared.instr.Operand.TheVariants as operand
 use Rattle.so_scene.specs.declared.parts.AgentDef.{AgentDef}
 use Rattle.so_scene.specs.declared.parts.SceneParts.{SceneParts}
-use Rattle.so_scene.specs.Parts.{message_of, mbox_name, text_of}
+use Rattle.so_scene.specs.Parts.{message_of, mbox_name, text_of, disp_of, groups_of}
 use Rattle.so_scene.specs.Checked.{filter_ids}
 use Rattle.so_scene_json.specs.Values.{text_or_empty}
 
@@ -45,6 +46,17 @@ state_text a s = slice_index_or (codes "default" ∷ a.state_names) s.0 []
 -- the id of a row or a filter by its number
 abbrev pub id_text : List (Option (List ℕ)) → ℕ → List ℕ
 id_text ids k = text_or_empty (slice_index_or ids k None)
+
+abbrev pub disp_text : SceneParts → DispId → List ℕ
+disp_text s d = (disp_of s d).name
+
+-- the name of a dispatcher's group by its number
+abbrev pub group_at : SceneParts → DispId → ℕ → List ℕ
+group_at s d g = slice_index_or (groups_of s d) g []
+
+-- the name of an agent's group, if it has one
+abbrev pub group_text : SceneParts → AgentDef → Option (List ℕ)
+group_text s a = option_map (group_at s a.disp) a.group
 
 -- ---- operands
 

@@ -4,8 +4,7 @@ use Rattle.so_scene.specs.declared.parts.SceneParts.{SceneParts}
 use Rattle.so_scene.specs.Checked.{IsScene}
 use Rattle.so_scene_json.specs.Scene.{of_data}
 use Rattle.so_scene_writer.specs.Canonical.{scene_data}
-use Rattle.so_scene_writer.specs.Writable.{IsWritable}
 
 -- the data of a scene reads as that scene
 abbrev pub ReadsAgain : Type 0
-ReadsAgain = (s : SceneParts) → IsScene s → IsWritable s → of_data (scene_data s) ≡ Ok s
+ReadsAgain = (s : SceneParts) → IsScene s → of_data (scene_data s) ≡ Ok s

@@ -1,15 +1,18 @@
 //! Lists, agents and the scene as values.
 
-ghost use Rattle.std.specs.Prelude.{◌≡◌, ◌<◌, length, min, map, pos, slice_index_or, IfOk};
+ghost use Rattle.std.specs.Prelude.{◌≡◌, ◌<◌, length, min, map, option_map, pos, slice_index_or, IfOk};
 ghost use Rattle.serde_json.specs.Data.{array};
 ghost use Rattle.serde_json.specs.View.{view, items_of};
-ghost use Rattle.so_scene_writer.specs.Sources.{behind_states, states_in, rows_in};
-ghost use Rattle.so_scene_writer.specs.ActData.{text_data};
+ghost use Rattle.so_scene_writer.specs.Sources.{behind_states, states_in, rows_in, states_of, rows_of, start_acts, finish_acts};
+ghost use Rattle.so_scene_writer.specs.ActData.{acts_data, disp_text, group_text, text_data};
+ghost use Rattle.so_scene_writer.specs.Fields.{agent_base};
 ghost use Rattle.so_scene_writer.specs.Canonical.{list_data, message_data, filter_data, state_data, row_data, number_data, agent_data, coop_data, scene_data};
 
 use crate::acts::{acts_value, behind};
+use crate::dispatchers::dispatchers_value;
+use crate::fields::with_field;
 use crate::objects::{behind_row, filter_value, message_value, row_value, state_value};
-use crate::words::text;
+use crate::words::{disp_name, group_name, text};
 use serde_json::{Value, json};
 use so_code::Instr;
 use so_scene::{AgentDef, CoopDef, FilterDef, MessageDef, Name, SceneParts};
@@ -125,14 +128,38 @@ fn rows_value(
     Ok(Value::Array(list))
 }
 
-/// An agent.
-fn agent_value(alloc: Global, scene: &SceneParts, agent: &AgentDef) -> Result<Value, AllocError>
-    ensures { IfOk result (λ v. view v ≡ agent_data scene.now agent.now) }
+fn group_value(
+    alloc: Global,
+    scene: &SceneParts,
+    agent: &AgentDef,
+) -> Result<Option<Value>, AllocError>
+    ensures { IfOk result (λ o. option_map view o ≡ option_map text_data (group_text scene.now agent.now)) }
+{
+    match agent.group {
+        None => Ok(None),
+        Some(group) => {
+            let name = text(group_name(scene, agent.disp, group));
+            Ok(Some(Value::try_from_str(alloc, name)?))
+        }
+    }
+}
+
+/// An agent without its group.
+fn agent_base(alloc: Global, scene: &SceneParts, agent: &AgentDef) -> Result<Value, AllocError>
+    ensures { IfOk result (λ v. view v ≡ agent_base (disp_text scene.now agent.now.disp)
+        (list_data (filter_data scene.now) agent.now.filters)
+        (acts_data scene.now agent.now (finish_acts agent.now))
+        agent.now.name
+        (list_data (row_data scene.now agent.now) (rows_of agent.now))
+        (acts_data scene.now agent.now (start_acts agent.now))
+        (list_data (state_data scene.now agent.now) (states_of agent.now))
+        (list_data number_data agent.now.vars.0)) }
 {
     let code = agent.code.instrs();
     let past_start = behind(code);
     let past_finish = behind(past_start);
     let past_states = behind_states(agent.tree.len(), past_finish);
+    let disp = text(disp_name(scene, agent.disp));
     let filters = filters_value(alloc, scene, agent.filters.as_slice())?;
     let finish = acts_value(alloc, scene, agent, past_start)?;
     let name = text(agent.name.bytes());
@@ -154,7 +181,15 @@ fn agent_value(alloc: Global, scene: &SceneParts, agent: &AgentDef) -> Result<Va
         past_finish,
     )?;
     let vars = numbers_value(alloc, &agent.vars.0)?;
-    json!(in alloc; {"filters": filters, "finish": finish, "name": name, "on": on, "start": start, "states": states, "vars": vars})
+    json!(in alloc; {"disp": disp, "filters": filters, "finish": finish, "name": name, "on": on, "start": start, "states": states, "vars": vars})
+}
+
+/// An agent.
+fn agent_value(alloc: Global, scene: &SceneParts, agent: &AgentDef) -> Result<Value, AllocError>
+    ensures { IfOk result (λ v. view v ≡ agent_data scene.now agent.now) }
+{
+    let value = agent_base(alloc, scene, agent)?;
+    with_field(alloc, value, "group", group_value(alloc, scene, agent)?)
 }
 
 fn agents_value(alloc: Global, scene: &SceneParts, agents: &[AgentDef]) -> Result<Value, AllocError>
@@ -190,7 +225,8 @@ pub(crate) fn scene_value(alloc: Global, scene: &SceneParts) -> Result<Value, Al
     ensures { IfOk result (λ v. view v ≡ scene_data scene.now) }
 {
     let coops = coops_value(alloc, scene, scene.coops.as_slice())?;
+    let dispatchers = dispatchers_value(alloc, scene.dispatchers.as_slice())?;
     let mboxes = mboxes_value(alloc, scene.mboxes.as_slice())?;
     let messages = messages_value(alloc, scene.messages.as_slice())?;
-    json!(in alloc; {"coops": coops, "mboxes": mboxes, "messages": messages, "version": 1u8})
+    json!(in alloc; {"coops": coops, "dispatchers": dispatchers, "mboxes": mboxes, "messages": messages, "version": 1u8})
 }

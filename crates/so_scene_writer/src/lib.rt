@@ -3,6 +3,7 @@
 
 mod acts;
 mod agents;
+mod dispatchers;
 mod fields;
 mod laws;
 mod objects;

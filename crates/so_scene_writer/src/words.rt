@@ -2,11 +2,11 @@
 
 ghost use Rattle.std.specs.Prelude.{◌≡◌};
 ghost use Rattle.so_scene.specs.Checked.{filter_ids};
-ghost use Rattle.so_scene.specs.Parts.{mbox_name, text_of};
+ghost use Rattle.so_scene.specs.Parts.{groups_of, mbox_name, text_of};
 ghost use Rattle.so_scene_json.specs.Values.{text_or_empty};
-ghost use Rattle.so_scene_writer.specs.ActData.{shown, message_text, state_text, id_text, target_text};
+ghost use Rattle.so_scene_writer.specs.ActData.{shown, disp_text, group_at, message_text, state_text, id_text, target_text};
 
-use so_ids::{FilterId, MboxId, MsgId, RowId, StateId, Target, TextId};
+use so_ids::{DispId, FilterId, MboxId, MsgId, RowId, StateId, Target, TextId};
 use so_scene::{AgentDef, Name, SceneParts};
 
 /// The text of bytes, empty where they are no UTF-8.
@@ -102,6 +102,35 @@ pub(crate) fn filter_name(agent: &AgentDef, filter: FilterId) -> &[u8]
 {
     match agent.filters.as_slice().get(filter.0 as usize) {
         Some(filter) => bytes_or_none(&filter.id),
+        None => b"",
+    }
+}
+
+/// The name of a dispatcher.
+pub(crate) fn disp_name(scene: &SceneParts, disp: DispId) -> &[u8]
+    ensures { result.now ≡ disp_text scene.now disp }
+{
+    match scene.dispatchers.as_slice().get(disp.0 as usize) {
+        Some(disp) => disp.name.bytes(),
+        None => b"default",
+    }
+}
+
+fn groups_of(scene: &SceneParts, disp: DispId) -> &[Name]
+    ensures { result.now ≡ groups_of scene.now disp }
+{
+    match scene.groups.as_slice().get(disp.0 as usize) {
+        Some(names) => names.as_slice(),
+        None => &[],
+    }
+}
+
+/// The name of a dispatcher's group.
+pub(crate) fn group_name(scene: &SceneParts, disp: DispId, group: u32) -> &[u8]
+    ensures { result.now ≡ group_at scene.now disp group }
+{
+    match groups_of(scene, disp).get(group as usize) {
+        Some(name) => name.bytes(),
         None => b"",
     }
 }
