@@ -3,6 +3,7 @@ use Rattle.std.proofs.Common.{◌≡◌, ℕ, ◌+◌, ◌-◌, ◌<◌, ◌≤�
 use Rattle.std.specs.List.{AllByRecursion, IsDistinct, range_with_len}
 use Rattle.std.proofs.lemmas.Bool.{true≢false, le-leb, le-ltb}
 use Rattle.std.specs.Prelude.{unwrap_or}
+use Rattle.std.proofs.Math.Bridge.{le_prop}
 use Rattle.std.proofs.lemmas.List.{append-nil}
 use Rattle.std.proofs.lemmas.Option.{none-some}
 use Rattle.std.proofs.lemmas.List.FromFn.{fill_by_all}
@@ -54,8 +55,8 @@ use Rattle.so_scene_json.specs.Defs.{disp_in, least_priority, narrow_or_zero, st
 use Rattle.so_scene_json.specs.Groups.{with_group, group_number}
 use Rattle.so_scene_json.specs.Known.{known_step, group_fault, group_unfit, kind_at}
 use Rattle.so_scene_json.specs.Scope.{scope_of, names_of, ids_of, state_items, row_items, filter_items}
-use Rattle.so_scene_json.specs.Shape.{shape_step, has_unknown, is_known, list_trouble, number_trouble, object_trouble, first_of, unless_faulty}
-use Rattle.so_scene_json.specs.Twice.{twice_step, disp_number_in}
+use Rattle.so_scene_json.specs.Shape.{shape_step, has_unknown, is_known, list_trouble, number_trouble, object_trouble, first_of, trouble_at, unless_faulty}
+use Rattle.so_scene_json.specs.Twice.{twice_step, disp_number, disp_number_in, names_in}
 use Rattle.so_scene_json.specs.Values.{name_in, id_in, group_in, ok_or, checked, text_or_empty}
 use Rattle.so_scene_json.specs.Visits.{Visit, enters, tries, leaves, list_of, listed, narrow, at_key, Place, visits, fields_of, field_visits, items_from, run, at_item, ◌>>=◌}
 use Rattle.so_scene_json.proofs.Runs.{goes_on}
@@ -66,7 +67,7 @@ use Rattle.so_scene_writer.proofs.Writable.{IsWritable, AreNumbered, texts_behin
 use Rattle.so_scene_writer.proofs.Named.{name_utf8, next_new, next_distinct}
 use Rattle.so_scene_writer.proofs.Shown.{number_again}
 use Rattle.so_scene_writer.proofs.Walks.{ok, object_run, field_run, fields_none, plain_field, plain_found, list_field, list_found, shown_len, shown_listed, map_again, first_fine, every, run_same, items_go, items_done}
-use Rattle.so_scene_writer.proofs.ActLaws.{Stands, Told, at, scope_for, knows_at, name_read, map_len, narrow_small}
+use Rattle.so_scene_writer.proofs.ActLaws.{Stands, Told, at, scope_for, knows_at, is_there, name_read, shown_name, map_len, narrow_small}
 use Rattle.so_scene_writer.proofs.DispLaws.{disp_legal, disp_number_again, disp_kind_again}
 use Rattle.so_scene_writer.proofs.Found.{agent_plain, got, got_group}
 use Rattle.so_scene_writer.proofs.BodyLaws.{agent_again}
@@ -160,7 +161,9 @@ enters_at sh place disp filters finish (Some g) name on start states vars = refl
 
 agent_enters : (sh : Shape) (s : SceneParts) (a : AgentDef) (place : Place) → shape_step sh (enters object.Agent place (agent_data s a)) ≡ Ok sh
 unfolding has_unknown is_known
-agent_enters sh s a place = enters_at sh place (text_data (disp_text s a.disp)) _ _ (group_field s a) _ _ _ _ _
+agent_enters sh s a place =
+    enters_at sh place (text_data (disp_text s a.disp)) (list_data (filter_data s) a.filters) (acts_data s a (finish_acts a)) (group_field s a) (text_data a.name)
+    (list_data (row_data s a) (rows_of a)) (acts_data s a (start_acts a)) (list_data (state_data s a) (states_of a)) (list_data number_data a.vars.0)
 
 pub list_fine : {X : Type 0} (f : Data → Option Trouble) (shown : X → Data) (limit : ℕ) (xs : List X) → length xs ≤ limit → AllByRecursion (λ x. f (shown x) ≡ None) xs → list_trouble (Some limit) f (Some (items_of (map shown xs))) ≡ None
 list_fine f shown limit xs l h = rw (shown_len shown xs, le-leb (length xs) limit l) (first_fine f shown xs h)
@@ -335,10 +338,14 @@ finish_known : (s : SceneParts) (a : AgentDef) (names : Declared) (place : Place
 finish_known s a names place c st = rw (acts_known s a names body.Finish (finish_acts a) (at_key place finish_rule) c st (agent_finish s a c))
 
 disp_again : (s : SceneParts) (names : Declared) (a : AgentDef) → Told s a → Stands s names → disp_number_in names (agent_data s a) ≡ Some a.disp.0
-disp_again s names a c st = rw (name_utf8 (disp_text s a.disp) (disp_legal s a.disp c.scene c.agent.disp)) (disp_number_again s names a.disp c.scene st c.agent.disp)
+disp_again s names a c st =
+    ap (λ (d : Data). disp_number names (as_str d)) (shown_name (disp_text s a.disp) (disp_legal s a.disp c.scene c.agent.disp)) ∙ disp_number_again s names a.disp c.scene st c.agent.disp
 
 disp_field_known : (s : SceneParts) (a : AgentDef) (names : Declared) (place : Place) → Told s a → Stands s names → Tries known_step (knows_at names a) place disp_rule (Some (text_data (disp_text s a.disp)))
-disp_field_known s a names place c st = rw (name_utf8 (disp_text s a.disp) (disp_legal s a.disp c.scene c.agent.disp), disp_number_again s names a.disp c.scene st c.agent.disp) refl
+disp_field_known s a names place c st =
+    let k : Known = knows_at names a in
+    ap (λ (d : Data). known_step k (tries disp_rule (at_key place disp_rule) (Some d))) (shown_name (disp_text s a.disp) (disp_legal s a.disp c.scene c.agent.disp))
+    ∙ ap (λ (t : Option Trouble). unless_faulty k (trouble_at (at_key place disp_rule) t)) (is_there (names_in space.Dispatchers names) (disp_text s a.disp) a.disp.0 (disp_number_again s names a.disp c.scene st c.agent.disp))
 
 group_field_known : (k : Known) (place : Place) (o : Option Data) → Tries known_step k place group_rule o
 group_field_known k place None = refl
@@ -408,8 +415,11 @@ filters_again s a names c st =
     ∙ map_same a.filters
 
 -- the least priority is the only one, so far
+abbrev at_least : 0 ≤ 7 → Priority
+at_least in_range = record { level = 0; in_range = in_range }
+
 least_at : (n : ℕ) (in_range : n ≤ 7) → n ≡ 0 → least_priority ≡ record { level = n; in_range = in_range }
-least_at zero in_range e = refl
+least_at zero in_range e = ap at_least (le_prop least_priority.in_range in_range)
 least_at (suc n) in_range e = absurd (omega arith)
 
 least : (p : Priority) → p.level ≡ 0 → least_priority ≡ p

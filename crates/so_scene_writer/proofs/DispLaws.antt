@@ -1,5 +1,5 @@
 -- Dispatchers that are written pass the reader, and are read as they were.
-use Rattle.std.proofs.Common.{◌≡◌, ℕ, ◌+◌, ◌<◌, ◌≤◌, ◌^◌, suc, zero, List, [], ◌∷◌, ◌++◌, length, get_or, map, drop, replicate, codes, bytes_eq, Bool, true, false, not, ◌||◌, ◌&&◌, ◌==◌, nat_le, nat_lt, Option, Some, None, is_some, Ok, refl, sym, ap, ◌∙◌, subst, arith, append_assoc, if◌then◌else◌}
+use Rattle.std.proofs.Common.{◌≡◌, ℕ, ◌+◌, ◌<◌, ◌≤◌, ◌^◌, suc, zero, List, [], ◌∷◌, ◌++◌, length, get_or, map, drop, replicate, codes, bytes_eq, Bool, true, false, not, ◌||◌, ◌&&◌, ◌==◌, nat_le, nat_lt, Option, Some, None, is_some, Ok, Err, refl, sym, ap, ◌∙◌, subst, arith, append_assoc, if◌then◌else◌}
 use Rattle.std.specs.Prelude.{unwrap_or}
 use Rattle.std.specs.List.{AllByRecursion, IsDistinct}
 use Rattle.std.specs.Str.{is_utf8}
@@ -15,7 +15,9 @@ use Rattle.so_scene.specs.declared.parts.DispKind.{DispKind}
 use Rattle.so_scene.specs.declared.parts.DispKind.TheVariants.{OneThread, ActiveObj, ActiveGroup, ThreadPool, AdvThreadPool, StrictlyOrdered, QuotedRoundRobin, OnePerPrio}
 use Rattle.so_scene.specs.declared.parts.Fifo.{Fifo}
 use Rattle.so_scene.specs.declared.parts.Fifo.TheVariants.{Cooperation, Individual}
+use Rattle.so_scene.specs.declared.fault.SceneFault.TheVariants as fault
 use Rattle.so_scene.specs.declared.parts.SceneParts.{SceneParts}
+use Rattle.so_scene.specs.declared.place.PlaceStep.TheVariants.{Key}
 use Rattle.so_scene.specs.Checked.{is_built, is_pool, IsDisp, IsScene}
 use Rattle.so_scene.specs.Names.{number_in}
 use Rattle.so_scene.specs.Parts.{disp_name, disp_of, default_disp}
@@ -31,13 +33,14 @@ use Rattle.so_scene_json.specs.Defs.{disp_of as disp_read}
 use Rattle.so_scene_json.specs.Kept.{disp_kind}
 use Rattle.so_scene_json.specs.Known.{known_step, kind_at}
 use Rattle.so_scene_json.specs.Shape.{shape_step, has_unknown, is_known}
-use Rattle.so_scene_json.specs.Twice.{twice_step, names_in}
-use Rattle.so_scene_json.specs.Values.{disp_kind_of, fifo_of, number_of}
-use Rattle.so_scene_json.specs.Visits.{Visit, Place, visits, fields_of, field_visits, items_from, run, at_item}
+use Rattle.so_scene_json.specs.Table.{key_of, rules_of}
+use Rattle.so_scene_json.specs.Twice.{twice_step, declared_name, entering, names_in, with_name}
+use Rattle.so_scene_json.specs.Values.{disp_kind_in, disp_kind_of, fifo_of, name_in, number_of}
+use Rattle.so_scene_json.specs.Visits.{Visit, enters, Place, visits, fields_of, field_visits, items_from, run, at_item}
 use Rattle.so_scene_writer.specs.ActData.{text_data, count_data, disp_text}
 use Rattle.so_scene_writer.specs.Canonical.{given, declared, disp_data, disp_kind_word, fifo_word}
 use Rattle.so_scene_writer.proofs.Named.{each_of, name_utf8, next_distinct, next_new, number_at}
-use Rattle.so_scene_writer.proofs.Walks.{ok, items_go, items_done}
+use Rattle.so_scene_writer.proofs.Walks.{ok, object_run, items_go, items_done}
 use Rattle.so_scene_writer.proofs.ActLaws.{Stands, get_map, map_len}
 
 -- ---- what is written
@@ -87,16 +90,34 @@ disp_shape sh n d place h =
 abbrev with_disp : Declared → List ℕ → DispKind → Declared
 with_disp d name kind = record d { dispatchers = d.dispatchers ++ name ∷ []; kinds = d.kinds ++ kind ∷ [] }
 
-twice_at : (d : Declared) (n : ℕ) (place : Place) (pool : Bool) (kind : DispKind) (fifo : Fifo) (threads : ℕ) (name : List ℕ) → is_name name ≡ true → number_in (codes "default" ∷ d.dispatchers) name ≡ None
-    → run twice_step d (visits (suc n) object.Dispatcher place (disp_plain pool kind fifo threads name)) ≡ Ok (with_disp d name kind)
-unfolding visits fields_of field_visits run disp_plain
-twice_at d n place true kind fifo threads name e f = rw (e, f, kind_again kind) refl
-twice_at d n place false kind fifo threads name e f = rw (e, f, kind_again kind) refl
+entering_at : (d : Declared) (place : Place) (x : Data) (name : List ℕ) (kind : DispKind) → name_in x ≡ name → disp_kind_in x ≡ kind → number_in (codes "default" ∷ d.dispatchers) name ≡ None
+    → twice_step d (enters object.Dispatcher place x) ≡ Ok (with_disp d name kind)
+entering_at d place x name kind e k f =
+    ap (λ (n : List ℕ). declared_name place space.Dispatchers (Some n) (entering object.Dispatcher x d)) e
+    ∙ (ap (λ (o : Option ℕ). if is_some o then Err (fault.Twice (place ++ Key (key_of space.Dispatchers) ∷ [])) else Ok (with_name space.Dispatchers name (entering object.Dispatcher x d))) f
+    ∙ ap (λ (y : DispKind). ok (with_disp d name y)) k)
+
+fields_twice : (d : Declared) (n : ℕ) (place : Place) (x : Data) → run twice_step d (fields_of (visits n) (rules_of object.Dispatcher) place x) ≡ Ok d
+unfolding fields_of field_visits run
+fields_twice d n place x = refl
+
+name_at : (pool : Bool) (kind : DispKind) (fifo : Fifo) (threads : ℕ) (name : List ℕ) → is_name name ≡ true → name_in (disp_plain pool kind fifo threads name) ≡ name
+unfolding disp_plain
+name_at true kind fifo threads name e = rw e refl
+name_at false kind fifo threads name e = rw e refl
+
+kind_at_key : (pool : Bool) (kind : DispKind) (fifo : Fifo) (threads : ℕ) (name : List ℕ) → disp_kind_in (disp_plain pool kind fifo threads name) ≡ kind
+unfolding disp_plain
+kind_at_key true kind fifo threads name = rw (kind_again kind) refl
+kind_at_key false kind fifo threads name = rw (kind_again kind) refl
 
 disp_twice : (d : Declared) (n : ℕ) (x : DispDef) (place : Place) → IsDisp x → number_in (codes "default" ∷ d.dispatchers) x.name ≡ None → run twice_step d (visits (suc n) object.Dispatcher place (disp_data x)) ≡ Ok (with_disp d x.name x.kind)
 disp_twice d n x place h f =
+    let t : Declared = with_disp d x.name x.kind in
+    let plain : Data = disp_plain (is_pool x.kind) x.kind x.fifo x.threads x.name in
     ap (λ (y : Data). run twice_step d (visits (suc n) object.Dispatcher place y)) (disp_shown x h.named)
-    ∙ twice_at d n place (is_pool x.kind) x.kind x.fifo x.threads x.name h.named f
+    ∙ object_run twice_step d t t t n object.Dispatcher place plain (entering_at d place plain x.name x.kind (name_at (is_pool x.kind) x.kind x.fifo x.threads x.name h.named) (kind_at_key (is_pool x.kind) x.kind x.fifo x.threads x.name) f)
+    (fields_twice t n place plain) refl
 
 known_at : (w : Known) (n : ℕ) (place : Place) (pool : Bool) (kind : DispKind) (fifo : Fifo) (threads : ℕ) (name : List ℕ) → run known_step w (visits (suc n) object.Dispatcher place (disp_plain pool kind fifo threads name)) ≡ Ok w
 unfolding visits fields_of field_visits run disp_plain

@@ -26,8 +26,24 @@ beside key other d ms ns e = ap (λ (r : Option Data). match_ordering (slice_cmp
 abbrev pub agent_plain : SceneParts → AgentDef → Data
 agent_plain s a = agent_base (disp_text s a.disp) (list_data (filter_data s) a.filters) (acts_data s a (finish_acts a)) a.name (list_data (row_data s a) (rows_of a)) (acts_data s a (start_acts a)) (list_data (state_data s a) (states_of a)) (list_data number_data a.vars.0)
 
+-- the fields behind the group
+abbrev others : SceneParts → AgentDef → Members
+others s a =
+    member (codes "name") (text_data a.name)
+    (member (codes "on") (list_data (row_data s a) (rows_of a))
+    (member (codes "start") (acts_data s a (start_acts a))
+    (member (codes "states") (list_data (state_data s a) (states_of a))
+    (member (codes "vars") (list_data number_data a.vars.0) no_members))))
+
 pub got : (s : SceneParts) (a : AgentDef) (key : List ℕ) → IsApart key (codes "group") → get key (agent_data s a) ≡ get key (agent_plain s a)
-got s a key f = beside key (codes "disp") _ _ _ (beside key (codes "filters") _ _ _ (beside key (codes "finish") _ _ _ (past key (codes "group") (option_map text_data (group_text s a)) _ f)))
+got s a key f =
+    let o : Option Data = option_map text_data (group_text s a) in
+    let filters : Data = list_data (filter_data s) a.filters in
+    let finish : Data = acts_data s a (finish_acts a) in
+    let grouped : Members = given (codes "group") o (others s a) in
+    let three : get_member key (member (codes "finish") finish grouped) ≡ get_member key (member (codes "finish") finish (others s a)) = beside key (codes "finish") finish grouped (others s a) (past key (codes "group") o (others s a) f) in
+    beside key (codes "disp") (text_data (disp_text s a.disp)) (member (codes "filters") filters (member (codes "finish") finish grouped)) (member (codes "filters") filters (member (codes "finish") finish (others s a)))
+    (beside key (codes "filters") filters (member (codes "finish") finish grouped) (member (codes "finish") finish (others s a)) three)
 
 group_at_key : (disp filters finish : Data) (o : Option Data) (name on start states vars : Data) → get (codes "group") (object
     (member (codes "disp") disp (member (codes "filters") filters (member (codes "finish") finish (given (codes "group") o
@@ -36,4 +52,6 @@ group_at_key disp filters finish None name on start states vars = refl
 group_at_key disp filters finish (Some g) name on start states vars = refl
 
 pub got_group : (s : SceneParts) (a : AgentDef) → get (codes "group") (agent_data s a) ≡ option_map text_data (group_text s a)
-got_group s a = group_at_key _ _ _ (option_map text_data (group_text s a)) _ _ _ _ _
+got_group s a =
+    group_at_key (text_data (disp_text s a.disp)) (list_data (filter_data s) a.filters) (acts_data s a (finish_acts a)) (option_map text_data (group_text s a)) (text_data a.name)
+    (list_data (row_data s a) (rows_of a)) (acts_data s a (start_acts a)) (list_data (state_data s a) (states_of a)) (list_data number_data a.vars.0)

@@ -1,7 +1,7 @@
 -- Objects whose optional fields come one after the other.
-use Rattle.std.proofs.Common.{◌≡◌, ℕ, ℤ, List, [], ◌∷◌, codes, map, Bool, Option, Some, None, option_map, Result, Ok, Err, refl, sym, ap, ◌∙◌}
+use Rattle.std.proofs.Common.{◌≡◌, ℕ, ℤ, List, [], ◌∷◌, codes, map, Bool, true, false, Option, Some, None, option_map, Result, Ok, Err, refl, sym, ap, ◌∙◌, if◌then◌else◌}
 use Rattle.std.specs.Prelude.{IfOk}
-use Rattle.serde_json.specs.Data.{Data}
+use Rattle.serde_json.specs.Data.{Data, member, no_members, object, string}
 use Rattle.so_ids.specs.declared.MboxId.{MboxId}
 use Rattle.so_ids.specs.declared.MsgId.{MsgId}
 use Rattle.so_ids.specs.declared.StateId.{StateId}
@@ -11,13 +11,17 @@ use Rattle.so_state.specs.declared.choice.RowKind.{RowKind}
 use Rattle.so_state.specs.declared.choice.RowKind.TheVariants.{Run, Switch, Transfer, Suppress, Dead}
 use Rattle.so_state.specs.declared.states.State.{State}
 use Rattle.so_scene.specs.declared.parts.AgentDef.{AgentDef}
+use Rattle.so_scene.specs.declared.parts.DispDef.{DispDef}
+use Rattle.so_scene.specs.declared.parts.DispKind.{DispKind}
 use Rattle.so_scene.specs.declared.parts.FilterDef.{FilterDef}
 use Rattle.so_scene.specs.declared.parts.SceneParts.{SceneParts}
+use Rattle.so_scene.specs.Checked.{is_pool}
 use Rattle.so_scene.specs.Parts.{mbox_name}
 use Rattle.so_scene_writer.specs.Sources.{acts_in, behind, RowSource, row_source, state_source}
-use Rattle.so_scene_writer.specs.ActData.{text_data, state_text, message_text, acts_data}
-use Rattle.so_scene_writer.specs.Canonical.{state_data, filter_data, row_data, dead_data, do_data, row_state_data, suppress_data, switch_data, transfer_data}
-use Rattle.so_scene_writer.specs.Fields.{with_field, state_base, filter_base, row_base}
+use Rattle.so_scene_writer.specs.ActData.{text_data, count_data, disp_text, group_text, state_text, message_text, acts_data}
+use Rattle.so_scene_writer.specs.Canonical.{agent_data, disp_data, disp_kind_word, fifo_word, given, of_pool, state_data, filter_data, row_data, dead_data, do_data, row_state_data, suppress_data, switch_data, transfer_data}
+use Rattle.so_scene_writer.specs.Fields.{with_field, agent_base, disp_base, state_base, filter_base, row_base}
+use Rattle.so_scene_writer.proofs.Found.{agent_plain}
 
 pub if_ok : {A E : Type 0} (P Q : A → Type 0) (r : Result A E) → IfOk r P → ((x : A) → P x → Q x) → IfOk r Q
 if_ok P Q (Ok x) h f = f x h
@@ -81,3 +85,28 @@ row_joined s a x dead do_acts id state suppress switch transfer d0 d1 d2 d3 d4 d
     let f5 = e5 ∙ both (codes "suppress") o5 f4 in
     let f6 = e6 ∙ both (codes "switch") o6 f5 in
     e7 ∙ (both (codes "transfer") o7 f6 ∙ row_at s a x.id x.acts x.row.mbox x.row.msg x.row.state x.row.kind x.row.safe x.row.active)
+
+-- ---- dispatchers
+
+disp_fields : (pool : Bool) (kind : DispKind) (name : List ℕ) (fifo threads : Data)
+    → with_field (codes "threads") (if pool then Some threads else None) (with_field (codes "fifo") (if pool then Some fifo else None) (disp_base kind name))
+    ≡ object (given (codes "fifo") (if pool then Some fifo else None) (member (codes "kind") (string (disp_kind_word kind)) (member (codes "name") (text_data name) (given (codes "threads") (if pool then Some threads else None) no_members))))
+disp_fields true kind name fifo threads = refl
+disp_fields false kind name fifo threads = refl
+
+pub disp_joined : (x : DispDef) (fifo threads : Option Data) (base d e : Data) → base ≡ disp_base x.kind x.name → fifo ≡ of_pool x.kind (string (fifo_word x.fifo)) → d ≡ with_field (codes "fifo") fifo base
+    → threads ≡ of_pool x.kind (count_data x.threads) → e ≡ with_field (codes "threads") threads d → e ≡ disp_data x
+disp_joined x fifo threads base d e b f g t h =
+    h ∙ (both (codes "threads") t (g ∙ both (codes "fifo") f b) ∙ disp_fields (is_pool x.kind) x.kind x.name (string (fifo_word x.fifo)) (count_data x.threads))
+
+-- ---- agents
+
+agent_fields : (disp : List ℕ) (filters finish : Data) (o : Option Data) (name : List ℕ) (on start states vars : Data)
+    → with_field (codes "group") o (agent_base disp filters finish name on start states vars)
+    ≡ object (member (codes "disp") (text_data disp) (member (codes "filters") filters (member (codes "finish") finish (given (codes "group") o
+    (member (codes "name") (text_data name) (member (codes "on") on (member (codes "start") start (member (codes "states") states (member (codes "vars") vars no_members)))))))))
+agent_fields disp filters finish None name on start states vars = refl
+agent_fields disp filters finish (Some g) name on start states vars = refl
+
+pub agent_joined : (s : SceneParts) (a : AgentDef) (o : Option Data) (base d : Data) → o ≡ option_map text_data (group_text s a) → base ≡ agent_plain s a → d ≡ with_field (codes "group") o base → d ≡ agent_data s a
+agent_joined s a o base d e f g = g ∙ (both (codes "group") e f ∙ agent_fields (disp_text s a.disp) _ _ (option_map text_data (group_text s a)) a.name _ _ _ _)
