@@ -116,8 +116,15 @@ row_exact s a x =
 
 agent_exact : (s : SceneParts) (a : AgentDef) → has_float (agent_data s a) ≡ false
 agent_exact s a =
-    rw (list_exact (filter_data s) a.filters (filter_exact s), acts_exact s a (finish_acts a), given_exact (codes "group") (option_map text_data (group_text s a)) _ (map_exact (λ x. x) (group_text s a)),
-    list_exact (row_data s a) (rows_of a) (row_exact s a), acts_exact s a (start_acts a), list_exact (state_data s a) (states_of a) (state_exact s a), list_exact number_data a.vars.0 number_exact) refl
+    rw (
+      list_exact (filter_data s) a.filters (filter_exact s),
+      acts_exact s a (finish_acts a),
+      given_exact (codes "group") (option_map text_data (group_text s a)) _ (map_exact (λ x. x) (group_text s a)),
+      list_exact (row_data s a) (rows_of a) (row_exact s a),
+      acts_exact s a (start_acts a),
+      list_exact (state_data s a) (states_of a) (state_exact s a),
+      list_exact number_data a.vars.0 number_exact,
+    ) refl
 
 coop_exact : (s : SceneParts) (c : CoopDef) → has_float (coop_data s c) ≡ false
 coop_exact s c = rw (list_exact (agent_data s) s.agents (agent_exact s)) refl

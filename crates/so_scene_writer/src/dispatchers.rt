@@ -3,7 +3,7 @@
 ghost use Rattle.std.specs.Prelude.{◌≡◌, drop, Some, None, option_map, IfOk};
 ghost use Rattle.serde_json.specs.View.{view};
 ghost use Rattle.so_scene.specs.Checked.{is_pool};
-ghost use Rattle.so_scene_writer.specs.ActData.{count_data, disp_text, group_text, text_data};
+ghost use Rattle.so_scene_writer.specs.ActData.{count_data};
 ghost use Rattle.so_scene_writer.specs.Canonical.{disp_data, disp_kind_word, fifo_word, list_data, of_pool};
 ghost use Rattle.so_scene_writer.specs.Fields.{disp_base};
 ghost use Rattle.serde_json.specs.Data.{string};
@@ -57,10 +57,10 @@ fn fifo_value(alloc: Global, disp: &DispDef) -> Result<Option<Value>, AllocError
 fn threads_value(disp: &DispDef) -> Option<Value>
     ensures { option_map view result ≡ of_pool disp.now.kind (count_data disp.now.threads) }
 {
-    if is_pool(disp.kind) {
-        return Some(count_value(disp.threads));
+    if !is_pool(disp.kind) {
+        return None;
     }
-    None
+    Some(count_value(disp.threads))
 }
 
 fn disp_base(alloc: Global, disp: &DispDef) -> Result<Value, AllocError>
