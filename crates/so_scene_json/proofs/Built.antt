@@ -73,6 +73,7 @@ use Rattle.so_scene_json.specs.Kept.{IsBuiltRow, IsBuiltFilter, IsBuiltAgent, Ar
 use Rattle.so_scene_json.proofs.Grouped.{AreNames, NamedIfGiven, few_more, names_more, number_below, numbered_more, group_names_more, no_group_names, no_group_uses}
 use Rattle.so_scene_json.proofs.Codes.{HasFewIds, Grows, IsWritten, allows, names_grow, state_below, one_number, handled, is_short, agent_is_written, agent_grows, agent_numbers, agent_scope, agent_texts, OnOk, read_fine, then_fine, natural_fine}
 use Rattle.so_scene_json.proofs.Ends.{all_of, length_map, length_listed}
+use Rattle.so_scene_json.proofs.Uses.{texts-push, all_texts, all_uses}
 use Rattle.so_scene_json.proofs.Numbers.{get_numbers, item_numbers, list_numbers, number_read, visits_numbers}
 use Rattle.so_scene_json.proofs.Said.{AreMessages, AreSaid, message_signal, agent_said, said_short}
 use Rattle.so_scene_json.proofs.Passed.{ok, ok_same, swapped, HasState, HasRow, HasFilter, HasGroup, HasDisp, IsFineDisp, IsFineAgent, EntersFine, passed_all, scene_fine, total, is_message, is_dispatcher, mboxes_in_field, mboxes_named, few_messages, few_mboxes, few_dispatchers}
@@ -666,10 +667,6 @@ agents_kept names messages s t d known disps fine k q few =
     (new, tt)
 
 -- the texts of one more agent
-texts-push : (agents : List AgentDef) (a : AgentDef) → texts_of (agents ++ a ∷ []) ≡ texts_of agents ++ text_uses a.code
-texts-push [] a = append-nil (text_uses a.code)
-texts-push (b ∷ agents) a = ap (λ l. text_uses b.code ++ l) (texts-push agents a) ∙ sym (append_assoc (text_uses b.code) (texts_of agents) (text_uses a.code))
-
 texts_kept : (s : Build) (d : Data) → (length s.texts ≤ 4096 → AreNumbered (texts_of s.agents) (length s.texts)) → length (agent_after s d).texts ≤ 4096 → AreNumbered (texts_of (agent_after s d).agents) (length (agent_after s d).texts)
 unfolding agent_after agent_made
 texts_kept s d old few =
@@ -1038,39 +1035,6 @@ is_agent b coop a h =
     }
 
 -- ---- agents by number and agents in a list
-
--- what a number stands for, instead of the number
-split_uses : {X Y : Type 0} (p : X → Bool) (f : X → Option Y) (x : X) (xs : List X) → filter_map f (filter p (x ∷ xs)) ≡ filter_map f (filter p (x ∷ [])) ++ filter_map f (filter p xs)
-split_uses p f x xs = ap (filter_map f) (filter-append p (x ∷ []) xs) ∙ filter_map-append f (filter p (x ∷ [])) (filter p xs)
-
-one_use : {I X Y : Type 0} (g : I → X) (f : X → Option Y) (i : I) (b : Bool) → filter_map (λ k. f (g k)) (cond b (i ∷ []) []) ≡ filter_map f (cond b (g i ∷ []) [])
-one_use g f i true = refl
-one_use g f i false = refl
-
-uses_of : {I X Y : Type 0} (g : I → X) (p : X → Bool) (f : X → Option Y) (is : List I) → filter_map (λ i. f (g i)) (filter (λ i. p (g i)) is) ≡ filter_map f (filter p (map g is))
-uses_of g p f [] = refl
-uses_of g p f (i ∷ is) =
-    split_uses (λ k. p (g k)) (λ k. f (g k)) i is
-    ∙ (ap2_append (one_use g f i (p (g i))) (uses_of g p f is) ∙ sym (split_uses p f (g i) (map g is)))
-
-map-each_below : {X Y : Type 0} (h : X → Y) (f : ℕ → X) (n : ℕ) → map h (each_below f n) ≡ each_below (λ k. h (f k)) n
-unfolding each_below
-map-each_below h f zero = refl
-map-each_below h f (suc n) = map_push h (each_below f n) (f n) ∙ ap (λ l. l ++ h (f n) ∷ []) (map-each_below h f n)
-
-texts_by_number : (s : SceneParts) (n : ℕ) → n ≤ length s.agents → texts_to s n ≡ texts_of (take n s.agents)
-texts_by_number s zero l = refl
-texts_by_number s (suc n) l =
-    ap (λ t. t ++ text_uses (scene_agent s (agent_number n)).code) (texts_by_number s n (omega arith))
-    ∙ (sym (texts-push (take n s.agents) (scene_agent s (agent_number n))) ∙ ap texts_of (sym (take-suc s.agents n no_agent (omega arith))))
-
-all_texts : (s : SceneParts) → texts_to s (length s.agents) ≡ texts_of s.agents
-all_texts s = texts_by_number s (length s.agents) (omega arith) ∙ ap texts_of (take_all (length s.agents) s.agents (omega arith))
-
-all_uses : (s : SceneParts) (d : DispId) → group_uses s d ≡ uses_on d s.agents
-all_uses s d =
-    uses_of (scene_agent s) (is_on d) agent_group (each_below agent_number (length s.agents))
-    ∙ ap (uses_on d) (map-each_below (scene_agent s) agent_number (length s.agents) ∙ each_below-elements s.agents no_agent)
 
 -- ---- groups, lanes and cooperations
 

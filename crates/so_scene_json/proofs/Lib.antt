@@ -8,4 +8,5 @@ pub mod Passed
 pub mod Runs
 pub mod Said
 pub mod Shapes
+pub mod Uses
 pub mod Written
