@@ -220,7 +220,7 @@ body_said names messages m b w found h n a =
       short = λ more s.
           let ends : are_short 0 (w.code ++ (wrote.acts ++ instr.End b ∷ more)) ≡ true = a.short (wrote.acts ++ instr.End b ∷ more) (body_short (switches (allowed_in b)) 0 wrote.acts b more wrote.fine (omega (arith, wrote.long, h.few)) s) in
           let same : ((acts_written names (allowed_in b) w (list_of found)).code ++ instr.End b ∷ []) ++ more ≡ w.code ++ (wrote.acts ++ instr.End b ∷ more) =
-              ap (λ c. (c ++ instr.End b ∷ []) ++ more) wrote.same ∙ (append_assoc (w.code ++ wrote.acts) (instr.End b ∷ []) more ∙ append_assoc w.code wrote.acts (instr.End b ∷ more)) in
+          ap (λ c. (c ++ instr.End b ∷ []) ++ more) wrote.same ∙ (append_assoc (w.code ++ wrote.acts) (instr.End b ∷ []) more ∙ append_assoc w.code wrote.acts (instr.End b ∷ more)) in
           ap (are_short 0) same ∙ ends;
     }
 
