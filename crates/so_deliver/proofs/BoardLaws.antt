@@ -12,7 +12,8 @@ use Rattle.so_state.specs.declared.choice.Row.{Row}
 use Rattle.so_state.specs.declared.choice.RowKind.{RowKind}
 use Rattle.so_scene.specs.Checked.{IsScene, IsAgent, IsRow, IsKind, HasNoLimit, has_handler, IsFilter, IsCoop, IsDisp, AreGroups, NamesParts}
 use Rattle.so_scene.specs.Words.{is_name, is_text}
-use Rattle.so_scene.specs.Parts.{message_name, default_disp}
+use Rattle.so_scene.specs.Written.{is_state_name, HasParent, IsNumber, IsWritten}
+use Rattle.so_scene.specs.Parts.{message_name, no_agent, default_disp}
 use Rattle.so_scene.specs.Lanes.{lanes, lane_list}
 use Rattle.so_state.specs.States.{default_state}
 use Rattle.so_state.proofs.TreeFacts.{IsTree-flat}
@@ -42,24 +43,30 @@ admitted_at (suc (suc (suc n))) l = absurd (omega arith)
 is_row : (mbox msg : ℕ) (kind : RowKind) (active : Bool) → mbox < 5 → msg < 3 → IsKind 0 default_state kind → IsRow board 0 (row_for mbox msg kind active)
 is_row mbox msg kind active m g k = record { mbox = m; msg = g; state = search rules; kind = k; not_safe = refl }
 
-is_filter : (mbox msg : ℕ) (cmp : Cmp) (value : ℤ) (active : Bool) → mbox < 5 → msg < 3 → IsFilter board (field_test mbox msg cmp value active)
-is_filter mbox msg cmp value active m g = record { mbox = m; msg = g; field = search rules }
+is_filter : (mbox msg : ℕ) (cmp : Cmp) (value : ℤ) (active : Bool) → mbox < 5 → msg < 3 → IsNumber value → IsFilter board (field_test mbox msg cmp value active)
+is_filter mbox msg cmp value active m g n = record { mbox = m; msg = g; field = search rules; value = n }
+
+-- each variable is 0
+all_zero : AllByRecursion IsNumber no_agent.vars.0
+all_zero = (refl, (refl, (refl, (refl, (refl, (refl, (refl, (refl, (refl, (refl, (refl, (refl, (refl, (refl, (refl, (refl, tt))))))))))))))))
 
 -- an agent of two rows and two filters without an id
-is_agent : (name : List ℕ) (r r' : Row) (mbox msg : ℕ) (cmp : Cmp) (value : ℤ) (active : Bool) (mbox' msg' : ℕ) (cmp' : Cmp) (value' : ℤ) (active' : Bool) → is_name name ≡ true → has_handler r.kind ≡ true → has_handler r'.kind ≡ true → IsRow board 0 r → IsRow board 0 r' → mbox < 5 → msg < 3 → mbox' < 5 → msg' < 3 →
+is_agent : (name : List ℕ) (r r' : Row) (mbox msg : ℕ) (cmp : Cmp) (value : ℤ) (active : Bool) (mbox' msg' : ℕ) (cmp' : Cmp) (value' : ℤ) (active' : Bool) → is_name name ≡ true → has_handler r.kind ≡ true → has_handler r'.kind ≡ true → IsRow board 0 r → IsRow board 0 r' → mbox < 5 → msg < 3 → IsNumber value → mbox' < 5 → msg' < 3 → IsNumber value' →
     IsAgent board (agent name (r ∷ r' ∷ []) (field_test mbox msg cmp value active ∷ field_test mbox' msg' cmp' value' active' ∷ []))
 unfolding IsDistinct
-is_agent name r r' mbox msg cmp value active mbox' msg' cmp' value' active' n h h' a b m g m' g' = record {
+is_agent name r r' mbox msg cmp value active mbox' msg' cmp' value' active' n h h' a b m g k m' g' k' = record {
   named = n;
   coop = refl;
   disp = search rules;
   group = refl;
   priority = refl;
   vars = refl;
+  numbers = All-from_recursion IsNumber no_agent.vars.0 all_zero;
   tree = IsTree-flat;
   no_limits = All-from_recursion HasNoLimit [] tt;
   state_names = refl;
-  states_named = All-nil (λ name. is_name name ≡ true);
+  states_named = All-nil (λ name. is_state_name name ≡ true);
+  initial = All-nil HasParent;
   each_state_once = tt;
   few_rows = search rules;
   rows = All-from_recursion (IsRow board 0) (r ∷ r' ∷ []) (a, (b, tt));
@@ -67,21 +74,23 @@ is_agent name r r' mbox msg cmp value active mbox' msg' cmp' value' active' n h 
   rows_named = All-nil (λ name. is_name name ≡ true);
   each_row_id_once = tt;
   few_filters = search rules;
-  filters = All-from_recursion (IsFilter board) (field_test mbox msg cmp value active ∷ field_test mbox' msg' cmp' value' active' ∷ []) (is_filter mbox msg cmp value active m g, (is_filter mbox' msg' cmp' value' active' m' g', tt));
+  filters = All-from_recursion (IsFilter board) (field_test mbox msg cmp value active ∷ field_test mbox' msg' cmp' value' active' ∷ []) (is_filter mbox msg cmp value active m g k, (is_filter mbox' msg' cmp' value' active' m' g' k', tt));
   filters_named = All-nil (λ name. is_name name ≡ true);
   each_filter_id_once = tt;
   code = idle_is_code;
   bodies = rw (h, h') refl;
   parts = All-from_recursion (NamesParts board (agent name (r ∷ r' ∷ []) (field_test mbox msg cmp value active ∷ field_test mbox' msg' cmp' value' active' ∷ []))) idle_code (tt, (tt, (tt, (tt, tt))));
+  written = All-from_recursion (IsWritten board) idle_code (tt, (tt, (tt, (tt, tt))));
+  short = refl;
 }
 
 are_agents : AllByRecursion (IsAgent board) board.agents
 are_agents = (
-  is_agent _ _ _ _ _ _ _ _ _ _ _ _ _ refl refl refl (is_row _ _ _ _ (search rules) (search rules) tt) (is_row _ _ _ _ (search rules) (search rules) tt) (search rules) (search rules) (search rules) (search rules),
+  is_agent _ _ _ _ _ _ _ _ _ _ _ _ _ refl refl refl (is_row _ _ _ _ (search rules) (search rules) tt) (is_row _ _ _ _ (search rules) (search rules) tt) (search rules) (search rules) refl (search rules) (search rules) refl,
   (
-    is_agent _ _ _ _ _ _ _ _ _ _ _ _ _ refl refl refl (is_row _ _ _ _ (search rules) (search rules) tt) (is_row _ _ _ _ (search rules) (search rules) refl) (search rules) (search rules) (search rules) (search rules),
+    is_agent _ _ _ _ _ _ _ _ _ _ _ _ _ refl refl refl (is_row _ _ _ _ (search rules) (search rules) tt) (is_row _ _ _ _ (search rules) (search rules) refl) (search rules) (search rules) refl (search rules) (search rules) refl,
     (
-      is_agent _ _ _ _ _ _ _ _ _ _ _ _ _ refl refl refl (is_row _ _ _ _ (search rules) (search rules) refl) (is_row _ _ _ _ (search rules) (search rules) tt) (search rules) (search rules) (search rules) (search rules),
+      is_agent _ _ _ _ _ _ _ _ _ _ _ _ _ refl refl refl (is_row _ _ _ _ (search rules) (search rules) refl) (is_row _ _ _ _ (search rules) (search rules) tt) (search rules) (search rules) refl (search rules) (search rules) refl,
       tt,
     ),
   ),

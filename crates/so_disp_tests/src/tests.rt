@@ -13,7 +13,8 @@ use std::process::Abort;
 use std::test::Fail;
 
 /// One agent, on the dispatcher `default`.
-const ONE_QUEUE: &str = "{\"version\":1,\"coops\":[{\"name\":\"main\",\"agents\":[{\"name\":\"a\"}]}]}";
+const ONE_QUEUE: &str =
+    "{\"version\":1,\"coops\":[{\"name\":\"main\",\"agents\":[{\"name\":\"a\"}]}]}";
 
 /// An agent on the dispatcher `default`, and two on a pool of one thread with a queue for each. The queues have the
 /// numbers of their agents.

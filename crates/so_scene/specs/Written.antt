@@ -1,5 +1,5 @@
 -- What a file can say of an agent's numbers and acts.
-use Rattle.std.specs.Prelude.{◌≡◌, ℕ, zero, suc, ◌==◌, ◌&&◌, ℤ, pos, List, [], ◌∷◌, length, codes, bytes_eq, nat_lt, not, Bool, true, false, is_some, if◌then◌else◌}
+use Rattle.std.specs.Prelude.{◌≡◌, ℕ, zero, suc, ◌==◌, ◌&&◌, ℤ, pos, List, [], ◌∷◌, length, codes, bytes_eq, nat_lt, not, Bool, true, false, is_some, slice_index_or, if◌then◌else◌}
 use Rattle.so_code.specs.declared.instr.Args.{Args}
 use Rattle.so_code.specs.declared.instr.Instr.{Instr}
 use Rattle.so_code.specs.declared.instr.Instr.TheVariants as instr
@@ -8,8 +8,9 @@ use Rattle.so_code.specs.declared.instr.Operand.TheVariants as operand
 use Rattle.so_code.specs.Bodies.{is_end}
 use Rattle.so_code.specs.Values.{fits}
 use Rattle.so_state.specs.declared.states.State.{State}
+use Rattle.so_scene.specs.declared.parts.MessageDef.{MessageDef}
 use Rattle.so_scene.specs.declared.parts.SceneParts.{SceneParts}
-use Rattle.so_scene.specs.Parts.{message_of}
+use Rattle.so_scene.specs.Parts.{no_message}
 use Rattle.so_scene.specs.Words.{is_name}
 
 -- ---- states
@@ -46,17 +47,20 @@ pub record AreOperands (args : Args) : Type 0 where
   pub four : length args.list ≡ 4
   pub padded : ArePadded args.used args.list
 
--- a signal is sent without operands
+-- an act among these messages; a signal is sent without operands
+abbrev pub IsWrittenAmong : List MessageDef → Instr → Type 0
+IsWrittenAmong messages (instr.Set to a) = IsOperand a
+IsWrittenAmong messages (instr.Add to a b) = IsOperand a × IsOperand b
+IsWrittenAmong messages (instr.Sub to a b) = IsOperand a × IsOperand b
+IsWrittenAmong messages (instr.Mul to a b) = IsOperand a × IsOperand b
+IsWrittenAmong messages (instr.If a cmp b count) = IsOperand a × IsOperand b
+IsWrittenAmong messages (instr.Throw a) = IsOperand a
+IsWrittenAmong messages (instr.Log text args) = AreOperands args
+IsWrittenAmong messages (instr.Send target msg args) = AreOperands args × ((slice_index_or messages msg.0 no_message).signal ≡ true → args.used ≡ 0)
+IsWrittenAmong messages other = Unit {0}
+
 abbrev pub IsWritten : SceneParts → Instr → Type 0
-IsWritten s (instr.Set to a) = IsOperand a
-IsWritten s (instr.Add to a b) = IsOperand a × IsOperand b
-IsWritten s (instr.Sub to a b) = IsOperand a × IsOperand b
-IsWritten s (instr.Mul to a b) = IsOperand a × IsOperand b
-IsWritten s (instr.If a cmp b count) = IsOperand a × IsOperand b
-IsWritten s (instr.Throw a) = IsOperand a
-IsWritten s (instr.Log text args) = AreOperands args
-IsWritten s (instr.Send target msg args) = AreOperands args × ((message_of s msg).signal ≡ true → args.used ≡ 0)
-IsWritten s other = Unit {0}
+IsWritten s i = IsWrittenAmong s.messages i
 
 -- each body has at most 256 acts, where so many stand before
 abbrev pub are_short : ℕ → List Instr → Bool

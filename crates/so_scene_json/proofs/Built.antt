@@ -7,10 +7,10 @@ use Rattle.std.proofs.lemmas.List.{map_push, take_all}
 use Rattle.std.proofs.lemmas.List.Elements.{filter-append, filter_map-append}
 use Rattle.std.proofs.lemmas.List.Quantifiers.{position-Some}
 use Rattle.std.specs.Prelude.{slice_index_or}
-use Rattle.std.specs.List.{All, AllByRecursion, IsDistinct, list_any, filter, filter_map}
+use Rattle.std.specs.List.{range_with_len, All, AllByRecursion, IsDistinct, list_any, filter, filter_map}
 use Rattle.serde_json.specs.Data.{Data, Items, no_items, item}
 use Rattle.serde_json.specs.Events.{items_len}
-use Rattle.serde_json.specs.Find.{get, as_str}
+use Rattle.serde_json.specs.Find.{get, get_item, as_str}
 use Rattle.so_ids.specs.declared.AgentId.{AgentId}
 use Rattle.so_ids.specs.declared.DispId.{DispId}
 use Rattle.so_ids.specs.declared.MboxId.{MboxId}
@@ -34,6 +34,7 @@ use Rattle.so_state.specs.States.{default_state}
 use Rattle.so_scene.specs.Names.{has_name, number_in}
 use Rattle.so_scene.specs.Parts.{message_name, agent_name, disp_name, default_disp, no_agent, agent_of as scene_agent, groups_of as scene_groups}
 use Rattle.so_scene.specs.Words.{is_name, is_text}
+use Rattle.so_scene.specs.Written.{IsNumber, HasParent, IsWrittenAmong, is_state_name}
 use Rattle.so_scene.proofs.Positions.{absent_any, added_distinct, no_names as no_distinct}
 use Rattle.so_scene.specs.declared.fault.SceneFault.{SceneFault}
 use Rattle.so_scene.specs.declared.fault.SceneFault.TheVariants as fault
@@ -61,17 +62,21 @@ use Rattle.so_scene_json.specs.Values.{name_in, name_of, string_in, id_in, group
 use Rattle.so_scene_json.specs.Visits.{Visit, enters, tries, leaves, Place, run, ◌>>=◌, narrow, listed, list_of}
 use Rattle.so_scene_json.specs.Shape.{shape_step}
 use Rattle.so_scene_json.specs.Scope.{ids_of, state_items, row_items, filter_items, scope_of, state_number}
-use Rattle.so_scene_json.specs.Twice.{twice_step, disp_number, disp_number_in, kinds_in, no_names, names_in, with_name, entering, declared_name, with_mbox_read, with_mboxes, with_field}
+use Rattle.so_scene_json.specs.Numbers.{HasNumbers, HaveNumbers}
+use Rattle.so_scene_json.specs.Twice.{is_signal, twice_step, disp_number, kinds_in, no_names, names_in, with_name, entering, declared_name, with_mbox_read, with_mboxes, with_field}
 use Rattle.so_scene_json.specs.Known.{known_step, knows, kind_at}
 use Rattle.so_scene_json.specs.Groups.{names_for, names_at, with_group, group_number, group_lists}
-use Rattle.so_scene_json.specs.Defs.{message_of, disp_of, disp_in, threads_in, state_named, state_in, state_of, states_of, row_of, rows_of, mbox_in, handler_kind, kind_of, number_named, narrow_or_zero, filter_of, filters_of, field_in}
-use Rattle.so_scene_json.specs.Build.{build_step, no_parts, agent_added, with_message, with_disp, with_coop, is_long, unless_broken, tree_of, with_tree, with_code, with_agent, agent_with, agent_of, agent_written, fresh, written}
+use Rattle.so_scene_json.specs.Defs.{var_at, vars_of, message_of, disp_of, disp_in, threads_in, state_named, state_in, state_of, states_of, row_of, rows_of, mbox_in, handler_kind, kind_of, number_named, narrow_or_zero, filter_of, filters_of, field_in}
+use Rattle.so_scene_json.specs.Build.{build_step, no_parts, agent_added, with_message, with_disp, with_coop, is_long, unless_broken, with_tree, with_code, with_agent, agent_with, agent_of, agent_written, fresh, written}
 use Rattle.so_scene_json.specs.Scene.{fields, no_state, exceeds, fault_of, first_fault, is_refused, coops_of, only, parts_of}
 use Rattle.so_scene_json.specs.Kept.{IsBuiltRow, IsBuiltFilter, IsBuiltAgent, AreBuiltGroups, disp_kind, agent_group, is_on, uses_on, texts_of, named_among, IsBuilt, IsChecked}
 use Rattle.so_scene_json.proofs.Grouped.{AreNames, NamedIfGiven, few_more, names_more, number_below, numbered_more, group_names_more, no_group_names, no_group_uses}
 use Rattle.so_scene_json.proofs.Codes.{HasFewIds, Grows, IsWritten, allows, names_grow, state_below, one_number, handled, is_short, agent_is_written, agent_grows, agent_numbers, agent_scope, agent_texts, OnOk, read_fine, then_fine, natural_fine}
 use Rattle.so_scene_json.proofs.Ends.{all_of, length_map, length_listed}
-use Rattle.so_scene_json.proofs.Passed.{ok, ok_same, swapped, HasRow, HasFilter, HasGroup, HasDisp, IsFineDisp, IsFineAgent, EntersFine, passed_all, scene_fine, total, is_message, is_dispatcher, mboxes_in_field, mboxes_named, few_messages, few_mboxes, few_dispatchers}
+use Rattle.so_scene_json.proofs.Uses.{texts-push, all_texts, all_uses}
+use Rattle.so_scene_json.proofs.Numbers.{get_numbers, item_numbers, list_numbers, number_read, visits_numbers}
+use Rattle.so_scene_json.proofs.Said.{AreMessages, AreSaid, message_signal, agent_said, said_short}
+use Rattle.so_scene_json.proofs.Passed.{ok, ok_same, swapped, HasState, HasRow, HasFilter, HasGroup, HasDisp, IsFineDisp, IsFineAgent, EntersFine, passed_all, scene_fine, total, is_message, is_dispatcher, mboxes_in_field, mboxes_named, few_messages, few_mboxes, few_dispatchers}
 
 -- ---- what each step keeps, the whole run keeps
 
@@ -183,30 +188,31 @@ record SameNames (s t : Declared) : Type 0 where
   kinds : t.kinds ≡ s.kinds
   agents : t.agents ≡ s.agents
   mboxes : t.mboxes ≡ s.mboxes
+  signals : t.signals ≡ s.signals
 
 same_names : (s t : Declared) → s ≡ t → SameNames s t
-same_names s t e = record { messages = ap (λ (x : Declared). x.messages) (sym e); dispatchers = ap (λ (x : Declared). x.dispatchers) (sym e); kinds = ap (λ (x : Declared). x.kinds) (sym e); agents = ap (λ (x : Declared). x.agents) (sym e); mboxes = ap (λ (x : Declared). x.mboxes) (sym e) }
+same_names s t e = record { messages = ap (λ (x : Declared). x.messages) (sym e); dispatchers = ap (λ (x : Declared). x.dispatchers) (sym e); kinds = ap (λ (x : Declared). x.kinds) (sym e); agents = ap (λ (x : Declared). x.agents) (sym e); mboxes = ap (λ (x : Declared). x.mboxes) (sym e); signals = ap (λ (x : Declared). x.signals) (sym e) }
 
 state_names : (place : Place) (o : Option (List ℕ)) (s t : Declared) → declared_name place space.States o s ≡ Ok t → SameNames s t
 state_names place None s t e = same_names s t (ok_same s t e)
 state_names place (Some name) s t e =
     let p = if_ok (has_name s.states name) _ (with_name space.States name s) t e in
     let q = same_names (with_name space.States name s) t p.1 in
-    record { messages = q.messages; dispatchers = q.dispatchers; kinds = q.kinds; agents = q.agents; mboxes = q.mboxes }
+    record { messages = q.messages; dispatchers = q.dispatchers; kinds = q.kinds; agents = q.agents; mboxes = q.mboxes; signals = q.signals }
 
 row_names : (place : Place) (o : Option (List ℕ)) (s t : Declared) → declared_name place space.Rows o s ≡ Ok t → SameNames s t
 row_names place None s t e = same_names s t (ok_same s t e)
 row_names place (Some name) s t e =
     let p = if_ok (has_name s.rows name) _ (with_name space.Rows name s) t e in
     let q = same_names (with_name space.Rows name s) t p.1 in
-    record { messages = q.messages; dispatchers = q.dispatchers; kinds = q.kinds; agents = q.agents; mboxes = q.mboxes }
+    record { messages = q.messages; dispatchers = q.dispatchers; kinds = q.kinds; agents = q.agents; mboxes = q.mboxes; signals = q.signals }
 
 filter_names : (place : Place) (o : Option (List ℕ)) (s t : Declared) → declared_name place space.Filters o s ≡ Ok t → SameNames s t
 filter_names place None s t e = same_names s t (ok_same s t e)
 filter_names place (Some name) s t e =
     let p = if_ok (has_name s.filters name) _ (with_name space.Filters name s) t e in
     let q = same_names (with_name space.Filters name s) t p.1 in
-    record { messages = q.messages; dispatchers = q.dispatchers; kinds = q.kinds; agents = q.agents; mboxes = q.mboxes }
+    record { messages = q.messages; dispatchers = q.dispatchers; kinds = q.kinds; agents = q.agents; mboxes = q.mboxes; signals = q.signals }
 
 distinct_same : (s t : Declared) → SameNames s t → AreDistinct s → AreDistinct t
 distinct_same s t q k = record {
@@ -243,6 +249,7 @@ record HaveNames (s : Declared) (b : Build) : Type 0 where
   dispatchers : map disp_name b.dispatchers ≡ codes "default" ∷ s.dispatchers
   kinds : map disp_kind b.dispatchers ≡ kinds_in s
   agents : map agent_name b.agents ≡ s.agents
+  signals : map message_signal b.messages ≡ s.signals
 
 tree_in : Data → List State
 tree_in d = states_of (scope_of d) (state_items d)
@@ -285,26 +292,27 @@ record SameAgents (s t : Declared) : Type 0 where
   dispatchers : t.dispatchers ≡ s.dispatchers
   kinds : t.kinds ≡ s.kinds
   agents : t.agents ≡ s.agents
+  signals : t.signals ≡ s.signals
 
 mbox_agents : (b : Bool) (s : Declared) (name : List ℕ) → SameAgents s (if b then s else record s { mboxes = s.mboxes ++ name ∷ [] })
-mbox_agents true s name = record { messages = refl; dispatchers = refl; kinds = refl; agents = refl }
-mbox_agents false s name = record { messages = refl; dispatchers = refl; kinds = refl; agents = refl }
+mbox_agents true s name = record { messages = refl; dispatchers = refl; kinds = refl; agents = refl; signals = refl }
+mbox_agents false s name = record { messages = refl; dispatchers = refl; kinds = refl; agents = refl; signals = refl }
 
 read_agents : (r : Result (List ℕ) Trouble) (s : Declared) → SameAgents s (with_mbox_read r s)
 read_agents (Ok name) s = mbox_agents (has_name (names_in space.Mboxes s) name) s name
-read_agents (Err t) s = record { messages = refl; dispatchers = refl; kinds = refl; agents = refl }
+read_agents (Err t) s = record { messages = refl; dispatchers = refl; kinds = refl; agents = refl; signals = refl }
 
 mboxes_agents : (ds : Items) (s : Declared) → SameAgents s (with_mboxes ds s)
 unfolding with_mboxes
-mboxes_agents no_items s = record { messages = refl; dispatchers = refl; kinds = refl; agents = refl }
+mboxes_agents no_items s = record { messages = refl; dispatchers = refl; kinds = refl; agents = refl; signals = refl }
 mboxes_agents (item d ds) s =
     let one = read_agents (name_of d) s in
     let more = mboxes_agents ds (with_mbox_read (name_of d) s) in
-    record { messages = more.messages ∙ one.messages; dispatchers = more.dispatchers ∙ one.dispatchers; kinds = more.kinds ∙ one.kinds; agents = more.agents ∙ one.agents }
+    record { messages = more.messages ∙ one.messages; dispatchers = more.dispatchers ∙ one.dispatchers; kinds = more.kinds ∙ one.kinds; agents = more.agents ∙ one.agents; signals = more.signals ∙ one.signals }
 
 field_agents : (f : Form) (found : Option Data) (s : Declared) → SameAgents s (with_field f found s)
 field_agents (form.Mboxes limit) found s = mboxes_agents (list_of found) s
-field_agents other found s = record { messages = refl; dispatchers = refl; kinds = refl; agents = refl }
+field_agents other found s = record { messages = refl; dispatchers = refl; kinds = refl; agents = refl; signals = refl }
 
 have_same : (s t : Declared) (b : Build) → SameAgents s t → HaveNames s b → HaveNames t b
 have_same s t b q k = record {
@@ -312,17 +320,18 @@ have_same s t b q k = record {
   dispatchers = k.dispatchers ∙ ap (λ (names : List (List ℕ)). codes "default" ∷ names) (sym q.dispatchers);
   kinds = k.kinds ∙ ap (λ (kinds : List DispKind). OneThread ∷ kinds) (sym q.kinds);
   agents = k.agents ∙ sym q.agents;
+  signals = k.signals ∙ sym q.signals;
 }
 
 agents_same : (s t : Declared) → SameNames s t → SameAgents s t
-agents_same s t q = record { messages = q.messages; dispatchers = q.dispatchers; kinds = q.kinds; agents = q.agents }
+agents_same s t q = record { messages = q.messages; dispatchers = q.dispatchers; kinds = q.kinds; agents = q.agents; signals = q.signals }
 
 names_step : (s u : Declared) (b c : Build) (v : Visit) → HaveNames s b → twice_step s v ≡ Ok u → build_step b v ≡ Ok c → HaveNames u c
 unfolding agent_after agent_made
 names_step s u b c (enters object.Message place d) k e f =
     let p = if_ok (has_name s.messages (name_in d)) _ (with_name space.Messages (name_in d) (entering object.Message d s)) u e in
     subst (λ y. HaveNames u y) (ok_same (with_message d b) c f) (subst (λ x. HaveNames x (with_message d b)) p.1
-    (record { messages = map_push message_name b.messages (message_of d) ∙ ap (λ l. l ++ name_in d ∷ []) k.messages; dispatchers = k.dispatchers; kinds = k.kinds; agents = k.agents }))
+    (record { messages = map_push message_name b.messages (message_of d) ∙ ap (λ l. l ++ name_in d ∷ []) k.messages; dispatchers = k.dispatchers; kinds = k.kinds; agents = k.agents; signals = map_push message_signal b.messages (message_of d) ∙ ap (λ l. l ++ is_signal d ∷ []) k.signals }))
 names_step s u b c (enters object.Dispatcher place d) k e f =
     let p = if_ok (has_name (codes "default" ∷ s.dispatchers) (name_in d)) _ (with_name space.Dispatchers (name_in d) (entering object.Dispatcher d s)) u e in
     subst (λ y. HaveNames u y) (ok_same (with_disp d b) c f) (subst (λ x. HaveNames x (with_disp d b)) p.1
@@ -331,16 +340,17 @@ names_step s u b c (enters object.Dispatcher place d) k e f =
       dispatchers = map_push disp_name b.dispatchers (disp_of d) ∙ ap (λ l. l ++ name_in d ∷ []) k.dispatchers;
       kinds = map_push disp_kind b.dispatchers (disp_of d) ∙ ap (λ l. l ++ disp_kind_in d ∷ []) k.kinds;
       agents = k.agents;
+      signals = k.signals;
     }))
 names_step s u b c (enters object.Coop place d) k e f =
     let p = if_ok (has_name s.coops (name_in d)) _ (with_name space.Coops (name_in d) s) u e in
     subst (λ y. HaveNames u y) (ok_same (with_coop d b) c f) (subst (λ x. HaveNames x (with_coop d b)) p.1
-    (record { messages = k.messages; dispatchers = k.dispatchers; kinds = k.kinds; agents = k.agents }))
+    (record { messages = k.messages; dispatchers = k.dispatchers; kinds = k.kinds; agents = k.agents; signals = k.signals }))
 names_step s u b c (enters object.Agent place d) k e f =
     let p = if_ok (has_name (s.agents ++ s.mboxes) (name_in d)) _ (with_name space.Mboxes (name_in d) (entering object.Agent d s)) u e in
     let q = agent_ok place b c d f in
     subst (λ y. HaveNames u y) q.same (subst (λ x. HaveNames x (agent_after b d)) p.1
-    (record { messages = k.messages; dispatchers = k.dispatchers; kinds = k.kinds; agents = map_push agent_name b.agents (agent_made b d) ∙ ap (λ l. l ++ name_in d ∷ []) k.agents }))
+    (record { messages = k.messages; dispatchers = k.dispatchers; kinds = k.kinds; agents = map_push agent_name b.agents (agent_made b d) ∙ ap (λ l. l ++ name_in d ∷ []) k.agents; signals = k.signals }))
 names_step s u b c (enters object.State place d) k e f =
     let q = state_names place (Some (name_in d)) s u e in
     subst (λ y. HaveNames u y) (ok_same b c f) (have_same s u b (agents_same s u q) k)
@@ -408,6 +418,19 @@ given_flag (Some d) e = refl
 no_limits_in : (scope : Scope) (ds : List Data) → AllByRecursion HasNoLimit (map (state_of scope) ds)
 no_limits_in scope [] = tt
 no_limits_in scope (d ∷ ds) = (refl, no_limits_in scope ds)
+
+parent_given : (b : Bool) (s : StateId) → b ≡ true → is_some (if b then Some s else None) ≡ true
+parent_given true s e = refl
+parent_given false s e = absurd (true≢false (sym e))
+
+parents_given : (names : Declared) (scope : Scope) (ds : List Data) → AllByRecursion (HasState names) ds → AllByRecursion HasParent (map (state_of scope) ds)
+parents_given names scope [] a = tt
+parents_given names scope (d ∷ ds) a = (λ initial. parent_given (is_some (get (codes "parent") d)) (state_in scope (codes "parent") d) (a.0.parent initial), parents_given names scope ds a.1)
+
+-- variables are numbers
+vars_fit : (ds : Items) → HaveNumbers ds → (ks : List ℕ) → AllByRecursion IsNumber (map (λ k. var_at k ds) ks)
+vars_fit ds h [] = tt
+vars_fit ds h (k ∷ ks) = (number_read (get_item k ds) (item_numbers k ds h), vars_fit ds h ks)
 
 length_tree : (d : Data) → length (tree_in d) ≡ items_len (state_items d)
 unfolding tree_in
@@ -481,7 +504,7 @@ few_fields d =
     (λ x. after_low 0 3 (integer_of x then natural_up_to 3) (then_fine (λ k. k ≤ 3) (integer_of x) (natural_up_to 3) (natural_fine 3)))
 
 built_filter : (names : Declared) (d : Data) → HasFilter names d → IsBuiltFilter (length names.agents + length names.mboxes) (length names.messages) (filter_of names d)
-built_filter names d h = record { mbox = mbox_in_range names d h.mbox; msg = msg_in_range names d h.msg; field = few_fields d }
+built_filter names d h = record { mbox = mbox_in_range names d h.mbox; msg = msg_in_range names d h.msg; field = few_fields d; value = h.value }
 
 ids_of_filters : (names : Declared) (ds : List Data) → map filter_id (map (filter_of names) ds) ≡ map id_in ds
 ids_of_filters names [] = refl
@@ -538,15 +561,15 @@ few_ids names d fine = record {
   filters = omega (arith, length_map id_in (listed (filter_items d)), length_listed (filter_items d), fine.few_filters);
 }
 
-built_with : (a : ℕ) (names : Declared) (groups : List Group) (d : Data) (code : List Instr) (texts : ℕ) → HasFewDisps names → a < length names.agents → IsFineAgent names d → is_long d ≡ false → tree_fault (tree_in d) ≡ None → IsWritten names (scope_of d) d code texts
-    → IsBuiltAgent (length names.agents + length names.mboxes) (length names.messages) texts (kinds_in names) (with_group (disp_in names d) (group_in d) groups) (agent_with a names groups d (tree_in d) (scope_of d) code)
+built_with : (a : ℕ) (names : Declared) (messages : List MessageDef) (groups : List Group) (d : Data) (code : List Instr) (texts : ℕ) → AreMessages names messages → HasFewDisps names → a < length names.agents → IsFineAgent names d → is_long d ≡ false → tree_fault (tree_in d) ≡ None → IsWritten names (scope_of d) d code texts → AreSaid messages code
+    → IsBuiltAgent (length names.agents + length names.mboxes) messages texts (kinds_in names) (with_group (disp_in names d) (group_in d) groups) (agent_with a names groups d (tree_in d) (scope_of d) code)
 unfolding tree_in
-built_with a names groups d code texts disps below fine long sound wrote =
+built_with a names messages groups d code texts known disps below fine long sound wrote said =
     let short = is_short d long in
     let filters : map filter_id (filters_of names (filter_items d)) ≡ ids_of (filter_items d) = ids_of_filters names (listed (filter_items d)) in
     let count : length (rows_of a names (scope_of d) (row_items d)) ≡ items_len (row_items d) = omega (arith, length_map (row_of a names (scope_of d)) (listed (row_items d)), length_listed (row_items d)) in
     let states : length (scope_of d).states ≡ length (states_of (scope_of d) (state_items d)) = length_states d ∙ sym (length_tree d) in
-    let grows : Grows (allows names (scope_of d) texts) (named_among (length names.agents + length names.mboxes) (length names.messages) texts (length (states_of (scope_of d) (state_items d))) (ids_of (row_items d)) (map filter_id (filters_of names (filter_items d)))) = record { mboxes = omega arith; messages = refl; texts = omega arith; states = sym states; rows = refl; filters = filters } in
+    let grows : Grows (allows names (scope_of d) texts) (named_among (length names.agents + length names.mboxes) (length messages) texts (length (states_of (scope_of d) (state_items d))) (ids_of (row_items d)) (map filter_id (filters_of names (filter_items d)))) = record { mboxes = omega arith; messages = known.count; texts = omega arith; states = sym states; rows = refl; filters = filters } in
     record {
       named = fine.named;
       coop = refl;
@@ -554,32 +577,38 @@ built_with a names groups d code texts disps below fine long sound wrote =
       group = group_there names d groups fine.on disps;
       priority = refl;
       vars = refl;
+      numbers = all_of IsNumber (vars_of d).0 (vars_fit (list_of (get (codes "vars") d)) (list_numbers (get (codes "vars") d) (get_numbers (codes "vars") d fine.numbers)) (range_with_len 0 16));
       tree = record { few = omega (arith, length_tree d, short.states); sound = sound };
       no_limits = all_of _ _ (no_limits_in (scope_of d) (listed (state_items d)));
       state_names = states;
-      states_named = all_of (λ name. is_name name ≡ true) (scope_of d).states fine.states_named;
+      states_named = all_of (λ name. is_state_name name ≡ true) (scope_of d).states fine.states_named;
+      initial = all_of HasParent (tree_in d) (parents_given names (scope_of d) (listed (state_items d)) fine.states);
       each_state_once = fine.state_names;
       few_rows = omega (arith, count, fine.few_rows);
-      rows = all_of _ _ (each_map (HasRow names) (IsBuiltRow (length names.agents + length names.mboxes) (length names.messages) (length (states_of (scope_of d) (state_items d)))) (row_of a names (scope_of d)) (λ x h. built_row a (length (states_of (scope_of d) (state_items d))) names (scope_of d) below states x h) (listed (row_items d)) fine.rows);
+      rows = subst (λ n. All (IsBuiltRow (length names.agents + length names.mboxes) n (length (states_of (scope_of d) (state_items d)))) (rows_of a names (scope_of d) (row_items d))) (sym known.count)
+          (all_of _ _ (each_map (HasRow names) (IsBuiltRow (length names.agents + length names.mboxes) (length names.messages) (length (states_of (scope_of d) (state_items d)))) (row_of a names (scope_of d)) (λ x h. built_row a (length (states_of (scope_of d) (state_items d))) names (scope_of d) below states x h) (listed (row_items d)) fine.rows));
       row_ids = length_map id_in (listed (row_items d)) ∙ sym (length_map (row_of a names (scope_of d)) (listed (row_items d)));
       rows_named = all_of (λ name. is_name name ≡ true) (given (ids_of (row_items d))) (ids_named (listed (row_items d)));
       each_row_id_once = fine.row_ids;
       few_filters = omega (arith, length_map (filter_of names) (listed (filter_items d)), length_listed (filter_items d), fine.few_filters);
-      filters = all_of _ _ (each_map (HasFilter names) (IsBuiltFilter (length names.agents + length names.mboxes) (length names.messages)) (filter_of names) (λ x h. built_filter names x h) (listed (filter_items d)) fine.filters);
+      filters = subst (λ n. All (IsBuiltFilter (length names.agents + length names.mboxes) n) (filters_of names (filter_items d))) (sym known.count)
+          (all_of _ _ (each_map (HasFilter names) (IsBuiltFilter (length names.agents + length names.mboxes) (length names.messages)) (filter_of names) (λ x h. built_filter names x h) (listed (filter_items d)) fine.filters));
       filters_named = subst (λ i. All (λ name. is_name name ≡ true) (given i)) (sym filters) (all_of (λ name. is_name name ≡ true) (given (ids_of (filter_items d))) (ids_named (listed (filter_items d))));
       each_filter_id_once = subst (λ i. IsDistinct bytes_eq (given i)) (sym filters) fine.filter_ids;
       code = wrote.code;
       bodies = wrote.bodies ∙ (ap (λ n. agent_bodies n (handled 0 (row_items d))) (sym (length_tree d)) ∙ ap (agent_bodies (length (states_of (scope_of d) (state_items d)))) (all_handled a names (scope_of d) 0 (row_items d)));
       parts = all_of _ _ (each-weaker _ _ (λ i h. names_grow _ _ i grows h) _ (wrote.named (few_ids names d fine)));
+      written = all_of (IsWrittenAmong messages) code said.written;
+      short = said_short messages code said;
     }
 
-built_agent : (a : ℕ) (names : Declared) (groups : List Group) (texts : List (List ℕ)) (d : Data) → HasFewDisps names → a < length names.agents → IsFineAgent names d → is_long d ≡ false → tree_fault (tree_in d) ≡ None → length (agent_written names (fresh texts d) d).code ≤ 1024
-    → IsBuiltAgent (length names.agents + length names.mboxes) (length names.messages) (length (agent_written names (fresh texts d) d).texts) (kinds_in names) (with_group (disp_in names d) (group_in d) groups) (agent_of a names groups d (tree_in d) (agent_written names (fresh texts d) d))
-built_agent a names groups texts d disps below fine long sound l =
-    subst (λ x. IsBuiltAgent (length names.agents + length names.mboxes) (length names.messages) (length (agent_written names (fresh texts d) d).texts) (kinds_in names) (with_group (disp_in names d) (group_in d) groups) (agent_with a names groups d (tree_in d) x (agent_written names (fresh texts d) d).code)) (sym (agent_scope names (fresh texts d) d))
-    (built_with a names groups d _ _ disps below fine long sound (agent_is_written names (fresh texts d) d (is_short d long) refl l))
+built_agent : (a : ℕ) (names : Declared) (messages : List MessageDef) (groups : List Group) (texts : List (List ℕ)) (d : Data) → AreMessages names messages → HasFewDisps names → a < length names.agents → IsFineAgent names d → is_long d ≡ false → tree_fault (tree_in d) ≡ None → length (agent_written names (fresh texts d) d).code ≤ 1024
+    → IsBuiltAgent (length names.agents + length names.mboxes) messages (length (agent_written names (fresh texts d) d).texts) (kinds_in names) (with_group (disp_in names d) (group_in d) groups) (agent_of a names groups d (tree_in d) (agent_written names (fresh texts d) d))
+built_agent a names messages groups texts d known disps below fine long sound l =
+    subst (λ x. IsBuiltAgent (length names.agents + length names.mboxes) messages (length (agent_written names (fresh texts d) d).texts) (kinds_in names) (with_group (disp_in names d) (group_in d) groups) (agent_with a names groups d (tree_in d) x (agent_written names (fresh texts d) d).code)) (sym (agent_scope names (fresh texts d) d))
+    (built_with a names messages groups d _ _ known disps below fine long sound (agent_is_written names (fresh texts d) d (is_short d long) refl l) (agent_said names messages known (fresh texts d) d fine refl))
 
-grown : (mboxes messages t u : ℕ) (kinds : List DispKind) (groups : List Group) (e : DispId) (o : Option (List ℕ)) (a : AgentDef) → t ≤ u → IsBuiltAgent mboxes messages t kinds groups a → IsBuiltAgent mboxes messages u kinds (with_group e o groups) a
+grown : (mboxes : ℕ) (messages : List MessageDef) (t u : ℕ) (kinds : List DispKind) (groups : List Group) (e : DispId) (o : Option (List ℕ)) (a : AgentDef) → t ≤ u → IsBuiltAgent mboxes messages t kinds groups a → IsBuiltAgent mboxes messages u kinds (with_group e o groups) a
 grown mboxes messages t u kinds groups e o a l h = record {
   named = h.named;
   coop = h.coop;
@@ -587,10 +616,12 @@ grown mboxes messages t u kinds groups e o a l h = record {
   group = group_grows (slice_index_or kinds a.disp.0 OneThread) (length (names_for a.disp groups)) (length (names_for a.disp (with_group e o groups))) a.group (names_more a.disp e o groups) h.group;
   priority = h.priority;
   vars = h.vars;
+  numbers = h.numbers;
   tree = h.tree;
   no_limits = h.no_limits;
   state_names = h.state_names;
   states_named = h.states_named;
+  initial = h.initial;
   each_state_once = h.each_state_once;
   few_rows = h.few_rows;
   rows = h.rows;
@@ -603,41 +634,39 @@ grown mboxes messages t u kinds groups e o a l h = record {
   each_filter_id_once = h.each_filter_id_once;
   code = h.code;
   bodies = h.bodies;
-  parts = λ i d k. names_grow (named_among mboxes messages t (length a.tree) a.row_ids (filter_ids a)) (named_among mboxes messages u (length a.tree) a.row_ids (filter_ids a)) (get_or a.code i d) (record { mboxes = omega arith; messages = refl; texts = l; states = refl; rows = refl; filters = refl }) (h.parts i d k);
+  parts = λ i d k. names_grow (named_among mboxes (length messages) t (length a.tree) a.row_ids (filter_ids a)) (named_among mboxes (length messages) u (length a.tree) a.row_ids (filter_ids a)) (get_or a.code i d) (record { mboxes = omega arith; messages = refl; texts = l; states = refl; rows = refl; filters = refl }) (h.parts i d k);
+  written = h.written;
+  short = h.short;
 }
 
 -- ---- the fourth pass
 
 -- while there are no more agents than were declared, each is among all mboxes
-abbrev AreAgents : Declared → Build → Type 0
-AreAgents names s = AllByRecursion (IsBuiltAgent (length names.agents + length names.mboxes) (length names.messages) (length s.texts) (kinds_in names) s.groups) s.agents
+abbrev AreAgents : Declared → List MessageDef → Build → Type 0
+AreAgents names messages s = AllByRecursion (IsBuiltAgent (length names.agents + length names.mboxes) messages (length s.texts) (kinds_in names) s.groups) s.agents
 
 -- the agents, and the groups and texts in the order in which agents name them
-record AreKept (names : Declared) (s : Build) : Type 0 where
+record AreKept (names : Declared) (messages : List MessageDef) (s : Build) : Type 0 where
   known : s.names ≡ names
-  agents : length s.agents ≤ length names.agents → AreAgents names s
+  agents : length s.agents ≤ length names.agents → AreAgents names messages s
   texts : AllByRecursion (λ t. is_text t ≡ true) s.texts
   texts_numbered : length s.texts ≤ 4096 → AreNumbered (texts_of s.agents) (length s.texts)
   few_groups : length s.groups ≤ length s.agents
   group_names : (d : DispId) → AreNames (names_for d s.groups)
   groups_numbered : length s.agents ≤ 4096 → (d : DispId) → AreNumbered (uses_on d s.agents) (length (names_for d s.groups))
 
-agents_kept : (names : Declared) (s t : Build) (d : Data) → HasFewDisps names → IsFineAgent names d → AreKept names s → IsAdded d s t → length (agent_after s d).agents ≤ length names.agents → AreAgents names (agent_after s d)
+agents_kept : (names : Declared) (messages : List MessageDef) (s t : Build) (d : Data) → AreMessages names messages → HasFewDisps names → IsFineAgent names d → AreKept names messages s → IsAdded d s t → length (agent_after s d).agents ≤ length names.agents → AreAgents names messages (agent_after s d)
 unfolding agent_after agent_made
-agents_kept names s t d disps fine k q few =
+agents_kept names messages s t d known disps fine k q few =
     let one_less : length s.agents < length names.agents = omega (arith, few, length-append s.agents (agent_made s d ∷ [])) in
-    let new : IsBuiltAgent (length names.agents + length names.mboxes) (length names.messages) (length (written s d).texts) (kinds_in names) (with_group (disp_in s.names d) (group_in d) s.groups) (agent_made s d) =
-    subst (λ n. IsBuiltAgent (length names.agents + length names.mboxes) (length names.messages) (length (agent_written n (fresh s.texts d) d).texts) (kinds_in names) (with_group (disp_in n d) (group_in d) s.groups) (agent_of (length s.agents) n s.groups d (tree_in d) (agent_written n (fresh s.texts d) d))) (sym k.known)
-    (built_agent (length s.agents) names s.groups s.texts d disps one_less fine q.short q.sound (subst (λ n. length (agent_written n (fresh s.texts d) d).code ≤ 1024) k.known q.few)) in
-    each-append (IsBuiltAgent (length names.agents + length names.mboxes) (length names.messages) (length (written s d).texts) (kinds_in names) (with_group (disp_in s.names d) (group_in d) s.groups)) s.agents (agent_made s d ∷ [])
-    (each-weaker (IsBuiltAgent (length names.agents + length names.mboxes) (length names.messages) (length s.texts) (kinds_in names) s.groups) (IsBuiltAgent (length names.agents + length names.mboxes) (length names.messages) (length (written s d).texts) (kinds_in names) (with_group (disp_in s.names d) (group_in d) s.groups)) (λ a h. grown _ _ _ _ _ _ (disp_in s.names d) (group_in d) a (agent_grows s.names (fresh s.texts d) d) h) s.agents (k.agents (omega (arith, one_less))))
+    let new : IsBuiltAgent (length names.agents + length names.mboxes) messages (length (written s d).texts) (kinds_in names) (with_group (disp_in s.names d) (group_in d) s.groups) (agent_made s d) =
+    subst (λ n. IsBuiltAgent (length names.agents + length names.mboxes) messages (length (agent_written n (fresh s.texts d) d).texts) (kinds_in names) (with_group (disp_in n d) (group_in d) s.groups) (agent_of (length s.agents) n s.groups d (tree_in d) (agent_written n (fresh s.texts d) d))) (sym k.known)
+    (built_agent (length s.agents) names messages s.groups s.texts d known disps one_less fine q.short q.sound (subst (λ n. length (agent_written n (fresh s.texts d) d).code ≤ 1024) k.known q.few)) in
+    each-append (IsBuiltAgent (length names.agents + length names.mboxes) messages (length (written s d).texts) (kinds_in names) (with_group (disp_in s.names d) (group_in d) s.groups)) s.agents (agent_made s d ∷ [])
+    (each-weaker (IsBuiltAgent (length names.agents + length names.mboxes) messages (length s.texts) (kinds_in names) s.groups) (IsBuiltAgent (length names.agents + length names.mboxes) messages (length (written s d).texts) (kinds_in names) (with_group (disp_in s.names d) (group_in d) s.groups)) (λ a h. grown _ _ _ _ _ _ (disp_in s.names d) (group_in d) a (agent_grows s.names (fresh s.texts d) d) h) s.agents (k.agents (omega (arith, one_less))))
     (new, tt)
 
 -- the texts of one more agent
-texts-push : (agents : List AgentDef) (a : AgentDef) → texts_of (agents ++ a ∷ []) ≡ texts_of agents ++ text_uses a.code
-texts-push [] a = append-nil (text_uses a.code)
-texts-push (b ∷ agents) a = ap (λ l. text_uses b.code ++ l) (texts-push agents a) ∙ sym (append_assoc (text_uses b.code) (texts_of agents) (text_uses a.code))
-
 texts_kept : (s : Build) (d : Data) → (length s.texts ≤ 4096 → AreNumbered (texts_of s.agents) (length s.texts)) → length (agent_after s d).texts ≤ 4096 → AreNumbered (texts_of (agent_after s d).agents) (length (agent_after s d).texts)
 unfolding agent_after agent_made
 texts_kept s d old few =
@@ -659,11 +688,11 @@ groups_kept s d e groups old few =
     let one_less : length s.agents < 4096 = omega (arith, few, length-append s.agents (agent_made s d ∷ [])) in
     numbered_more e (disp_in s.names d) (group_in d) s.groups s.agents (agent_made s d) refl refl (omega (arith, one_less, groups)) (old (omega (arith, one_less)))
 
-agent_kept : (names : Declared) (s t : Build) (d : Data) → HasFewDisps names → IsFineAgent names d → AreKept names s → IsAdded d s t → AreKept names (agent_after s d)
+agent_kept : (names : Declared) (messages : List MessageDef) (s t : Build) (d : Data) → AreMessages names messages → HasFewDisps names → IsFineAgent names d → AreKept names messages s → IsAdded d s t → AreKept names messages (agent_after s d)
 unfolding agent_after agent_made
-agent_kept names s t d disps fine k q = record {
+agent_kept names messages s t d known disps fine k q = record {
   known = k.known;
-  agents = agents_kept names s t d disps fine k q;
+  agents = agents_kept names messages s t d known disps fine k q;
   texts = agent_texts s.names (fresh s.texts d) d k.texts;
   texts_numbered = texts_kept s d k.texts_numbered;
   few_groups = omega (arith, k.few_groups, few_more (disp_in s.names d) (group_in d) s.groups, length-append s.agents (agent_made s d ∷ []));
@@ -675,8 +704,8 @@ agent_kept names s t d disps fine k q = record {
 abbrev with_others : Build → List MessageDef → List DispDef → List (List ℕ) → Build
 with_others s messages dispatchers coops = record s { messages = messages; dispatchers = dispatchers; coops = coops }
 
-others_kept : (names : Declared) (s : Build) (messages : List MessageDef) (dispatchers : List DispDef) (coops : List (List ℕ)) → AreKept names s → AreKept names (with_others s messages dispatchers coops)
-others_kept names s messages dispatchers coops k = record {
+others_kept : (names : Declared) (known : List MessageDef) (s : Build) (messages : List MessageDef) (dispatchers : List DispDef) (coops : List (List ℕ)) → AreKept names known s → AreKept names known (with_others s messages dispatchers coops)
+others_kept names known s messages dispatchers coops k = record {
   known = k.known;
   agents = k.agents;
   texts = k.texts;
@@ -686,17 +715,17 @@ others_kept names s messages dispatchers coops k = record {
   groups_numbered = k.groups_numbered;
 }
 
-kept_step : (names : Declared) → HasFewDisps names → (s t : Build) (v : Visit) → EntersFine names v → AreKept names s → build_step s v ≡ Ok t → AreKept names t
+kept_step : (names : Declared) (messages : List MessageDef) → AreMessages names messages → HasFewDisps names → (s t : Build) (v : Visit) → EntersFine names v → AreKept names messages s → build_step s v ≡ Ok t → AreKept names messages t
 unfolding agent_after agent_made
-kept_step names disps s t (enters object.Message place d) fine k e = subst (AreKept names) (ok_same (with_message d s) t e) (others_kept names s (s.messages ++ message_of d ∷ []) s.dispatchers s.coops k)
-kept_step names disps s t (enters object.Dispatcher place d) fine k e = subst (AreKept names) (ok_same (with_disp d s) t e) (others_kept names s s.messages (s.dispatchers ++ disp_of d ∷ []) s.coops k)
-kept_step names disps s t (enters object.Coop place d) fine k e = subst (AreKept names) (ok_same (with_coop d s) t e) (others_kept names s s.messages s.dispatchers (s.coops ++ name_in d ∷ []) k)
-kept_step names disps s t (enters object.Agent place d) fine k e =
+kept_step names messages known disps s t (enters object.Message place d) fine k e = subst (AreKept names messages) (ok_same (with_message d s) t e) (others_kept names messages s (s.messages ++ message_of d ∷ []) s.dispatchers s.coops k)
+kept_step names messages known disps s t (enters object.Dispatcher place d) fine k e = subst (AreKept names messages) (ok_same (with_disp d s) t e) (others_kept names messages s s.messages (s.dispatchers ++ disp_of d ∷ []) s.coops k)
+kept_step names messages known disps s t (enters object.Coop place d) fine k e = subst (AreKept names messages) (ok_same (with_coop d s) t e) (others_kept names messages s s.messages s.dispatchers (s.coops ++ name_in d ∷ []) k)
+kept_step names messages known disps s t (enters object.Agent place d) fine k e =
     let q = agent_ok place s t d e in
-    subst (AreKept names) q.same (agent_kept names s t d disps fine k q)
-kept_step names disps s t (enters other place d) fine k e = subst (AreKept names) (ok_same s t e) k
-kept_step names disps s t (tries rule place found) fine k e = subst (AreKept names) (ok_same s t e) k
-kept_step names disps s t (leaves kind place d) fine k e = subst (AreKept names) (ok_same s t e) k
+    subst (AreKept names messages) q.same (agent_kept names messages s t d known disps fine k q)
+kept_step names messages known disps s t (enters other place d) fine k e = subst (AreKept names messages) (ok_same s t e) k
+kept_step names messages known disps s t (tries rule place found) fine k e = subst (AreKept names messages) (ok_same s t e) k
+kept_step names messages known disps s t (leaves kind place d) fine k e = subst (AreKept names messages) (ok_same s t e) k
 
 -- ---- messages, cooperations and dispatchers
 
@@ -886,10 +915,9 @@ few_disps names s h few = record {
   kinds = omega (arith, ap length h.dispatchers, ap length h.kinds, length_map disp_name s.dispatchers, length_map disp_kind s.dispatchers);
 }
 
-built_from : (names : Declared) (s : Build) → AreKept names s → AreNamed s → HaveNames names s → AreDistinct names → HasFewDisps names → length s.messages ≤ 256 → length names.mboxes ≤ 256 → IsBuilt s
+built_from : (names : Declared) (s : Build) → AreKept names s.messages s → AreNamed s → HaveNames names s → AreDistinct names → HasFewDisps names → length s.messages ≤ 256 → length names.mboxes ≤ 256 → IsBuilt s
 built_from names s k m h a disps few boxes =
     let agents : length names.agents ≡ length s.agents = omega (arith, ap length h.agents, length_map agent_name s.agents) in
-    let messages : length names.messages ≡ length s.messages = omega (arith, ap length h.messages, length_map message_name s.messages) in
     let mboxes : names.mboxes ≡ s.names.mboxes = ap (λ (x : Declared). x.mboxes) (sym k.known) in
     record {
       few_messages = few;
@@ -907,10 +935,9 @@ built_from names s k m h a disps few boxes =
         numbered = k.groups_numbered few d;
       };
       coops = all_of (λ name. is_name name ≡ true) s.coops m.coops;
-      agents = subst (λ (m : List (List ℕ)). All (IsBuiltAgent (length s.agents + length m) (length s.messages) (length s.texts) (map disp_kind s.dispatchers) s.groups) s.agents) mboxes
-          (subst (λ n. All (IsBuiltAgent (n + length names.mboxes) (length s.messages) (length s.texts) (map disp_kind s.dispatchers) s.groups) s.agents) agents
-          (subst (λ n. All (IsBuiltAgent (length names.agents + length names.mboxes) n (length s.texts) (map disp_kind s.dispatchers) s.groups) s.agents) messages
-          (subst (λ n. All (IsBuiltAgent (length names.agents + length names.mboxes) (length names.messages) (length s.texts) n s.groups) s.agents) (sym h.kinds) (all_of _ s.agents (k.agents (omega (arith, agents)))))));
+      agents = subst (λ (m : List (List ℕ)). All (IsBuiltAgent (length s.agents + length m) s.messages (length s.texts) (map disp_kind s.dispatchers) s.groups) s.agents) mboxes
+          (subst (λ n. All (IsBuiltAgent (n + length names.mboxes) s.messages (length s.texts) (map disp_kind s.dispatchers) s.groups) s.agents) agents
+          (subst (λ n. All (IsBuiltAgent (length names.agents + length names.mboxes) s.messages (length s.texts) n s.groups) s.agents) (sym h.kinds) (all_of _ s.agents (k.agents (omega (arith, agents))))));
       names = subst (λ (m : List (List ℕ)). IsDistinct bytes_eq (map agent_name s.agents ++ m)) mboxes (subst (λ n. IsDistinct bytes_eq (n ++ names.mboxes)) (sym h.agents) a.mboxes);
       texts = all_of (λ t. is_text t ≡ true) s.texts k.texts;
       texts_numbered = k.texts_numbered;
@@ -920,8 +947,8 @@ one_distinct : (name : List ℕ) → IsDistinct bytes_eq (name ∷ [])
 unfolding IsDistinct
 one_distinct name = (tt, tt)
 
-nothing_kept : (names : Declared) → AreKept names (no_parts names)
-nothing_kept names = record {
+nothing_kept : (names : Declared) (messages : List MessageDef) → AreKept names messages (no_parts names)
+nothing_kept names messages = record {
   known = refl;
   agents = λ few. tt;
   texts = tt;
@@ -931,22 +958,29 @@ nothing_kept names = record {
   groups_numbered = λ few d. no_group_uses d;
 }
 
-pub is_built : (d : Data) (shape : Shape) (names : Declared) (known : Known) (s : Build) → run shape_step no_state (fields d) ≡ Ok shape → run twice_step no_names (fields d) ≡ Ok names
+pub is_built : (d : Data) (shape : Shape) (names : Declared) (known : Known) (s : Build) → HasNumbers d → run shape_step no_state (fields d) ≡ Ok shape → run twice_step no_names (fields d) ≡ Ok names
     → run known_step (knows names) (fields d) ≡ Ok known → run build_step (no_parts known.names) (fields d) ≡ Ok s → IsBuilt s
 unfolding messages_of mboxes_of disps_of
-is_built d shape names known s e f g h =
-    let passed = passed_all names no_names no_state shape (knows names) known (fields d) refl e f g in
+is_built d shape names known s numbers e f g h =
+    let passed = passed_all names no_names no_state shape (knows names) known (fields d) (visits_numbers 4 object.Scene [] d numbers) refl e f g in
     let build : run build_step (no_parts names) (fields d) ≡ Ok s = subst (λ n. run build_step (no_parts n) (fields d) ≡ Ok s) passed.0 h in
     let fine = scene_fine names d passed.1 in
     let distinct : AreDistinct names = run_keeps twice_step (λ v. Unit {0}) AreDistinct distinct_step no_names names (fields d) (any_visit (fields d)) (record { messages = no_distinct; dispatchers = one_distinct (codes "default"); mboxes = no_distinct; named = tt }) f in
-    let have : HaveNames names s = run_both twice_step build_step HaveNames names_step no_names names (no_parts names) s (fields d) (record { messages = refl; dispatchers = refl; kinds = refl; agents = refl }) f build in
-    let messages : length s.messages ≤ total is_message (fields d) = omega (arith, counted build_step messages_of is_message message_step (no_parts names) s (fields d) build) in
+    let have : HaveNames names s = run_both twice_step build_step HaveNames names_step no_names names (no_parts names) s (fields d) (record { messages = refl; dispatchers = refl; kinds = refl; agents = refl; signals = refl }) f build in
+    let counted_messages : length s.messages ≤ total is_message (fields d) = omega (arith, counted build_step messages_of is_message message_step (no_parts names) s (fields d) build) in
+    let few : length s.messages ≤ 256 = omega (arith, counted_messages, few_messages names d passed.1) in
     let mboxes : length names.mboxes ≤ total mboxes_named (fields d) = omega (arith, counted twice_step mboxes_of mboxes_named mbox_step no_names names (fields d) f) in
     let dispatchers : length names.dispatchers ≤ total is_dispatcher (fields d) = omega (arith, counted twice_step disps_of is_dispatcher disp_step no_names names (fields d) f) in
     let disps : HasFewDisps names = few_disps names s have (omega (arith, dispatchers, few_dispatchers names d passed.1)) in
-    let kept : AreKept names s = run_keeps build_step (EntersFine names) (AreKept names) (kept_step names disps) (no_parts names) s (fields d) fine (nothing_kept names) build in
     let named : AreNamed s = run_keeps build_step (EntersFine names) AreNamed (named_step names) (no_parts names) s (fields d) fine (record { messages = tt; coops = tt; default = refl; dispatchers = (default_is_disp, tt) }) build in
-    built_from names s kept named have distinct disps (omega (arith, messages, few_messages names d passed.1)) (omega (arith, mboxes, few_mboxes names d passed.1))
+    let messages : AreMessages names s.messages = record {
+      few = omega (arith, few, ap length have.messages, length_map message_name s.messages);
+      named = subst (AllByRecursion (λ name. is_name name ≡ true)) have.messages named.messages;
+      count = omega (arith, ap length have.messages, length_map message_name s.messages);
+      signals = have.signals;
+    } in
+    let kept : AreKept names s.messages s = run_keeps build_step (EntersFine names) (AreKept names s.messages) (kept_step names s.messages messages disps) (no_parts names) s (fields d) fine (nothing_kept names s.messages) build in
+    built_from names s kept named have distinct disps few (omega (arith, mboxes, few_mboxes names d passed.1))
 
 -- ---- the scene of the parts
 
@@ -966,7 +1000,7 @@ kind_there (d ∷ ds) (suc n) = kind_there ds n
 groups_there : (b : Build) (coop : Option (List ℕ)) (d : DispId) → d.0 < length b.dispatchers → scene_groups (parts b coop) d ≡ names_for d b.groups
 groups_there b coop d l = get_or-each_below (names_at b.groups) (length b.dispatchers) d.0 [] l
 
-is_agent : (b : Build) (coop : Option (List ℕ)) (a : AgentDef) → IsBuiltAgent (length b.agents + length b.names.mboxes) (length b.messages) (length b.texts) (map disp_kind b.dispatchers) b.groups a → IsAgent (parts b coop) a
+is_agent : (b : Build) (coop : Option (List ℕ)) (a : AgentDef) → IsBuiltAgent (length b.agents + length b.names.mboxes) b.messages (length b.texts) (map disp_kind b.dispatchers) b.groups a → IsAgent (parts b coop) a
 is_agent b coop a h =
     let on : a.disp.0 < length b.dispatchers = omega (arith, h.disp, length_map disp_kind b.dispatchers) in
     record {
@@ -977,10 +1011,12 @@ is_agent b coop a h =
           (subst (λ names. IsGroup (slice_index_or (map disp_kind b.dispatchers) a.disp.0 OneThread) (length names) a.group) (sym (groups_there b coop a.disp on)) h.group);
       priority = h.priority;
       vars = h.vars;
+      numbers = h.numbers;
       tree = h.tree;
       no_limits = h.no_limits;
       state_names = h.state_names;
       states_named = h.states_named;
+      initial = h.initial;
       each_state_once = h.each_state_once;
       few_rows = h.few_rows;
       rows = λ i d l. let row = h.rows i d l in record { mbox = row.mbox; msg = row.msg; state = row.state; kind = row.kind; not_safe = row.not_safe };
@@ -988,48 +1024,17 @@ is_agent b coop a h =
       rows_named = h.rows_named;
       each_row_id_once = h.each_row_id_once;
       few_filters = h.few_filters;
-      filters = λ i d l. let filter = h.filters i d l in record { mbox = filter.mbox; msg = filter.msg; field = filter.field };
+      filters = λ i d l. let filter = h.filters i d l in record { mbox = filter.mbox; msg = filter.msg; field = filter.field; value = filter.value };
       filters_named = h.filters_named;
       each_filter_id_once = h.each_filter_id_once;
       code = h.code;
       bodies = h.bodies;
       parts = h.parts;
+      written = h.written;
+      short = h.short;
     }
 
 -- ---- agents by number and agents in a list
-
--- what a number stands for, instead of the number
-split_uses : {X Y : Type 0} (p : X → Bool) (f : X → Option Y) (x : X) (xs : List X) → filter_map f (filter p (x ∷ xs)) ≡ filter_map f (filter p (x ∷ [])) ++ filter_map f (filter p xs)
-split_uses p f x xs = ap (filter_map f) (filter-append p (x ∷ []) xs) ∙ filter_map-append f (filter p (x ∷ [])) (filter p xs)
-
-one_use : {I X Y : Type 0} (g : I → X) (f : X → Option Y) (i : I) (b : Bool) → filter_map (λ k. f (g k)) (cond b (i ∷ []) []) ≡ filter_map f (cond b (g i ∷ []) [])
-one_use g f i true = refl
-one_use g f i false = refl
-
-uses_of : {I X Y : Type 0} (g : I → X) (p : X → Bool) (f : X → Option Y) (is : List I) → filter_map (λ i. f (g i)) (filter (λ i. p (g i)) is) ≡ filter_map f (filter p (map g is))
-uses_of g p f [] = refl
-uses_of g p f (i ∷ is) =
-    split_uses (λ k. p (g k)) (λ k. f (g k)) i is
-    ∙ (ap2_append (one_use g f i (p (g i))) (uses_of g p f is) ∙ sym (split_uses p f (g i) (map g is)))
-
-map-each_below : {X Y : Type 0} (h : X → Y) (f : ℕ → X) (n : ℕ) → map h (each_below f n) ≡ each_below (λ k. h (f k)) n
-unfolding each_below
-map-each_below h f zero = refl
-map-each_below h f (suc n) = map_push h (each_below f n) (f n) ∙ ap (λ l. l ++ h (f n) ∷ []) (map-each_below h f n)
-
-texts_by_number : (s : SceneParts) (n : ℕ) → n ≤ length s.agents → texts_to s n ≡ texts_of (take n s.agents)
-texts_by_number s zero l = refl
-texts_by_number s (suc n) l =
-    ap (λ t. t ++ text_uses (scene_agent s (agent_number n)).code) (texts_by_number s n (omega arith))
-    ∙ (sym (texts-push (take n s.agents) (scene_agent s (agent_number n))) ∙ ap texts_of (sym (take-suc s.agents n no_agent (omega arith))))
-
-all_texts : (s : SceneParts) → texts_to s (length s.agents) ≡ texts_of s.agents
-all_texts s = texts_by_number s (length s.agents) (omega arith) ∙ ap texts_of (take_all (length s.agents) s.agents (omega arith))
-
-all_uses : (s : SceneParts) (d : DispId) → group_uses s d ≡ uses_on d s.agents
-all_uses s d =
-    uses_of (scene_agent s) (is_on d) agent_group (each_below agent_number (length s.agents))
-    ∙ ap (uses_on d) (map-each_below (scene_agent s) agent_number (length s.agents) ∙ each_below-elements s.agents no_agent)
 
 -- ---- groups, lanes and cooperations
 

@@ -378,7 +378,7 @@ wrote_word names may rest w word.Stop ds h = simple names may rest w _ refl (rec
 wrote_word names may rest w other ds h = simple names may rest w _ refl (idle_fine may rest) (λ few. tt)
 
 -- where switches are allowed
-switches : Allowed → Bool
+pub switches : Allowed → Bool
 switches AnyAct = true
 switches NoSwitch = false
 
@@ -435,16 +435,16 @@ texts_grow names scope other t u e l = record {
   filters = ap (λ (x : Scope). x.filters) (sym e);
 }
 
-record WroteActs (names : Declared) (may : Bool) (w v : Writer) (n : ℕ) : Type 0 where
-  acts : List Instr
-  same : v.code ≡ w.code ++ acts
-  long : length acts ≡ n
-  fine : AreActsBefore may 0 acts
-  grows : length w.texts ≤ length v.texts
-  scope : v.scope ≡ w.scope
-  named : HasFewIds w.scope → AllByRecursion (NamesWithin (allows names w.scope (length v.texts))) acts
-  numbered : length v.texts ≤ 4096 → given_after (length w.texts) (text_uses acts) ≡ Some (length v.texts)
-  texts : AllByRecursion (λ t. is_text t ≡ true) w.texts → AllByRecursion (λ t. is_text t ≡ true) v.texts
+pub record WroteActs (names : Declared) (may : Bool) (w v : Writer) (n : ℕ) : Type 0 where
+  pub acts : List Instr
+  pub same : v.code ≡ w.code ++ acts
+  pub long : length acts ≡ n
+  pub fine : AreActsBefore may 0 acts
+  pub grows : length w.texts ≤ length v.texts
+  pub scope : v.scope ≡ w.scope
+  pub named : HasFewIds w.scope → AllByRecursion (NamesWithin (allows names w.scope (length v.texts))) acts
+  pub numbered : length v.texts ≤ 4096 → given_after (length w.texts) (text_uses acts) ≡ Some (length v.texts)
+  pub texts : AllByRecursion (λ t. is_text t ≡ true) w.texts → AllByRecursion (λ t. is_text t ≡ true) v.texts
 
 same_few : (s t : Scope) → t ≡ s → HasFewIds s → HasFewIds t
 same_few s t e h = subst HasFewIds (sym e) h
@@ -465,7 +465,7 @@ one_more names may w u v rest n e one more = record {
   texts = λ a. more.texts (one.texts a);
 }
 
-wrote_acts : (names : Declared) (allowed : Allowed) (w : Writer) (ds : Items) → WroteActs names (switches allowed) w (acts_written names allowed w ds) (items_len ds)
+pub wrote_acts : (names : Declared) (allowed : Allowed) (w : Writer) (ds : Items) → WroteActs names (switches allowed) w (acts_written names allowed w ds) (items_len ds)
 unfolding acts_written
 wrote_acts names allowed w no_items = record { acts = []; same = sym (append-nil w.code); long = refl; fine = tt; grows = omega arith; scope = refl; named = λ few. tt; numbered = λ few. refl; texts = λ a. a }
 wrote_acts names allowed w (item d ds) = one_more names (switches allowed) w _ _ _ _ refl (wrote_act names allowed (items_len ds) w d) (wrote_acts names allowed (act_written names allowed (items_len ds) w d) ds)

@@ -87,9 +87,17 @@ unfolding with_if
 other_if d e name groups true is = refl
 other_if d e name groups false is = other_more d e name groups is
 
-other_same : (d e : DispId) (o : Option (List ℕ)) (groups : List Group) → (e.0 == d.0) ≡ false → names_for d (with_group e o groups) ≡ names_for d groups
+pub other_same : (d e : DispId) (o : Option (List ℕ)) (groups : List Group) → (e.0 == d.0) ≡ false → names_for d (with_group e o groups) ≡ names_for d groups
 other_same d e None groups is = refl
 other_same d e (Some name) groups is = ap (names_for d) (with_is e name groups) ∙ other_if d e name groups (has_name (names_for e groups) name) is
+
+-- a name that its dispatcher has, and one that it hasn't yet
+pub same_with_old : (d : DispId) (name : List ℕ) (groups : List Group) → has_name (names_for d groups) name ≡ true → with_group d (Some name) groups ≡ groups
+same_with_old d name groups is = rw is refl
+
+pub more_with_new : (d : DispId) (name : List ℕ) (groups : List Group) → has_name (names_for d groups) name ≡ false → names_for d (with_group d (Some name) groups) ≡ names_for d groups ++ name ∷ []
+unfolding with_if
+more_with_new d name groups is = ap (names_for d) (with_is d name groups ∙ ap (with_if d name groups) is) ∙ own_more d name groups
 
 -- the list of groups, and that of each dispatcher, only grow
 few_if : (e : DispId) (name : List ℕ) (groups : List Group) (b : Bool) → length (with_if e name groups b) ≤ length groups + 1
@@ -177,7 +185,7 @@ given_own d (Some name) groups few = (numbers d name groups).given (omega (arith
 disp_of_number : ℕ → DispId
 disp_of_number k = record { 0 = k }
 
-same_disp : (d e : DispId) → (e.0 == d.0) ≡ true → e ≡ d
+pub same_disp : (d e : DispId) → (e.0 == d.0) ≡ true → e ≡ d
 unfolding disp_of_number
 same_disp d e is = ap disp_of_number (exact_unsigned_eq e.0 d.0 is)
 

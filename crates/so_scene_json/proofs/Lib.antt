@@ -3,7 +3,10 @@ pub mod Codes
 pub mod Ends
 pub mod Grouped
 pub mod Joined
+pub mod Numbers
 pub mod Passed
 pub mod Runs
+pub mod Said
 pub mod Shapes
+pub mod Uses
 pub mod Written

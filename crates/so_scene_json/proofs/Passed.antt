@@ -1,6 +1,7 @@
 -- What the first three passes make sure of, at each visit.
-use Rattle.std.proofs.Common.{◌≡◌, ℕ, zero, suc, ◌+◌, ◌<◌, ◌≤◌, List, [], ◌∷◌, ◌++◌, length, map, get_or, Bool, true, false, ◌||◌, Option, Some, None, is_some, Result, Ok, Err, refl, sym, ap, ◌∙◌, subst, arith, codes, if◌then◌else◌, nat_le, nat_lt, bytes_eq}
-use Rattle.std.proofs.lemmas.Bool.{leb-true, true≢false}
+use Rattle.std.proofs.Common.{◌≡◌, ℕ, zero, suc, ◌+◌, ◌<◌, ◌≤◌, List, [], ◌∷◌, ◌++◌, length, map, get_or, Bool, true, false, not, ◌&&◌, ◌||◌, Option, Some, None, is_some, Result, Ok, Err, refl, sym, ap, ◌∙◌, subst, arith, codes, if◌then◌else◌, nat_le, nat_lt, bytes_eq}
+use Rattle.std.proofs.lemmas.Bool.{and_from, leb-true, true≢false}
+use Rattle.std.specs.Prelude.{◌==◌}
 use Rattle.std.proofs.lemmas.Slice.Eq.{bytes_eq-Decides}
 use Rattle.std.specs.List.{AllByRecursion, IsDistinct}
 use Rattle.std.specs.Option.{option_and_then, option_map}
@@ -13,10 +14,15 @@ use Rattle.so_scene.specs.declared.parts.DispKind.TheVariants.{OneThread, Active
 use Rattle.so_scene.specs.Faults.{spelling}
 use Rattle.so_scene.specs.Names.{has_name}
 use Rattle.so_scene.specs.Words.{is_name}
+use Rattle.so_scene.specs.Written.{is_state_name, IsNumber}
 use Rattle.so_scene.specs.declared.place.Field.{Field}
 use Rattle.so_scene.specs.declared.place.Field.TheVariants as field
 use Rattle.so_scene.specs.declared.fault.SceneFault.{SceneFault}
 use Rattle.so_scene.specs.declared.fault.SceneFault.TheVariants as fault
+use Rattle.so_scene_json.specs.declared.act_table.Allowed.{Allowed}
+use Rattle.so_scene_json.specs.declared.act_table.Allowed.TheVariants.{AnyAct, NoSwitch}
+use Rattle.so_scene_json.specs.declared.act_table.Word.{Word}
+use Rattle.so_scene_json.specs.declared.act_table.Word.TheVariants as word
 use Rattle.so_scene_json.specs.declared.declare.Declared.{Declared}
 use Rattle.so_scene_json.specs.declared.known.Known.{Known}
 use Rattle.so_scene_json.specs.declared.shape.Shape.{Shape}
@@ -30,14 +36,18 @@ use Rattle.so_scene_json.specs.declared.table.Rule.{Rule}
 use Rattle.so_scene_json.specs.declared.values.Trouble.{Trouble}
 use Rattle.so_scene_json.specs.declared.values.Trouble.TheVariants.{WrongShape, UnknownName, OutOfRange, NotBuilt}
 use Rattle.so_scene_json.specs.Table.{rules_of, objects_of, required, optional, later}
-use Rattle.so_scene_json.specs.Values.{checked, trouble, name_of, name_in, text_or_empty, string_in, id_in, group_in, disp_kind_of, disp_kind_in, ok_or, read_or, ◌else◌}
+use Rattle.so_scene_json.specs.Values.{checked, trouble, name_of, name_in, text_or_empty, string_in, id_in, group_in, disp_kind_of, disp_kind_in, ok_or, read_or, ◌else◌, ◌or◌}
+use Rattle.so_scene_json.specs.Acts.{act_parts, act_trouble}
+use Rattle.so_scene_json.specs.Defs.{value_in}
+use Rattle.so_scene_json.specs.Numbers.{HasNumbers, EntersNumbers}
 use Rattle.so_scene_json.specs.Visits.{Visit, enters, tries, leaves, Place, visits, fields_of, field_visits, in_objects, items_from, at_item, at_key, list_of, listed, run, ◌>>=◌}
-use Rattle.so_scene_json.specs.Shape.{shape_step, shape_fault, unless_faulty, field_fault, trouble_at, list_trouble, first_of, object_trouble, is_row_breach, is_disp_breach, disp_kind_trouble, state_name_trouble, name_trouble as shape_name_trouble}
+use Rattle.so_scene_json.specs.Shape.{acts_from, acts_fault, is_initial, is_breach, shape_step, shape_fault, unless_faulty, field_fault, trouble_at, list_trouble, first_of, object_trouble, is_row_breach, is_disp_breach, disp_kind_trouble, state_name_trouble, name_trouble as shape_name_trouble}
 use Rattle.so_scene_json.specs.Scope.{ids_of, names_of, state_items, row_items, filter_items}
 use Rattle.so_scene_json.specs.Twice.{twice_step, disp_number, disp_number_in, names_in, with_name, with_field, with_mbox_read, with_mboxes, declared_name}
-use Rattle.so_scene_json.specs.Known.{known_step, entered, field_unknown, name_trouble, object_unknown, group_unfit, kind_at}
+use Rattle.so_scene_json.specs.Known.{known_step, entered, field_unknown, send_trouble, word_unknown, parts_unknown, act_unknown, name_trouble, object_unknown, group_unfit, kind_at}
 use Rattle.so_lists.proofs.Filters.{each-append, each-weaker}
 use Rattle.so_scene.proofs.Positions.{absent_any, no_names as no_distinct}
+use Rattle.so_scene_json.proofs.Numbers.{get_numbers, number_read}
 use Rattle.so_scene_json.proofs.Joined.{absent_first, absent_second}
 use Rattle.so_scene_json.proofs.Runs.{run-append}
 
@@ -62,8 +72,21 @@ passes_each f s t (v ∷ vs) h = passed_one f s t v vs (f s v) refl (passes_each
 
 -- ---- the third pass
 
+-- a message that is sent is declared, and carries nothing where it is a signal
+abbrev pub IsWordKnown : Declared → Word → Items → Type 0
+IsWordKnown names word.Send ds = send_trouble names ds ≡ None
+IsWordKnown names other ds = Unit {0}
+
+abbrev pub ArePartsKnown : Declared → Option (Word × Items) → Type 0
+ArePartsKnown names None = Unit {0}
+ArePartsKnown names (Some p) = IsWordKnown names p.0 p.1
+
+abbrev pub IsActKnown : Declared → Data → Type 0
+IsActKnown names d = ArePartsKnown names (act_parts d)
+
 abbrev pub AreKnown : Declared → Form → Place → Option Data → Type 0
 AreKnown names (form.NameIn space) place (Some d) = trouble_at place (name_trouble names space (as_str d)) ≡ None
+AreKnown names (form.Acts allowed) place (Some d) = AllByRecursion (IsActKnown names) (listed (list_of (Some d)))
 AreKnown names other place found = Unit {0}
 
 -- a name that the field uses is declared, and an agent has a group where it should
@@ -84,9 +107,34 @@ no_fault : {S : Type 0} (s t : S) (o : Option SceneFault) → unless_faulty s o 
 no_fault s t None e = record { same = ok_same s t e; none = refl }
 no_fault s t (Some x) e = absurd cc
 
+neither_there : {X : Type 0} (a b : Option X) → (a or b) ≡ None → (a ≡ None) × (b ≡ None)
+neither_there None b e = (refl, e)
+neither_there (Some x) b e = absurd cc
+
+no_trouble : (place : Place) (o : Option Trouble) → trouble_at place o ≡ None → o ≡ None
+no_trouble place None e = refl
+no_trouble place (Some t) e = absurd cc
+
+word_known : (k : Known) (wd : Word) (ds : Items) → word_unknown k wd ds ≡ None → IsWordKnown k.names wd ds
+word_known k word.Send ds e = e
+word_known k other ds e = tt
+
+parts_known : (k : Known) (o : Option (Word × Items)) → parts_unknown k o ≡ None → ArePartsKnown k.names o
+parts_known k None e = tt
+parts_known k (Some p) e = word_known k p.0 p.1 e
+
+acts_known : (k : Known) (place : Place) (i : ℕ) (ds : Items) → acts_from (λ rest x. act_unknown k x) place i ds ≡ None → AllByRecursion (IsActKnown k.names) (listed ds)
+unfolding acts_from
+acts_known k place i no_items e = tt
+acts_known k place i (item d ds) e =
+    let p = neither_there (trouble_at (at_item place i) (act_unknown k d)) (acts_from (λ rest x. act_unknown k x) place (suc i) ds) e in
+    (parts_known k (act_parts d) (no_trouble (at_item place i) (act_unknown k d) p.0), acts_known k place (suc i) ds p.1)
+
 known_form : (k : Known) (f : Form) (place : Place) (found : Option Data) → field_unknown k f place found ≡ None → AreKnown k.names f place found
 known_form k (form.NameIn space) place (Some d) e = e
 known_form k (form.NameIn space) place None e = tt
+known_form k (form.Acts allowed) place (Some d) e = acts_known k place 0 (list_of (Some d)) e
+known_form k (form.Acts allowed) place None e = tt
 known_form k other place found e = tt
 
 same_names : (kind : ObjectKind) (d : Data) (k : Known) → (entered kind d k).names ≡ k.names
@@ -120,13 +168,13 @@ knew_all k t (v ∷ vs) h = knew_more k t v vs (known_step k v) refl (λ u r. kn
 
 -- ---- what visits pass
 
--- a visit has the shape that it should, and the names that it uses are declared
+-- a visit has the shape that it should, the names that it uses are declared, and its numbers have 64 bits
 abbrev pub IsFine : Declared → Visit → Type 0
-IsFine names v = (shape_fault v ≡ None) × IsKnown names v
+IsFine names v = (shape_fault v ≡ None) × IsKnown names v × EntersNumbers v
 
-both_each : (names : Declared) (vs : List Visit) → AllByRecursion (λ v. shape_fault v ≡ None) vs → AllByRecursion (IsKnown names) vs → AllByRecursion (IsFine names) vs
-both_each names [] a b = tt
-both_each names (v ∷ vs) a b = ((a.0, b.0), both_each names vs a.1 b.1)
+fine_each : (names : Declared) (vs : List Visit) → AllByRecursion (λ v. shape_fault v ≡ None) vs → AllByRecursion (IsKnown names) vs → AllByRecursion EntersNumbers vs → AllByRecursion (IsFine names) vs
+fine_each names [] a b n = tt
+fine_each names (v ∷ vs) a b n = ((a.0, b.0, n.0), fine_each names vs a.1 b.1 n.1)
 
 -- so do these, and somewhere the second pass goes over them
 pub record ArePassed (names : Declared) (vs : List Visit) : Type 0 where
@@ -168,12 +216,12 @@ passed_back names xs ys p =
 passed_tail : (names : Declared) (v : Visit) (vs : List Visit) → ArePassed names (v ∷ vs) → ArePassed names vs
 passed_tail names v vs p = passed_back names (v ∷ []) vs p
 
-pub passed_all : (names declared : Declared) (shape shaped : Shape) (k known : Known) (vs : List Visit) → k.names ≡ names → run shape_step shape vs ≡ Ok shaped → run twice_step declared vs ≡ Ok names → run known_step k vs ≡ Ok known → (known.names ≡ names) × ArePassed names vs
-passed_all names declared shape shaped k known vs n e f g =
+pub passed_all : (names declared : Declared) (shape shaped : Shape) (k known : Known) (vs : List Visit) → AllByRecursion EntersNumbers vs → k.names ≡ names → run shape_step shape vs ≡ Ok shaped → run twice_step declared vs ≡ Ok names → run known_step k vs ≡ Ok known → (known.names ≡ names) × ArePassed names vs
+passed_all names declared shape shaped k known vs numbers n e f g =
     let q = knew_all k known vs g in (
       q.names ∙ n,
       record {
-        each = both_each names vs (passes_each (λ s v. shape_fault v) shape shaped vs e) (subst (λ m. AllByRecursion (IsKnown m) vs) n q.each);
+        each = fine_each names vs (passes_each (λ s v. shape_fault v) shape shaped vs e) (subst (λ m. AllByRecursion (IsKnown m) vs) n q.each) numbers;
         begins = declared;
         ends = names;
         runs = f;
@@ -251,15 +299,19 @@ named_field : (place : Place) (found : Option Data) → field_fault (required fi
 named_field place None h = absurd cc
 named_field place (Some d) h = named_string place (as_str d) h
 
-named_state_if : (b : Bool) (place : Place) (s : List ℕ) → is_name s ≡ b → trouble_at place (state_name_trouble ((if b then Some s else None) else WrongShape)) ≡ None → is_name (text_or_empty (if b then Some s else None)) ≡ true
-named_state_if true place s e h = e
+not_default : (b : Bool) (place : Place) → trouble_at place (if b then Some WrongShape else None) ≡ None → not b ≡ true
+not_default true place h = absurd cc
+not_default false place h = refl
+
+named_state_if : (b : Bool) (place : Place) (s : List ℕ) → is_name s ≡ b → trouble_at place (state_name_trouble ((if b then Some s else None) else WrongShape)) ≡ None → is_state_name (text_or_empty (if b then Some s else None)) ≡ true
+named_state_if true place s e h = and_from (is_name s) (not (bytes_eq s (codes "default"))) e (not_default (bytes_eq s (codes "default")) place h)
 named_state_if false place s e h = absurd cc
 
-named_state_string : (place : Place) (o : Option (List ℕ)) → trouble_at place (state_name_trouble (option_and_then (checked is_name) o else WrongShape)) ≡ None → is_name (text_or_empty (checked is_name (text_or_empty o))) ≡ true
+named_state_string : (place : Place) (o : Option (List ℕ)) → trouble_at place (state_name_trouble (option_and_then (checked is_name) o else WrongShape)) ≡ None → is_state_name (text_or_empty (checked is_name (text_or_empty o))) ≡ true
 named_state_string place None h = absurd cc
 named_state_string place (Some s) h = named_state_if (is_name s) place s refl h
 
-named_state_field : (place : Place) (found : Option Data) → field_fault (required field.Name form.StateName) place found ≡ None → is_name (text_or_empty (checked is_name (text_or_empty (option_and_then as_str found)))) ≡ true
+named_state_field : (place : Place) (found : Option Data) → field_fault (required field.Name form.StateName) place found ≡ None → is_state_name (text_or_empty (checked is_name (text_or_empty (option_and_then as_str found)))) ≡ true
 named_state_field place None h = absurd cc
 named_state_field place (Some d) h = named_state_string place (as_str d) h
 
@@ -276,16 +328,47 @@ given_field : (f : Field) (place : Place) (found : Option Data) → field_fault 
 given_field f place None h = refl
 given_field f place (Some d) h = given_string place (as_str d) h
 
--- ---- rows and filters
+-- ---- acts
+
+few_if : (allowed : Allowed) (place : Place) (ds : Items) (b : Bool) → nat_le (items_len ds) 256 ≡ b → (if b then acts_from (act_trouble allowed) place 0 ds else Some (fault.OutOfRange place)) ≡ None → items_len ds ≤ 256
+few_if allowed place ds true e h = leb-true (items_len ds) 256 e
+few_if allowed place ds false e h = absurd cc
+
+few_acts : (allowed : Allowed) (place : Place) (d : Data) → acts_fault allowed place (as_array d) ≡ None → items_len (list_of (Some d)) ≤ 256
+few_acts allowed place null h = absurd cc
+few_acts allowed place (boolean b) h = absurd cc
+few_acts allowed place (number n) h = absurd cc
+few_acts allowed place (string s) h = absurd cc
+few_acts allowed place (array ds) h = few_if allowed place ds (nat_le (items_len ds) 256) refl h
+few_acts allowed place (object_data ms) h = absurd cc
+
+-- a list of acts is short, and its signals carry nothing
+pub record AreActs (names : Declared) (found : Option Data) : Type 0 where
+  pub few : items_len (list_of found) ≤ 256
+  pub known : AllByRecursion (IsActKnown names) (listed (list_of found))
+
+fine_acts : (names : Declared) (allowed : Allowed) (f : Field) (place : Place) (found : Option Data) → IsFine names (tries (optional f (form.Acts allowed)) place found) → AreActs names found
+fine_acts names allowed f place None h = record { few = omega arith; known = tt }
+fine_acts names allowed f place (Some d) h = record { few = few_acts allowed place d h.0; known = h.1 }
+
+-- ---- states, rows and filters
+
+pub record HasState (names : Declared) (d : Data) : Type 0 where
+  pub named : is_state_name (name_in d) ≡ true
+  pub parent : is_initial d ≡ true → is_some (get (codes "parent") d) ≡ true
+  pub enter : AreActs names (get (codes "enter") d)
+  pub exit : AreActs names (get (codes "exit") d)
 
 pub record HasRow (names : Declared) (d : Data) : Type 0 where
   pub stateless : is_some (get (codes "dead") d) ≡ true → is_some (get (codes "state") d) ≡ false
   pub msg : has_name names.messages (string_in (codes "msg") d) ≡ true
   pub mbox : is_some (get (codes "mbox") d) ≡ true → has_name (names.agents ++ names.mboxes) (string_in (codes "mbox") d) ≡ true
+  pub acts : AreActs names (get (codes "do") d)
 
 pub record HasFilter (names : Declared) (d : Data) : Type 0 where
   pub msg : has_name names.messages (string_in (codes "msg") d) ≡ true
   pub mbox : has_name (names.agents ++ names.mboxes) (string_in (codes "mbox") d) ≡ true
+  pub value : IsNumber (value_in d)
 
 no_rule : Rule
 no_rule = later field.Id
@@ -326,14 +409,25 @@ fine_row names n place d p = record {
       not_both (is_some (get (codes "dead") d)) (is_some (get (codes "state") d)) (neither _ _ _ last) dead;
   msg = known_field names space.Messages field.Msg _ (get (codes "msg") d) (fine_try names n object.Row 1 place d (omega arith) p);
   mbox = λ there. known_if_there names space.Mboxes field.Mbox _ (get (codes "mbox") d) (fine_try names n object.Row 2 place d (omega arith) p) there;
+  acts = fine_acts names AnyAct field.Do _ (get (codes "do") d) (fine_try names n object.Row 4 place d (omega arith) p);
 }
 
-fine_state : (names : Declared) (n : ℕ) (place : Place) (d : Data) → ArePassed names (visits (suc n) object.State place d) → is_name (name_in d) ≡ true
-fine_state names n place d p = named_state_field _ (get (codes "name") d) (fine_try names n object.State 0 place d (omega arith) p).0
+has_parent : (a b : Bool) → (a && ((if b then 1 else 0) == 0)) ≡ false → a ≡ true → b ≡ true
+has_parent a true e i = refl
+has_parent true false e i = absurd (true≢false e)
+has_parent false false e i = absurd (true≢false (sym i))
 
-each_named : (ds : List Data) → AllByRecursion (λ d. is_name (name_in d) ≡ true) ds → AllByRecursion (λ name. is_name name ≡ true) (map name_in ds)
-each_named [] a = tt
-each_named (d ∷ ds) a = (a.0, each_named ds a.1)
+fine_state : (names : Declared) (n : ℕ) (place : Place) (d : Data) → ArePassed names (visits (suc n) object.State place d) → HasState names d
+fine_state names n place d p = record {
+  named = named_state_field _ (get (codes "name") d) (fine_try names n object.State 0 place d (omega arith) p).0;
+  parent = λ initial. has_parent (is_initial d) (is_some (get (codes "parent") d)) (no_breach place (is_breach object.State d) (passed_last names n object.State place d p).0) initial;
+  enter = fine_acts names NoSwitch field.Enter _ (get (codes "enter") d) (fine_try names n object.State 5 place d (omega arith) p);
+  exit = fine_acts names NoSwitch field.Exit _ (get (codes "exit") d) (fine_try names n object.State 6 place d (omega arith) p);
+}
+
+each_named : (names : Declared) (ds : List Data) → AllByRecursion (HasState names) ds → AllByRecursion (λ name. is_state_name name ≡ true) (map name_in ds)
+each_named names [] a = tt
+each_named names (d ∷ ds) a = (a.0.named, each_named names ds a.1)
 
 -- ---- dispatchers
 
@@ -403,6 +497,7 @@ fine_filter : (names : Declared) (n : ℕ) (place : Place) (d : Data) → ArePas
 fine_filter names n place d p = record {
   msg = known_field names space.Messages field.Msg _ (get (codes "msg") d) (fine_try names n object.Filter 2 place d (omega arith) p);
   mbox = known_field names space.Mboxes field.Mbox _ (get (codes "mbox") d) (fine_try names n object.Filter 1 place d (omega arith) p);
+  value = number_read (get (codes "value") d) (get_numbers (codes "value") d (passed_first names n object.Filter place d p).2);
 }
 
 -- what each object of a list has
@@ -579,7 +674,8 @@ limit_mboxes f limit place (Some d) h = limit_value shape_name_trouble limit pla
 pub record IsFineAgent (names : Declared) (d : Data) : Type 0 where
   pub named : is_name (name_in d) ≡ true
   pub on : HasDisp names d
-  pub states_named : AllByRecursion (λ name. is_name name ≡ true) (names_of (state_items d))
+  pub states : AllByRecursion (HasState names) (listed (state_items d))
+  pub states_named : AllByRecursion (λ name. is_state_name name ≡ true) (names_of (state_items d))
   pub few_rows : items_len (row_items d) ≤ 128
   pub few_filters : items_len (filter_items d) ≤ 32
   pub rows : AllByRecursion (HasRow names) (listed (row_items d))
@@ -587,6 +683,9 @@ pub record IsFineAgent (names : Declared) (d : Data) : Type 0 where
   pub state_names : IsDistinct bytes_eq (names_of (state_items d))
   pub row_ids : IsDistinct bytes_eq (given (ids_of (row_items d)))
   pub filter_ids : IsDistinct bytes_eq (given (ids_of (filter_items d)))
+  pub numbers : HasNumbers d
+  pub start : AreActs names (get (codes "start") d)
+  pub finish : AreActs names (get (codes "finish") d)
 
 states_rule : Rule
 states_rule = optional field.States (form.Objects object.State (Some 63))
@@ -607,13 +706,15 @@ fine_agent names n place d p =
     let in_states = passed_inside names (visits (suc n)) states_rule place d states in
     let in_filters = passed_inside names (visits (suc n)) filters_rule place d filters in
     let in_rows = passed_inside names (visits (suc n)) on_rule place d rows in
+    let each_state = each_item names (HasState names) (visits (suc n) object.State) (fine_state names n) (at_key place states_rule) 0 (state_items d) in_states in
     let new_states = ids_new object.State space.States name_of_state states_declare n (at_key place states_rule) 0 (state_items d) in_states.begins in_states.ends in_states.runs in
     let new_filters = ids_new object.Filter space.Filters id_in filters_declare n (at_key place filters_rule) 0 (filter_items d) in_filters.begins in_filters.ends in_filters.runs in
     let new_rows = ids_new object.Row space.Rows id_in rows_declare n (at_key place on_rule) 0 (row_items d) in_rows.begins in_rows.ends in_rows.runs in
     record {
       named = named_field _ (get (codes "name") d) (fine_try names (suc n) object.Agent 0 place d (omega arith) p).0;
       on = fine_on names (suc n) place d p;
-      states_named = each_named (listed (state_items d)) (each_item names (λ x. is_name (name_in x) ≡ true) (visits (suc n) object.State) (fine_state names n) (at_key place states_rule) 0 (state_items d) in_states);
+      states = each_state;
+      states_named = each_named names (listed (state_items d)) each_state;
       few_rows = limit_objects field.On object.Row 128 _ (get (codes "on") d) (passed_try names (visits (suc n)) on_rule place d rows).0;
       few_filters = limit_objects field.Filters object.Filter 32 _ (get (codes "filters") d) (passed_try names (visits (suc n)) filters_rule place d filters).0;
       rows = each_item names (HasRow names) (visits (suc n) object.Row) (fine_row names n) (at_key place on_rule) 0 (row_items d) in_rows;
@@ -621,6 +722,9 @@ fine_agent names n place d p =
       state_names = subst (IsDistinct bytes_eq) (given_names (listed (state_items d))) new_states.distinct;
       row_ids = new_rows.distinct;
       filter_ids = new_filters.distinct;
+      numbers = (passed_first names (suc n) object.Agent place d p).2;
+      start = fine_acts names AnyAct field.Start _ (get (codes "start") d) (fine_try names (suc n) object.Agent 10 place d (omega arith) p);
+      finish = fine_acts names AnyAct field.Finish _ (get (codes "finish") d) (fine_try names (suc n) object.Agent 11 place d (omega arith) p);
     }
 
 abbrev pub EntersFine : Declared → Visit → Type 0

@@ -10,6 +10,7 @@ use Rattle.so_scene.specs.declared.parts.AgentDef.{AgentDef}
 use Rattle.so_scene.specs.declared.parts.DispDef.{DispDef}
 use Rattle.so_scene.specs.declared.parts.DispKind.{DispKind}
 use Rattle.so_scene.specs.declared.parts.DispKind.TheVariants.{OneThread}
+use Rattle.so_scene.specs.declared.parts.MessageDef.{MessageDef}
 use Rattle.so_scene.specs.declared.parts.SceneParts.{SceneParts}
 use Rattle.so_scene.specs.Definition.{definition_fault}
 use Rattle.so_scene.specs.Lanes.{AreBound}
@@ -17,6 +18,7 @@ use Rattle.so_scene.specs.declared.parts.FilterDef.{FilterDef}
 use Rattle.so_scene.specs.Parts.{message_name, agent_name, disp_name, default_disp}
 use Rattle.so_scene.specs.Checked.{Named, NamesWithin, IsKind, IsDisp, IsGroup, HasNoLimit, handlers, filter_ids, given, text_uses, IsScene}
 use Rattle.so_scene.specs.Words.{is_name, is_text}
+use Rattle.so_scene.specs.Written.{IsNumber, HasParent, IsWrittenAmong, is_state_name, are_short}
 use Rattle.so_state.specs.declared.choice.Row.{Row}
 use Rattle.so_state.specs.Fault.{IsTree}
 use Rattle.so_scene_json.specs.declared.build.Build.{Build}
@@ -37,36 +39,41 @@ pub record IsBuiltFilter (mboxes messages : ℕ) (f : FilterDef) : Type 0 where
   pub mbox : f.mbox.0 < mboxes
   pub msg : f.msg.0 < messages
   pub field : f.field ≤ 3
+  pub value : IsNumber f.value
 
 -- what the acts of an agent may name
 abbrev pub named_among : ℕ → ℕ → ℕ → ℕ → List (Option (List ℕ)) → List (Option (List ℕ)) → Named
 named_among mboxes messages texts states rows filters = record { mboxes = mboxes; messages = messages; texts = texts; states = states; rows = rows; filters = filters }
 
--- an agent among so many mboxes, messages and texts, and dispatchers of these kinds with these groups
-pub record IsBuiltAgent (mboxes messages texts : ℕ) (kinds : List DispKind) (groups : List Group) (a : AgentDef) : Type 0 where
+-- an agent among so many mboxes and texts, these messages, and dispatchers of these kinds with these groups
+pub record IsBuiltAgent (mboxes : ℕ) (messages : List MessageDef) (texts : ℕ) (kinds : List DispKind) (groups : List Group) (a : AgentDef) : Type 0 where
   pub named : is_name a.name ≡ true
   pub coop : a.coop.0 ≡ 0
   pub disp : a.disp.0 < length kinds
   pub group : IsGroup (slice_index_or kinds a.disp.0 OneThread) (length (names_for a.disp groups)) a.group
   pub priority : a.priority.level ≡ 0
   pub vars : length a.vars.0 ≡ 16
+  pub numbers : All IsNumber a.vars.0
   pub tree : IsTree a.tree
   pub no_limits : All HasNoLimit a.tree
   pub state_names : length a.state_names ≡ length a.tree
-  pub states_named : All (λ name. is_name name ≡ true) a.state_names
+  pub states_named : All (λ name. is_state_name name ≡ true) a.state_names
+  pub initial : All HasParent a.tree
   pub each_state_once : IsDistinct bytes_eq a.state_names
   pub few_rows : length a.rows ≤ 128
-  pub rows : All (IsBuiltRow mboxes messages (length a.tree)) a.rows
+  pub rows : All (IsBuiltRow mboxes (length messages) (length a.tree)) a.rows
   pub row_ids : length a.row_ids ≡ length a.rows
   pub rows_named : All (λ name. is_name name ≡ true) (given a.row_ids)
   pub each_row_id_once : IsDistinct bytes_eq (given a.row_ids)
   pub few_filters : length a.filters ≤ 32
-  pub filters : All (IsBuiltFilter mboxes messages) a.filters
+  pub filters : All (IsBuiltFilter mboxes (length messages)) a.filters
   pub filters_named : All (λ name. is_name name ≡ true) (given (filter_ids a))
   pub each_filter_id_once : IsDistinct bytes_eq (given (filter_ids a))
   pub code : IsCode a.code
   pub bodies : bodies_in a.code ≡ agent_bodies (length a.tree) (handlers a.rows)
-  pub parts : All (NamesWithin (named_among mboxes messages texts (length a.tree) a.row_ids (filter_ids a))) a.code
+  pub parts : All (NamesWithin (named_among mboxes (length messages) texts (length a.tree) a.row_ids (filter_ids a))) a.code
+  pub written : All (IsWrittenAmong messages) a.code
+  pub short : are_short 0 a.code ≡ true
 
 abbrev pub mboxes_in : Build → ℕ
 mboxes_in s = length s.agents + length s.names.mboxes
@@ -107,7 +114,7 @@ pub record IsBuilt (s : Build) : Type 0 where
   pub dispatcher_names : IsDistinct bytes_eq (map disp_name s.dispatchers)
   pub groups : length s.agents ≤ 4096 → (d : DispId) → AreBuiltGroups s d
   pub coops : All (λ name. is_name name ≡ true) s.coops
-  pub agents : All (IsBuiltAgent (mboxes_in s) (length s.messages) (length s.texts) (map disp_kind s.dispatchers) s.groups) s.agents
+  pub agents : All (IsBuiltAgent (mboxes_in s) s.messages (length s.texts) (map disp_kind s.dispatchers) s.groups) s.agents
   pub names : IsDistinct bytes_eq (map agent_name s.agents ++ s.names.mboxes)
   pub texts : All (λ t. is_text t ≡ true) s.texts
   pub texts_numbered : length s.texts ≤ 4096 → AreNumbered (texts_of s.agents) (length s.texts)

@@ -13,4 +13,5 @@ pub mod Defs
 pub mod Build
 pub mod Scene
 pub mod Kept
+pub mod Numbers
 pub mod Reads

@@ -5,7 +5,7 @@ ghost use Rattle.so_scene_json.specs.ActTable.{word_named, args_of, needed_of, i
 
 /// The word of an act.
 #[derive(Clone, Copy, Debug, PartialEq, Eq)]
-pub(crate) enum Word {
+pub enum Word {
     Set,
     Add,
     Sub,
@@ -32,7 +32,7 @@ pub(crate) enum Word {
 
 /// What may stand behind a word.
 #[derive(Clone, Copy, Debug, PartialEq, Eq)]
-pub(crate) enum Arg {
+pub enum Arg {
     /// A text of up to 64 bytes.
     Text,
     /// A name.
@@ -49,7 +49,7 @@ pub(crate) enum Arg {
 
 /// Which acts a list may hold.
 #[derive(Clone, Copy, Debug, PartialEq, Eq)]
-pub(crate) enum Allowed {
+pub enum Allowed {
     /// All that are built.
     AnyAct,
     /// All but a switch: those of a state's enter and exit.

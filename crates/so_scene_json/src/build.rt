@@ -234,17 +234,17 @@ fn agent_with(
 
 /// The parts so far.
 #[derive(Drop)]
-pub(crate) struct Build {
-    pub(crate) names: Declared,
-    pub(crate) messages: Items<MessageDef>,
+pub struct Build {
+    pub names: Declared,
+    pub messages: Items<MessageDef>,
     /// The first is `default`.
-    pub(crate) dispatchers: Items<DispDef>,
+    pub dispatchers: Items<DispDef>,
     /// The groups of all dispatchers.
-    pub(crate) groups: Items<Group>,
+    pub groups: Items<Group>,
     /// The names of the cooperations.
-    pub(crate) coops: Items<Name>,
-    pub(crate) agents: Items<AgentDef>,
-    pub(crate) texts: Names,
+    pub coops: Items<Name>,
+    pub agents: Items<AgentDef>,
+    pub texts: Names,
 }
 
 impl Build {

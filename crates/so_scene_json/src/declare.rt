@@ -53,24 +53,24 @@ fn name_for(space: Space, value: &Value) -> Option<&str>
 
 /// The names so far, by number in each name space.
 #[derive(Drop)]
-pub(crate) struct Declared {
-    pub(crate) messages: Names,
+pub struct Declared {
+    pub messages: Names,
     /// Those that are declared. Their numbers follow that of `default`.
-    pub(crate) dispatchers: Names,
+    pub dispatchers: Names,
     /// Of each of these its kind.
-    pub(crate) kinds: Items<DispKind>,
-    pub(crate) coops: Names,
-    pub(crate) agents: Names,
+    pub kinds: Items<DispKind>,
+    pub coops: Names,
+    pub agents: Names,
     /// The named mboxes. Their numbers follow those of the agents.
-    pub(crate) mboxes: Names,
+    pub mboxes: Names,
     /// The states of the agent that is visited.
-    pub(crate) states: Names,
+    pub states: Names,
     /// The ids of its rows.
-    pub(crate) rows: Names,
+    pub rows: Names,
     /// The ids of its filters.
-    pub(crate) filters: Names,
+    pub filters: Names,
     /// Whether each message is a signal.
-    pub(crate) signals: Items<bool>,
+    pub signals: Items<bool>,
 }
 
 /// The number of the second names' name `k` where their numbers follow those of the first.

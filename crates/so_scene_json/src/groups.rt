@@ -15,9 +15,9 @@ use std::alloc::Global;
 
 /// A group of a dispatcher.
 #[derive(Drop)]
-pub(crate) struct Group {
-    pub(crate) disp: DispId,
-    pub(crate) name: Name,
+pub struct Group {
+    pub disp: DispId,
+    pub name: Name,
 }
 
 fn is_of(disp: DispId, group: &Group) -> bool

@@ -194,9 +194,9 @@ fn first_id(ids: &[Option<Name>], list: &[Value]) -> Option<Trouble>
 
 /// The third pass: all names, and the states and ids of the agent that is visited.
 #[derive(Drop)]
-pub(crate) struct Known {
-    pub(crate) names: Declared,
-    pub(crate) scope: Scope,
+pub struct Known {
+    pub names: Declared,
+    pub scope: Scope,
 }
 
 impl Known {

@@ -6,21 +6,21 @@
 //! the length of each code. The first fault of the first pass that has one is the answer.
 #![tactic(auto)]
 
-mod act_table;
+pub mod act_table;
 mod acts;
-mod build;
-mod declare;
+pub mod build;
+pub mod declare;
 mod defs;
 mod finish;
-mod groups;
-mod known;
+pub mod groups;
+pub mod known;
 mod read;
-mod scope;
-mod shape;
-mod table;
-mod values;
+pub mod scope;
+pub mod shape;
+pub mod table;
+pub mod values;
 mod walk;
-mod write;
+pub mod write;
 
 pub use read::read_scene;
 

@@ -1,8 +1,9 @@
 //! The scene of bytes.
 
-ghost use Rattle.std.specs.Prelude.{◌≡◌, Some, None};
+ghost use Rattle.std.specs.Prelude.{◌≡◌, Some, None, IfOk};
 ghost use Rattle.serde_json.specs.View.{view};
 ghost use Rattle.so_scene_json.specs.Scene.{scene_of, reading, of_data, passes, finished, fields, no_state};
+ghost use Rattle.so_scene_json.specs.Numbers.{HasNumbers};
 ghost use Rattle.so_scene_json.specs.Visits.{run};
 ghost use Rattle.so_scene_json.specs.Shape.{shape_step};
 ghost use Rattle.so_scene_json.specs.Twice.{twice_step, no_names};
@@ -21,9 +22,10 @@ use serde_json::Value;
 use so_scene::{Scene, SceneFault, ScenePlace, SceneRefusal};
 use std::alloc::Global;
 
-/// The value of the bytes.
+/// The value of the bytes, whose numbers have 64 bits.
 fn value_of(alloc: Global, bytes: &[u8]) -> Result<Value, SceneRefusal>
-    ensures { ReadsValue result (reading bytes.now) }
+    ensures read { ReadsValue result (reading bytes.now) }
+    ensures numbers { IfOk result (λ value. HasNumbers (view value)) }
 {
     match Value::from_slice(alloc, bytes) {
         Ok(value) => Ok(value),
@@ -69,6 +71,7 @@ fn parts_of(alloc: Global, known: Known, value: &Value) -> Result<Build, SceneRe
 
 #[tactic(auto, unfolding(crate::specs::Scene::passes))]
 fn four_passes(alloc: Global, value: &Value) -> Result<Scene, SceneRefusal>
+    requires { HasNumbers (view value.now) }
     ensures { Reads result (passes (view value.now)) }
 {
     let _shape = shape_of(value)?;
@@ -79,6 +82,7 @@ fn four_passes(alloc: Global, value: &Value) -> Result<Scene, SceneRefusal>
 }
 
 fn scene(alloc: Global, value: &Value) -> Result<Scene, SceneRefusal>
+    requires { HasNumbers (view value.now) }
     ensures { Reads result (of_data (view value.now)) }
 {
     if !value.is_object() {

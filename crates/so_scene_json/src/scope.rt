@@ -15,10 +15,10 @@ use std::alloc::Global;
 
 /// The name of each state of an agent, and the id of each row and each filter that has one, in their order.
 #[derive(Drop)]
-pub(crate) struct Scope {
-    pub(crate) states: Items<Name>,
-    pub(crate) rows: Items<Option<Name>>,
-    pub(crate) filters: Items<Option<Name>>,
+pub struct Scope {
+    pub states: Items<Name>,
+    pub rows: Items<Option<Name>>,
+    pub filters: Items<Option<Name>>,
 }
 
 impl Scope {

@@ -375,7 +375,7 @@ fn breach(kind: ObjectKind, value: &Value) -> bool
 
 /// The first pass. It keeps nothing.
 #[derive(Drop)]
-pub(crate) struct Shape {}
+pub struct Shape {}
 
 impl Pass for Shape {
     ghost step = { shape_step };

@@ -8,7 +8,7 @@ use so_scene::Field;
 
 /// The kinds of object.
 #[derive(Clone, Copy, Debug, PartialEq, Eq)]
-pub(crate) enum ObjectKind {
+pub enum ObjectKind {
     Scene,
     Message,
     Chain,
@@ -24,7 +24,7 @@ pub(crate) enum ObjectKind {
 
 /// The name spaces. Each agent has its own for its states, for its rows, and for its filters.
 #[derive(Clone, Copy, Debug, PartialEq, Eq)]
-pub(crate) enum Space {
+pub enum Space {
     Messages,
     /// The dispatchers, of which `default` is the first.
     Dispatchers,
@@ -38,7 +38,7 @@ pub(crate) enum Space {
 
 /// What a field holds.
 #[derive(Clone, Copy, Debug, PartialEq, Eq)]
-pub(crate) enum Form {
+pub enum Form {
     /// The number 1.
     One,
     /// A name.
@@ -83,10 +83,10 @@ pub(crate) enum Form {
 
 /// A field of an object.
 #[derive(Clone, Copy, Debug, PartialEq, Eq)]
-pub(crate) struct Rule {
-    pub(crate) field: Field,
-    pub(crate) required: bool,
-    pub(crate) form: Form,
+pub struct Rule {
+    pub field: Field,
+    pub required: bool,
+    pub form: Form,
 }
 
 static SCENE: [Rule; 9] = [

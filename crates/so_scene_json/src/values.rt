@@ -11,7 +11,7 @@ use so_state::History;
 
 /// What is wrong with a value whose place is known elsewhere.
 #[derive(Clone, Copy, Debug, PartialEq, Eq)]
-pub(crate) enum Trouble {
+pub enum Trouble {
     WrongShape,
     OutOfRange,
     UnknownName,

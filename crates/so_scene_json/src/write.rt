@@ -26,10 +26,10 @@ use so_scene::{Items, Names, SceneRefusal, is_text};
 
 /// The texts so far, and the instructions of an agent so far with the names and ids that they may use.
 #[derive(Drop)]
-pub(crate) struct Writer {
-    pub(crate) texts: Names,
-    pub(crate) code: Items<Instr>,
-    pub(crate) scope: Scope,
+pub struct Writer {
+    pub texts: Names,
+    pub code: Items<Instr>,
+    pub scope: Scope,
 }
 
 pub(crate) fn item(list: &[Value], i: usize) -> Option<&Value>

@@ -1,0 +1,18 @@
+use Rattle.std.proofs.Common.{ap, map, ◌∙◌}
+use Rattle.serde_json.specs.Data.{array}
+use Rattle.serde_json.specs.View.{items_of}
+use Rattle.serde_json.proofs.Views.{view-Array}
+use Rattle.so_scene_writer.specs.Canonical.{state_data}
+use Rattle.so_scene_writer.specs.Sources.{states_in}
+use Rattle.so_scene_writer.proofs.Listed.{states_more, states_done}
+use Rattle.so_scene_writer.proofs.agents.states_value.Goals as goal
+
+pub loop-k-preserved : goal.loop-k-preserved
+loop-k-preserved c =
+    states_more c.args.scene.now c.args.agent.now (map (state_data c.args.scene.now c.args.agent.now) (states_in c.args.names.now c.args.states.now c.args.code.now)) c.loop-k.list.items _ c.args.names.now c.args.states.now c.least-k-end.result c.loop-k.k _ _ _ _ _ _ _
+    c.index-names-k.is c.least-k-end.ensures c.loop-k-test.true c.loop-k.invariant c.in_ok-state_value.ensures c.in_ok-push.ensures.items c.behind.ensures c.behind-left.ensures
+
+pub returns : goal.returns
+returns c =
+    view-Array c.loop-k.list ∙ ap (λ ds. array (items_of ds))
+    (states_done c.args.scene.now c.args.agent.now (map (state_data c.args.scene.now c.args.agent.now) (states_in c.args.names.now c.args.states.now c.args.code.now)) c.loop-k.list.items c.args.names.now c.args.states.now c.least-k-end.result c.loop-k.k c.loop-k.left.now c.least-k-end.ensures c.loop-k-test.false c.loop-k.invariant)

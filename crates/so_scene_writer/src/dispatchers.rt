@@ -1,0 +1,107 @@
+//! Dispatchers as values.
+
+ghost use Rattle.std.specs.Prelude.{◌≡◌, drop, Some, None, option_map, IfOk};
+ghost use Rattle.serde_json.specs.View.{view};
+ghost use Rattle.so_scene.specs.Checked.{is_pool};
+ghost use Rattle.so_scene_writer.specs.ActData.{count_data};
+ghost use Rattle.so_scene_writer.specs.Canonical.{disp_data, disp_kind_word, fifo_word, list_data, of_pool};
+ghost use Rattle.so_scene_writer.specs.Fields.{disp_base};
+ghost use Rattle.serde_json.specs.Data.{string};
+
+use crate::fields::with_field;
+use crate::operands::count_value;
+use crate::words::text;
+use serde_json::{Value, json};
+use so_scene::{DispDef, DispKind, Fifo};
+use std::alloc::{AllocError, Global};
+
+fn kind_word(kind: DispKind) -> &'static str
+    ensures { result.now ≡ disp_kind_word kind }
+{
+    match kind {
+        DispKind::OneThread => "one_thread",
+        DispKind::ActiveObj => "active_obj",
+        DispKind::ActiveGroup => "active_group",
+        DispKind::ThreadPool => "thread_pool",
+        DispKind::AdvThreadPool => "adv_thread_pool",
+        DispKind::StrictlyOrdered => "strictly_ordered",
+        DispKind::QuotedRoundRobin => "quoted_round_robin",
+        DispKind::OnePerPrio => "one_per_prio",
+    }
+}
+
+fn fifo_word(fifo: Fifo) -> &'static str
+    ensures { result.now ≡ fifo_word fifo }
+{
+    match fifo {
+        Fifo::Cooperation => "cooperation",
+        Fifo::Individual => "individual",
+    }
+}
+
+fn is_pool(kind: DispKind) -> bool
+    ensures { result ≡ is_pool kind }
+{
+    matches!(kind, DispKind::ThreadPool | DispKind::AdvThreadPool)
+}
+
+fn fifo_value(alloc: Global, disp: &DispDef) -> Result<Option<Value>, AllocError>
+    ensures { IfOk result (λ o. option_map view o ≡ of_pool disp.now.kind (string (fifo_word disp.now.fifo))) }
+{
+    if is_pool(disp.kind) {
+        return Ok(Some(Value::try_from_str(alloc, fifo_word(disp.fifo))?));
+    }
+    Ok(None)
+}
+
+fn threads_value(disp: &DispDef) -> Option<Value>
+    ensures { option_map view result ≡ of_pool disp.now.kind (count_data disp.now.threads) }
+{
+    if !is_pool(disp.kind) {
+        return None;
+    }
+    Some(count_value(disp.threads))
+}
+
+fn disp_base(alloc: Global, disp: &DispDef) -> Result<Value, AllocError>
+    ensures { IfOk result (λ v. view v ≡ disp_base disp.now.kind disp.now.name) }
+{
+    let kind = kind_word(disp.kind);
+    let name = text(disp.name.bytes());
+    json!(in alloc; {"kind": kind, "name": name})
+}
+
+fn disp_value(alloc: Global, disp: &DispDef) -> Result<Value, AllocError>
+    ensures { IfOk result (λ v. view v ≡ disp_data disp.now) }
+{
+    let value = disp_base(alloc, disp)?;
+    let value = with_field(alloc, value, "fifo", fifo_value(alloc, disp)?)?;
+    with_field(alloc, value, "threads", threads_value(disp))
+}
+
+/// All but the first, which is `default`.
+fn declared(disps: &[DispDef]) -> &[DispDef]
+    ensures { result.now ≡ drop 1 disps.now }
+{
+    if disps.is_empty() {
+        return &[];
+    }
+    &disps[1..]
+}
+
+fn list_value(alloc: Global, disps: &[DispDef]) -> Result<Value, AllocError>
+    ensures { IfOk result (λ v. view v ≡ list_data disp_data disps.now) }
+{
+    let mut list = Vec::new(alloc);
+    for disp in disps {
+        list.push(disp_value(alloc, disp)?)?;
+    }
+    Ok(Value::Array(list))
+}
+
+/// The dispatchers that are declared, of all these.
+pub(crate) fn dispatchers_value(alloc: Global, disps: &[DispDef]) -> Result<Value, AllocError>
+    ensures { IfOk result (λ v. view v ≡ list_data disp_data (drop 1 disps.now)) }
+{
+    list_value(alloc, declared(disps))
+}

@@ -1,0 +1,50 @@
+//! Scenes in their canonical form, which is written by hand.
+use crate::write_scene;
+use so_scene_json::read_scene;
+use std::alloc::Global;
+use std::process::Abort;
+use std::test::Fail;
+
+/// A scene's file, and the canonical one.
+#[derive(Clone, Copy)]
+struct Row {
+    file: &'static str,
+    canonical: &'static str,
+}
+
+/// What is absent has its default.
+const DEFAULTS: Row = Row {
+    file: "{\"version\": 1, \"coops\": [{\"name\": \"c\", \"agents\": [{\"name\": \"a\"}]}]}",
+    canonical: "{\"coops\":[{\"agents\":[{\"disp\":\"default\",\"filters\":[],\"finish\":[],\"name\":\"a\",\"on\":[],\"start\":[],\"states\":[],\"vars\":[0,0,0,0,0,0,0,0,0,0,0,0,0,0,0,0]}],\"name\":\"c\"}],\"dispatchers\":[],\"mboxes\":[],\"messages\":[],\"version\":1}",
+};
+
+/// Threads and fifo are a pool's, and an agent without a group has no such field.
+const DISPATCHERS: Row = Row {
+    file: "{\"version\":1,\"dispatchers\":[{\"name\":\"p\",\"kind\":\"thread_pool\"},{\"name\":\"g\",\"kind\":\"active_group\"},{\"threads\":2,\"name\":\"q\",\"fifo\":\"individual\",\"kind\":\"thread_pool\"},{\"name\":\"o\",\"kind\":\"active_obj\"}],\"coops\":[{\"name\":\"c\",\"agents\":[{\"name\":\"a\",\"group\":\"y\",\"disp\":\"g\"},{\"name\":\"b\",\"disp\":\"g\",\"group\":\"x\"},{\"name\":\"d\",\"disp\":\"q\"}]}]}",
+    canonical: "{\"coops\":[{\"agents\":[{\"disp\":\"g\",\"filters\":[],\"finish\":[],\"group\":\"y\",\"name\":\"a\",\"on\":[],\"start\":[],\"states\":[],\"vars\":[0,0,0,0,0,0,0,0,0,0,0,0,0,0,0,0]},{\"disp\":\"g\",\"filters\":[],\"finish\":[],\"group\":\"x\",\"name\":\"b\",\"on\":[],\"start\":[],\"states\":[],\"vars\":[0,0,0,0,0,0,0,0,0,0,0,0,0,0,0,0]},{\"disp\":\"q\",\"filters\":[],\"finish\":[],\"name\":\"d\",\"on\":[],\"start\":[],\"states\":[],\"vars\":[0,0,0,0,0,0,0,0,0,0,0,0,0,0,0,0]}],\"name\":\"c\"}],\"dispatchers\":[{\"fifo\":\"cooperation\",\"kind\":\"thread_pool\",\"name\":\"p\",\"threads\":4},{\"kind\":\"active_group\",\"name\":\"g\"},{\"fifo\":\"individual\",\"kind\":\"thread_pool\",\"name\":\"q\",\"threads\":2},{\"kind\":\"active_obj\",\"name\":\"o\"}],\"mboxes\":[],\"messages\":[],\"version\":1}",
+};
+
+/// Each kind of object and of row, and acts with names, numbers and operands.
+const PARTS: Row = Row {
+    file: "{\"version\":1,\"messages\":[{\"name\":\"m\"},{\"kind\":\"signal\",\"name\":\"s\"}],\"mboxes\":[\"box\",\"box\"],\"coops\":[{\"name\":\"c\",\"agents\":[{\"name\":\"a\",\"vars\":[5,-1],\"states\":[{\"name\":\"top\",\"history\":\"deep\"},{\"name\":\"sub\",\"parent\":\"top\",\"initial\":true,\"enter\":[[\"log\",\"in\"]],\"exit\":[[\"stop\"]]}],\"filters\":[{\"id\":\"f\",\"mbox\":\"box\",\"msg\":\"m\",\"field\":1,\"cmp\":\"<=\",\"value\":-3}],\"start\":[[\"send\",\"box\",\"m\",1,\"v0\"],[\"log\",\"out\",\"t1\"],[\"switch\",\"sub\"]],\"finish\":[[\"if\",\"v0\",\"==\",2,1],[\"throw\",7],[\"skip\",0]],\"on\":[{\"id\":\"r\",\"msg\":\"m\",\"mbox\":\"box\",\"state\":\"sub\",\"do\":[[\"add\",\"v1\",\"m0\",-4],[\"send\",\"a\",\"s\"],[\"unsubscribe\",\"r\"],[\"set_filter\",\"f\"]]},{\"msg\":\"s\",\"switch\":\"top\"},{\"msg\":\"m\",\"state\":\"top\",\"transfer\":\"default\",\"active\":false},{\"msg\":\"s\",\"state\":\"sub\",\"suppress\":true},{\"msg\":\"s\",\"dead\":true,\"do\":[]}]}]}]}",
+    canonical: "{\"coops\":[{\"agents\":[{\"disp\":\"default\",\"filters\":[{\"active\":true,\"cmp\":\"<=\",\"field\":1,\"id\":\"f\",\"mbox\":\"box\",\"msg\":\"m\",\"value\":-3}],\"finish\":[[\"if\",\"v0\",\"==\",2,1],[\"throw\",7],[\"skip\",0]],\"name\":\"a\",\"on\":[{\"active\":true,\"do\":[[\"add\",\"v1\",\"m0\",-4],[\"send\",\"a\",\"s\"],[\"unsubscribe\",\"r\"],[\"set_filter\",\"f\"]],\"id\":\"r\",\"mbox\":\"box\",\"msg\":\"m\",\"state\":\"sub\"},{\"active\":true,\"mbox\":\"a\",\"msg\":\"s\",\"state\":\"default\",\"switch\":\"top\"},{\"active\":false,\"mbox\":\"a\",\"msg\":\"m\",\"state\":\"top\",\"transfer\":\"default\"},{\"active\":true,\"mbox\":\"a\",\"msg\":\"s\",\"state\":\"sub\",\"suppress\":true},{\"active\":true,\"dead\":true,\"do\":[],\"mbox\":\"a\",\"msg\":\"s\"}],\"start\":[[\"send\",\"box\",\"m\",1,\"v0\"],[\"log\",\"out\",\"t1\"],[\"switch\",\"sub\"]],\"states\":[{\"enter\":[],\"exit\":[],\"history\":\"deep\",\"initial\":false,\"name\":\"top\"},{\"enter\":[[\"log\",\"in\"]],\"exit\":[[\"stop\"]],\"history\":\"none\",\"initial\":true,\"name\":\"sub\",\"parent\":\"top\"}],\"vars\":[5,-1,0,0,0,0,0,0,0,0,0,0,0,0,0,0]}],\"name\":\"c\"}],\"dispatchers\":[],\"mboxes\":[\"box\"],\"messages\":[{\"kind\":\"message\",\"name\":\"m\"},{\"kind\":\"signal\",\"name\":\"s\"}],\"version\":1}",
+};
+
+/// Reads a file, writes its scene, and compares the bytes.
+fn compare(rt: &impl Abort, alloc: Global, file: &str, canonical: &str) -> Result<(), Fail> {
+    let Ok(scene) = read_scene(alloc, file.as_bytes()) else {
+        panic!(rt; "the scene isn't read")
+    };
+    let bytes = write_scene(alloc, &scene)?;
+    assert_eq!(rt; bytes.as_slice(), canonical.as_bytes());
+    Ok(())
+}
+
+#[test]
+fn scenes_are_written_in_canonical_form(rt: HostRuntime) -> Result<(), Fail> {
+    for row in [DEFAULTS, DISPATCHERS, PARTS] {
+        compare(&rt, rt.alloc(), row.file, row.canonical)?;
+        compare(&rt, rt.alloc(), row.canonical, row.canonical)?;
+    }
+    Ok(())
+}
