@@ -1,13 +1,14 @@
 -- How the queues are tied to the demands that wait.
-use Rattle.std.specs.Prelude.{◌≡◌, ℕ, ◌+◌, ◌*◌, ◌<◌, ◌≤◌, ◌==◌, ◌||◌, List, [], ◌∷◌, length, map, replicate, Bool, true, false}
+use Rattle.std.specs.Prelude.{◌≡◌, ℕ, ◌+◌, ◌*◌, ◌<◌, ◌≤◌, ◌==◌, ◌||◌, List, [], ◌∷◌, length, map, slice_index_or, Bool, true, false}
 use Rattle.std.specs.List.{filter, AllByRecursion}
 use Rattle.so_ids.specs.declared.DemandId.{DemandId}
 use Rattle.so_ids.specs.Ids.{same_demand, is_earlier}
 use Rattle.so_lists.specs.Lists.{each_below}
 use Rattle.so_scene.specs.declared.parts.SceneParts.{SceneParts}
-use Rattle.so_scene.specs.Lanes.{keys}
+use Rattle.so_scene.specs.Lanes.{keys, agent_number}
 use Rattle.so_queue.specs.Queues.{QueueTable, list_at}
 use Rattle.so_history.specs.declared.entry.Demand.{Demand}
+use Rattle.so_history.specs.Safety.{kind_of, lets_overlap}
 use Rattle.so_events.specs.Events.{place_of}
 
 -- demands in order: each is earlier than all that follow it
@@ -37,10 +38,15 @@ waits_in s lists d = has_id (list_at lists (place_of s d)) d.id
 abbrev pub waiting_in : SceneParts → List (List DemandId) → List Demand → List Demand
 waiting_in s lists all = filter (waits_in s lists) all
 
--- the queues hold the waiting demands, each in its own, and count no turn as thread-safe
+-- a queue whose dispatcher lets thread-safe turns overlap, by its number
+abbrev pub overlaps : SceneParts → ℕ → Bool
+overlaps s k = lets_overlap (kind_of s (agent_number k))
+
+-- the queues hold the waiting demands, each in its own, and count thread-safe turns only where they may overlap
 pub record IsTied (s : SceneParts) (all waiting : List Demand) (q : QueueTable) (cap : ℕ) : Type 0 where
   pub lists : q.lists ≡ each_below (ids_at s waiting) (8 * keys s)
-  pub safe : q.safe ≡ replicate (keys s) 0
+  pub safe : length q.safe ≡ keys s
+  pub overlap : (k : ℕ) → overlaps s k ≡ false → slice_index_or q.safe k 0 ≡ 0
   pub exclusive : length q.exclusive ≡ keys s
   pub order : AreInOrder all
   pub agents : AllByRecursion (λ d. d.agent.0 < length s.agents) all

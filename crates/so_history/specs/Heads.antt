@@ -1,5 +1,5 @@
 -- Which demand of a queue is next: the first that waits, and with priorities the first of the priority that is next.
-use Rattle.std.specs.Prelude.{ℕ, ◌-◌, ◌==◌, List, [], ◌∷◌, Bool, false, Option, Some, None, if◌then◌else◌}
+use Rattle.std.specs.Prelude.{ℕ, ◌-◌, ◌==◌, List, [], ◌∷◌, Bool, true, false, ◌&&◌, Option, Some, None, if◌then◌else◌}
 use Rattle.std.specs.List.{filter, find, list_any}
 use Rattle.std.specs.Option.{option_and_then}
 use Rattle.so_ids.specs.declared.AgentId.{AgentId}
@@ -50,10 +50,15 @@ on_dispatcher s disp ds = filter (λ d. is_bound s disp d.agent) ds
 abbrev pub moved_round : SceneParts → List Demand → DispId → Round → Round
 moved_round s ds disp r = moved (disp_of s disp).quotes (some_of_priority s (on_dispatcher s disp ds)) r
 
--- a lane of the dispatcher takes a demand
+-- only these dispatchers have rounds that are moved
+abbrev pub has_rounds : DispKind → Bool
+has_rounds QuotedRoundRobin = true
+has_rounds other = false
+
+-- a lane of such a dispatcher takes a demand
 abbrev pub takes_on : SceneParts → DispId → EntryKind → Bool
-takes_on s disp (Begin lane demand opening agent) = (lane_at s lane).disp.0 == disp.0
-takes_on s disp (Skip lane demand why) = (lane_at s lane).disp.0 == disp.0
+takes_on s disp (Begin lane demand opening agent) = has_rounds (disp_of s disp).kind && ((lane_at s lane).disp.0 == disp.0)
+takes_on s disp (Skip lane demand why) = has_rounds (disp_of s disp).kind && ((lane_at s lane).disp.0 == disp.0)
 takes_on s disp other = false
 
 -- each taking of the dispatcher moves its round over the demands that wait then, and uses one of the quote

@@ -1,6 +1,6 @@
 -- The tables of a history, and what each entry makes of them.
-use Rattle.std.specs.Prelude.{ℕ, ◌+◌, ◌<◌, ◌≤◌, ◌^◌, ◌&&◌, List, [], ◌∷◌, ◌++◌, length, Bool, true, false, Option, Some, None, is_ok, if◌then◌else◌, slice_set, slice_index_or, replicate}
-use Rattle.std.specs.List.{AllByRecursion}
+use Rattle.std.specs.Prelude.{ℕ, ◌+◌, ◌<◌, ◌≤◌, ◌^◌, ◌&&◌, List, [], ◌∷◌, ◌++◌, length, Bool, true, false, not, Option, Some, None, is_ok, if◌then◌else◌, slice_set, slice_index_or, replicate}
+use Rattle.std.specs.List.{filter, AllByRecursion}
 use Rattle.so_ids.specs.declared.AgentId.{AgentId}
 use Rattle.so_ids.specs.declared.KeyId.{KeyId}
 use Rattle.so_ids.specs.declared.LaneId.{LaneId}
@@ -11,6 +11,7 @@ use Rattle.so_lists.specs.Lists.{each_below}
 use Rattle.so_scene.specs.declared.parts.SceneParts.{SceneParts}
 use Rattle.so_scene.specs.Parts.{vars_of}
 use Rattle.so_scene.specs.Lanes.{lanes, keys}
+use Rattle.so_scene.specs.declared.round.Round.{Round}
 use Rattle.so_history.specs.declared.entry.Entry.{Entry}
 use Rattle.so_history.specs.declared.entry.Demand.{Demand}
 use Rattle.so_history.specs.declared.entry.DemandKind.TheVariants.{Start, Finish}
@@ -20,6 +21,8 @@ use Rattle.so_mbox.specs.Table.{Subscriptions, nobody, after_enter, after_leave,
 use Rattle.so_mbox.specs.Answers.{subscribe_answer}
 use Rattle.so_history.specs.Delivery.{registered, active_rows, active_filters}
 use Rattle.so_history.specs.Turns.{Started, running_at, lane_number, key_number, vars}
+use Rattle.so_history.specs.Heads.{round}
+use Rattle.so_history.specs.Order.{runs_safe}
 use Rattle.so_history.specs.Units.{units}
 use Rattle.so_history.specs.Coops.{tried, present, leaving, stop_asked, stopped, aborted}
 use Rattle.so_kernel.specs.declared.tables.Marks.{Marks}
@@ -34,13 +37,31 @@ first_place (t ∷ ts) = Some (record { 0 = t.place })
 abbrev pub places : (Started → ℕ) → List Entry → ℕ → List (Option Place)
 places f h n = each_below (λ i. first_place (running_at f h i)) n
 
--- how many turns run at each number
-abbrev pub counts : (Started → ℕ) → List Entry → ℕ → List ℕ
-counts f h n = each_below (λ i. length (running_at f h i)) n
+-- how many such turns run with each queue
+abbrev pub is_other : SceneParts → Started → Bool
+is_other s t = not (runs_safe s t)
+
+abbrev pub counts : SceneParts → (Started → Bool) → List Entry → List ℕ
+counts s p h = each_below (λ k. length (filter p (running_at (key_number s) h k))) (keys s)
+
+-- the round of each dispatcher
+abbrev pub round_at : SceneParts → List Entry → ℕ → Round
+round_at s h d = round s h (record { 0 = d })
+
+abbrev pub rounds : SceneParts → List Entry → List Round
+rounds s h = each_below (round_at s h) (length s.dispatchers)
 
 -- the demands of a history, with room for so many
 abbrev pub events_of : SceneParts → ℕ → List Entry → EventTable
-events_of s room h = record { scene = s; queued = demands s h; waiting = waiting s h; running = counts (key_number s) h (keys s); room = room }
+events_of s room h = record {
+  scene = s;
+  queued = demands s h;
+  waiting = waiting s h;
+  safe = counts s (runs_safe s) h;
+  exclusive = counts s (is_other s) h;
+  rounds = rounds s h;
+  room = room;
+}
 
 abbrev pub marks_of : List Entry → Marks
 marks_of h = record { tried = tried h; present = present h; leaving = leaving h; asked = stop_asked h; stopped = stopped h; aborted = aborted h }
@@ -124,16 +145,16 @@ abbrev pub after_register : SceneParts → ℕ → List AgentId → Tables → T
 after_register s place agents t =
     record (queued place (ask_each Start agents) t) { variables = initial s; mboxes = entered agents t.mboxes; marks = record t.marks { tried = true; present = true } }
 
-abbrev pub after_begin : Place → LaneId → KeyId → Demand → Tables → Tables
-after_begin place lane key d t =
+abbrev pub after_begin : Place → LaneId → Bool → KeyId → Demand → Tables → Tables
+after_begin place lane safe key d t =
     record t {
-      events = turn_started key (after_taking d.id t.events);
+      events = turn_started safe key (after_taking lane d t.events);
       lanes = slice_set t.lanes lane.0 (Some place);
       units = t.units + 1;
     }
 
-abbrev pub after_skip : Demand → Tables → Tables
-after_skip d t = record t { events = after_taking d.id t.events; units = t.units + 1 }
+abbrev pub after_skip : LaneId → Demand → Tables → Tables
+after_skip lane d t = record t { events = after_taking lane d t.events; units = t.units + 1 }
 
 -- an act that changes the subscriptions so
 abbrev pub with_mboxes : Subscriptions → Tables → Tables
@@ -151,12 +172,17 @@ after_asking t = record t { marks = record t.marks { asked = true }; units = t.u
 abbrev pub after_abort : Tables → Tables
 after_abort t = record t { marks = record t.marks { aborted = true }; units = t.units + 1 }
 
-abbrev pub after_end : LaneId → KeyId → AgentId → Vars → Tables → Tables
-after_end lane key agent vars t =
+-- a turn that isn't thread-safe brings its variables back
+abbrev pub brought_back : Bool → AgentId → Vars → List Vars → List Vars
+brought_back true agent vars variables = variables
+brought_back false agent vars variables = slice_set variables agent.0 vars
+
+abbrev pub after_end : LaneId → Bool → KeyId → AgentId → Vars → Tables → Tables
+after_end lane safe key agent vars t =
     record t {
       lanes = slice_set t.lanes lane.0 None;
-      events = turn_ended key t.events;
-      variables = slice_set t.variables agent.0 vars;
+      events = turn_ended safe key t.events;
+      variables = brought_back safe agent vars t.variables;
       units = t.units + 1;
     }
 
