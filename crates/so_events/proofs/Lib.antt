@@ -4,3 +4,5 @@ pub mod NameOrder
 pub mod HeldLaws
 pub mod TiedLaws
 pub mod PickLaws
+pub mod NextLaws
+pub mod PickedLaws
