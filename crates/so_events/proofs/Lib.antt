@@ -6,3 +6,4 @@ pub mod TiedLaws
 pub mod PickLaws
 pub mod NextLaws
 pub mod PickedLaws
+pub mod RoundTable

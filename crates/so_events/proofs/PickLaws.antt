@@ -116,7 +116,7 @@ on_one s k x =
           ∙ sym (ne_eqb (key_of s x.agent).0 k other)
     ]
 
-front_is : (s : SceneParts) (ds : List Demand) (lists : List (List DemandId)) (k : ℕ) → AreInOrder ds → lists ≡ each_below (ids_at s ds) (8 * keys s) → k < keys s → front_of_key lists k ≡ option_map id_of (find (is_on s k) ds)
+pub front_is : (s : SceneParts) (ds : List Demand) (lists : List (List DemandId)) (k : ℕ) → AreInOrder ds → lists ≡ each_below (ids_at s ds) (8 * keys s) → k < keys s → front_of_key lists k ≡ option_map id_of (find (is_on s k) ds)
 unfolding front_of_key
 front_is s ds lists k order are within =
     least_to-below 8 (8 * k) lists
