@@ -1,9 +1,9 @@
 -- What comes first in a queue is the demand that is next there, kind of dispatcher by kind.
-use Rattle.std.proofs.Common.{◌≡◌, ℕ, zero, suc, ◌+◌, ◌-◌, ◌*◌, ◌<◌, ◌≤◌, List, [], ◌∷◌, ◌++◌, length, map, Bool, true, false, ◌&&◌, ◌||◌, Option, Some, None, is_some, arith, refl, sym, ◌∙◌, ap, subst, inl, inr}
+use Rattle.std.proofs.Common.{◌≡◌, ℕ, zero, suc, ◌+◌, ◌-◌, ◌*◌, ◌<◌, ◌≤◌, List, [], ◌∷◌, ◌++◌, length, Bool, true, false, ◌&&◌, Option, Some, None, is_some, arith, refl, sym, ◌∙◌, ap, subst, inl, inr}
 use Rattle.std.specs.Prelude.{◌==◌}
 use Rattle.std.specs.List.{filter, find, list_any, AllByRecursion}
 use Rattle.std.specs.Option.{option_map, option_and_then}
-use Rattle.std.proofs.lemmas.Bool.{cases_Bool, cases_eq, eq-eqb, ne_eqb, eqb-true, false≢true}
+use Rattle.std.proofs.lemmas.Bool.{cases_Bool, cases_eq, eq-eqb, ne_eqb, eqb-true}
 use Rattle.so_ids.specs.declared.AgentId.{AgentId}
 use Rattle.so_ids.specs.declared.DemandId.{DemandId}
 use Rattle.so_ids.specs.declared.DispId.{DispId}
@@ -12,21 +12,19 @@ use Rattle.so_ids.specs.declared.Priority.{Priority}
 use Rattle.so_ids.specs.Ids.{same_demand}
 use Rattle.so_lists.specs.Lists.{head, or_else, first_below, each_below}
 use Rattle.so_lists.proofs.EachBelow.{get_or-each_below}
-use Rattle.so_lists.proofs.Filters.{each-weaker, each-filter, each_passes, both_each}
+use Rattle.so_lists.proofs.Filters.{each-weaker, each-filter, each_passes}
 use Rattle.so_scene.specs.declared.lanes.Part.TheVariants as part
 use Rattle.so_scene.specs.declared.lanes.Queue.{Queue}
-use Rattle.so_scene.specs.declared.parts.AgentDef.{AgentDef}
 use Rattle.so_scene.specs.declared.parts.DispKind.{DispKind}
 use Rattle.so_scene.specs.declared.parts.DispKind.TheVariants.{OneThread, ActiveObj, ActiveGroup, ThreadPool, AdvThreadPool, StrictlyOrdered, QuotedRoundRobin, OnePerPrio}
-use Rattle.so_scene.specs.declared.parts.Fifo.{Fifo}
 use Rattle.so_scene.specs.declared.parts.SceneParts.{SceneParts}
 use Rattle.so_scene.specs.declared.round.Round.{Round}
 use Rattle.so_scene.specs.Parts.{agent_of, disp_of, priority_of}
 use Rattle.so_scene.specs.Lanes.{keys, key_of, queue_of, queue_at, part_by, is_bound}
-use Rattle.so_scene.specs.Rounds.{next_lower, down_from, priorities_after, has_demand, has_left, begun, next_priority, moved}
+use Rattle.so_scene.specs.Rounds.{next_lower, down_from, has_demand, moved}
 use Rattle.so_scene.proofs.LaneLaws.{its_key, same_queue-key}
 use Rattle.so_queue.specs.Queues.{QueueTable, list_at, head_of, front_of_key}
-use Rattle.so_disp_prio.specs.Pick.{first_with, waits_with, from_top, head_by, head_on}
+use Rattle.so_disp_prio.specs.Pick.{first_with, waits_with, from_top, head_by}
 use Rattle.so_deliver.proofs.CommitLaws.{low}
 use Rattle.so_history.specs.declared.entry.Demand.{Demand}
 use Rattle.so_history.specs.Safety.{kind_of}
@@ -204,8 +202,8 @@ module _ (s : SceneParts) (ds : List Demand) (q : QueueTable) (k : ℕ) (order :
       ap head_of (ap (λ ls. list_at ls (8 * k + l)) are ∙ get_or-each_below (ids_at s ds) (8 * keys s) (8 * k + l) [] (omega arith))
       ∙ head_found (is_at s (8 * k + l)) ds
       ∙ ap (option_map id_of)
-          (find_same_each (is_at s (8 * k + l)) (λ x. is_on s k x && is_of_priority s l x) ds (each_all (λ x. is_at s (8 * k + l) x ≡ (is_on s k x && is_of_priority s l x)) ds (λ x. at_both s k l x few))
-          ∙ sym (find-filtered (is_of_priority s l) (is_on s k) ds))
+      (find_same_each (is_at s (8 * k + l)) (λ x. is_on s k x && is_of_priority s l x) ds (each_all (λ x. is_at s (8 * k + l) x ≡ (is_on s k x && is_of_priority s l x)) ds (λ x. at_both s k l x few))
+      ∙ sym (find-filtered (is_of_priority s l) (is_on s k) ds))
 
   front_next : front_of_key q.lists k ≡ option_map id_of (head (in_queue s its ds))
   front_next = front_is s ds q.lists k order are within ∙ ap (option_map id_of) (first_of (is_on s k) ds)

@@ -1,30 +1,27 @@
--- The pick of the queues is the first demand that may be taken.
-use Rattle.std.proofs.Common.{◌≡◌, ◌≢◌, ℕ, zero, suc, ◌+◌, ◌*◌, ◌<◌, ◌≤◌, List, [], ◌∷◌, length, map, Bool, true, false, ◌||◌, ◌&&◌, Option, Some, None, arith, refl, sym, ◌∙◌, ap, subst, inl, inr}
-use Rattle.std.specs.Prelude.{◌==◌, replicate, slice_index_or}
+-- The least of what many tests find is the first that any finds. So the front of a queue is the first that waits in it.
+use Rattle.std.proofs.Common.{◌≡◌, ℕ, zero, suc, ◌+◌, ◌*◌, ◌<◌, List, [], ◌∷◌, length, map, Bool, true, false, ◌||◌, Option, Some, None, arith, refl, sym, ◌∙◌, ap, inl, inr}
+use Rattle.std.specs.Prelude.{◌==◌}
 use Rattle.std.specs.List.{filter, find, AllByRecursion}
 use Rattle.std.specs.Option.{option_map, is_none}
-use Rattle.std.proofs.lemmas.Bool.{cases_Bool, cases_eq, eq-eqb, ne_eqb, eqb-true, and_parts, false≢true}
-use Rattle.std.proofs.lemmas.List.{get_or-replicate, length-replicate}
+use Rattle.std.proofs.lemmas.Bool.{cases_Bool, cases_eq, eq-eqb, ne_eqb, false≢true}
 use Rattle.so_ids.specs.declared.DemandId.{DemandId}
 use Rattle.so_ids.specs.declared.KeyId.{KeyId}
-use Rattle.so_ids.specs.declared.LaneId.{LaneId}
 use Rattle.so_ids.specs.Ids.{is_earlier}
 use Rattle.so_lists.specs.Lists.{each_below, is_empty}
 use Rattle.so_lists.proofs.Filters.{each-weaker, each-filter, found}
 use Rattle.so_lists.proofs.EachBelow.{get_or-each_below}
 use Rattle.so_scene.specs.declared.parts.SceneParts.{SceneParts}
-use Rattle.so_scene.specs.Lanes.{keys, key_of, serves}
-use Rattle.so_queue.specs.Queues.{QueueTable, keys_of, list_at, head_of, lesser, least_to, front_of_key, is_behind, IsNextKey}
+use Rattle.so_scene.specs.Lanes.{keys, key_of}
+use Rattle.so_queue.specs.Queues.{QueueTable, keys_of, list_at, head_of, lesser, least_to, front_of_key, IsNextKey}
 use Rattle.so_queue.proofs.OrderLaws.{earlier_itself, not_both}
 use Rattle.so_queue.specs.Picks.{least_below}
-use Rattle.so_disp_excl.specs.Pick.{is_open, open_front, pick}
 use Rattle.so_scene.specs.Parts.{priority_of}
 use Rattle.so_deliver.proofs.CommitLaws.{low}
 use Rattle.so_history.specs.declared.entry.Demand.{Demand}
-use Rattle.so_events.specs.Events.{place_of, is_beside, may_take_by, turns_with}
+use Rattle.so_events.specs.Events.{place_of}
 use Rattle.so_events.specs.Tied.{AreInOrder, id_of, is_at, ids_at, waits_in, waiting_in, IsTied}
-use Rattle.so_events.proofs.ListLaws.{find_same_each, and-right}
-use Rattle.so_events.proofs.NameOrder.{order-filter, other_way}
+use Rattle.so_events.proofs.ListLaws.{find_same_each}
+use Rattle.so_events.proofs.NameOrder.{order-filter}
 use Rattle.so_scene.proofs.LaneLaws.{key_in_range}
 
 -- ---- the lesser of what two tests find

@@ -1,10 +1,9 @@
 -- What a dispatcher picks from the queues is the first demand that the lane may take.
 use Rattle.std.proofs.Common.{◌≡◌, ℕ, ◌*◌, ◌<◌, List, [], ◌∷◌, length, Bool, true, false, ◌&&◌, Option, Some, None, if◌then◌else◌, refl, sym, ◌∙◌, ap, inl, inr}
 use Rattle.std.specs.Prelude.{◌==◌, slice_index_or}
-use Rattle.std.specs.List.{filter, find, AllByRecursion}
+use Rattle.std.specs.List.{find, AllByRecursion}
 use Rattle.std.specs.Option.{option_map}
 use Rattle.std.proofs.lemmas.Bool.{cases_Bool, and_parts, eq-eqb, ne_eqb, eqb-true}
-use Rattle.so_ids.specs.declared.AgentId.{AgentId}
 use Rattle.so_ids.specs.declared.DemandId.{DemandId}
 use Rattle.so_ids.specs.declared.DispId.{DispId}
 use Rattle.so_ids.specs.declared.KeyId.{KeyId}
@@ -17,7 +16,7 @@ use Rattle.so_scene.specs.declared.parts.DispKind.TheVariants.{OneThread, Active
 use Rattle.so_scene.specs.declared.parts.SceneParts.{SceneParts}
 use Rattle.so_scene.specs.declared.round.Round.{Round}
 use Rattle.so_scene.specs.Parts.{agent_of, disp_of}
-use Rattle.so_scene.specs.Lanes.{keys, key_of, queue_at, lane_at, agent_number, serves_part, serves}
+use Rattle.so_scene.specs.Lanes.{keys, key_of, queue_at, lane_at, serves_part, serves}
 use Rattle.so_scene.proofs.LaneLaws.{key_in_range}
 use Rattle.so_queue.specs.Queues.{QueueTable, front_of_key}
 use Rattle.so_queue.specs.Picks.{is_quiet, least_below}
@@ -27,14 +26,13 @@ use Rattle.so_disp_adv.specs.declared.heads.HeadClass.TheVariants.{Exclusive, Sa
 use Rattle.so_disp_adv.specs.Pick.{may_be_taken, open_demand, pick as pick_beside, open_front as open_beside}
 use Rattle.so_disp_prio.specs.Pick.{head, head_by, head_on, round_of, pick as pick_by_priority, open_head}
 use Rattle.so_history.specs.declared.entry.Demand.{Demand}
-use Rattle.so_history.specs.Safety.{kind_of, lets_overlap}
-use Rattle.so_history.specs.Heads.{in_queue, is_it, is_next_among, next_by}
+use Rattle.so_history.specs.Safety.{lets_overlap}
+use Rattle.so_history.specs.Heads.{in_queue, is_it, is_next_among}
 use Rattle.so_history.proofs.NameLaws.{same_place}
-use Rattle.so_events.specs.Events.{EventTable, allows, may_take_by, turns_with}
-use Rattle.so_events.specs.Tied.{AreInOrder, id_of, ids_at, waits_in, overlaps, IsTied}
+use Rattle.so_events.specs.Events.{EventTable, allows, may_take_by}
+use Rattle.so_events.specs.Tied.{AreInOrder, id_of, ids_at, IsTied}
 use Rattle.so_events.specs.Picked.{picked_on}
-use Rattle.so_events.proofs.ListLaws.{find_same_each, find-filtered, and-right}
-use Rattle.so_events.proofs.NameOrder.{order-filter}
+use Rattle.so_events.proofs.ListLaws.{find_same_each, find-filtered}
 use Rattle.so_events.proofs.PickLaws.{is_on, any_below, any_at, find_never, each_all, least_found}
 use Rattle.so_events.proofs.NextLaws.{next_on, next_at, next_there, on_key, on_disp, head_next}
 
@@ -81,12 +79,12 @@ pub least_is : (s : SceneParts) (ds : List Demand) (may : Demand → Bool) (f : 
 least_is s ds may f order known each =
     least_found f (λ k x. is_on s k x && may x) ds (keys s) order each
     ∙ ap (option_map id_of)
-        (find_same_each (λ x. any_below (λ k. is_on s k x && may x) (keys s)) may ds
-        (each-weaker (λ (x : Demand). x.agent.0 < length s.agents) (λ (x : Demand). any_below (λ k. is_on s k x && may x) (keys s) ≡ may x)
-        (λ x l.
-        let key = key_of s x.agent in
-        any_at (λ k. is_on s k x && may x) (keys s) key.0 (key_in_range s x.agent l) (λ j m apart. ap (λ b. b && may x) (ne_eqb key.0 j (λ e. apart (sym e))))
-        ∙ ap (λ b. b && may x) (eq-eqb key.0 key.0 refl)) ds known))
+    (find_same_each (λ x. any_below (λ k. is_on s k x && may x) (keys s)) may ds
+    (each-weaker (λ (x : Demand). x.agent.0 < length s.agents) (λ (x : Demand). any_below (λ k. is_on s k x && may x) (keys s) ≡ may x)
+    (λ x l.
+    let key = key_of s x.agent in
+    any_at (λ k. is_on s k x && may x) (keys s) key.0 (key_in_range s x.agent l) (λ j m apart. ap (λ b. b && may x) (ne_eqb key.0 j (λ e. apart (sym e))))
+    ∙ ap (λ b. b && may x) (eq-eqb key.0 key.0 refl)) ds known))
 
 served_disp : (s : SceneParts) (lane : LaneId) (k : ℕ) → serves s lane (record { 0 = k }) ≡ true → (queue_at s k).disp ≡ (lane_at s lane).disp
 unfolding serves
@@ -133,10 +131,10 @@ module _ (t : EventTable) (q : QueueTable) (class : DemandId → HeadClass) (lan
       ap (option_map id_of)
       (sym (find-filtered (may_take_by t class lane) (is_on t.scene k) t.waiting)
       ∙ find_same_each (may_take_by t class lane) (λ x. is_it x (next k) && allows t (record { 0 = k }) (class x.id)) (in_queue t.scene (record { 0 = k }) t.waiting)
-        (each-weaker (λ (x : Demand). (x.agent.0 < length t.scene.agents) × (is_on t.scene k x ≡ true)) (λ (x : Demand). may_take_by t class lane x ≡ (is_it x (next k) && allows t (record { 0 = k }) (class x.id)))
-        (λ x h. opened k x on h.0 h.1) (in_queue t.scene (record { 0 = k }) t.waiting)
-        (both_each (λ (x : Demand). x.agent.0 < length t.scene.agents) (λ (x : Demand). is_on t.scene k x ≡ true) (in_queue t.scene (record { 0 = k }) t.waiting)
-        (each-filter (λ (x : Demand). x.agent.0 < length t.scene.agents) (is_on t.scene k) t.waiting known) (each_passes (is_on t.scene k) t.waiting))))
+      (each-weaker (λ (x : Demand). (x.agent.0 < length t.scene.agents) × (is_on t.scene k x ≡ true)) (λ (x : Demand). may_take_by t class lane x ≡ (is_it x (next k) && allows t (record { 0 = k }) (class x.id)))
+      (λ x h. opened k x on h.0 h.1) (in_queue t.scene (record { 0 = k }) t.waiting)
+      (both_each (λ (x : Demand). x.agent.0 < length t.scene.agents) (λ (x : Demand). is_on t.scene k x ≡ true) (in_queue t.scene (record { 0 = k }) t.waiting)
+      (each-filter (λ (x : Demand). x.agent.0 < length t.scene.agents) (is_on t.scene k) t.waiting known) (each_passes (is_on t.scene k) t.waiting))))
       ∙ next_passes (λ d. allows t (record { 0 = k }) (class d)) (next k) (in_queue t.scene (record { 0 = k }) t.waiting) (next_there t.scene t.waiting (record { 0 = k }) order (disp_of t.scene disp).kind (round_of t.rounds) disp)
 
   -- what a pick does with each queue

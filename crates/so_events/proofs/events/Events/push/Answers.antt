@@ -1,10 +1,9 @@
-use Rattle.std.proofs.Common.{◌≡◌, ◌<◌, ◌++◌, ◌∷◌, [], length, refl, sym, arith, subst, true}
+use Rattle.std.proofs.Common.{◌≡◌, ◌<◌, length, refl, sym, arith, subst, true}
 use Rattle.std.specs.List.{AllByRecursion}
 use Rattle.so_ids.specs.Ids.{is_earlier}
 use Rattle.so_history.specs.declared.entry.Demand.{Demand}
 use Rattle.so_events.specs.Events.{EventTable}
-use Rattle.so_events.specs.Tied.{IsTied}
-use Rattle.so_events.proofs.TiedLaws.{Pushed, pushed, room_to_push, among_queued}
+use Rattle.so_events.proofs.TiedLaws.{pushed, room_to_push, among_queued}
 use Rattle.so_events.proofs.events.Events.push.Goals as goal
 
 pub queue_demand-requires-clause-room : goal.queue_demand-requires-clause-room

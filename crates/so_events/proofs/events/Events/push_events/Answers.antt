@@ -1,9 +1,9 @@
-use Rattle.std.proofs.Common.{◌≡◌, ◌<◌, ◌≤◌, ◌+◌, length, refl, sym, arith, subst}
+use Rattle.std.proofs.Common.{◌<◌, ◌≤◌, ◌+◌, length, refl, sym, arith, subst}
 use Rattle.std.specs.List.{All, AllByRecursion}
 use Rattle.so_ids.specs.declared.Queued.{Queued}
 use Rattle.so_history.specs.declared.entry.Demand.{Demand}
 use Rattle.so_events.specs.Events.{EventTable}
-use Rattle.so_events.proofs.TiedLaws.{Pushed, pushed_events, committed-safe, committed-exclusive, room_to_push, among_queued}
+use Rattle.so_events.proofs.TiedLaws.{pushed_events, committed-safe, committed-exclusive, room_to_push, among_queued}
 use Rattle.so_events.proofs.events.Events.push_events.Goals as goal
 
 pub commit-requires-clause-room : goal.commit-requires-clause-room

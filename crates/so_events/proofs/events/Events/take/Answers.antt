@@ -1,9 +1,8 @@
-use Rattle.std.proofs.Common.{◌≡◌, ◌<◌, ◌∙◌, length, refl, sym, ap, arith, subst, Some, rules}
+use Rattle.std.proofs.Common.{◌≡◌, refl, sym, subst, Some, rules}
 use Rattle.std.specs.List.{find}
-use Rattle.so_queue.specs.Queues.{head_of, queue_of}
 use Rattle.so_events.specs.Events.{EventTable, is_beside}
 use Rattle.so_events.proofs.RoundTable.{rounds_kept}
-use Rattle.so_events.proofs.TiedLaws.{Taken, taken, taken_head, waiting_known}
+use Rattle.so_events.proofs.TiedLaws.{taken, taken_head, waiting_known}
 use Rattle.so_events.proofs.events.Events.take.Goals as goal
 
 pub key-key-requires : goal.key-key-requires

@@ -1,4 +1,4 @@
-use Rattle.std.proofs.Common.{◌≡◌, ◌∙◌, sym, ap, arith}
+use Rattle.std.proofs.Common.{◌∙◌, ap, arith}
 use Rattle.so_queue.specs.Queues.{no_demands}
 use Rattle.so_events.proofs.RoundTable.{rounds_begin}
 use Rattle.so_events.proofs.TiedLaws.{tied_begins}
