@@ -7,7 +7,7 @@ ghost use Rattle.so_history.specs.declared.entry.Demand.{Demand as AnyDemand};
 ghost use Rattle.so_lists.specs.Lists.{is_empty};
 ghost use Rattle.so_scene.specs.Lanes.{lanes, keys};
 ghost use Rattle.so_scene.specs.Parts.{agents_from};
-ghost use Rattle.so_history.specs.Demands.{ask, ask_each, demand_of, demands_from};
+ghost use Rattle.so_history.specs.Demands.{ask, ask_each, demand_of, demands_from, named};
 ghost use Rattle.so_events.specs.Events.{no_events, after_demands, after_taking, turns_of, after_start, after_end, may_take_by, is_beside};
 ghost use Rattle.so_events.specs.Tied.{overlaps};
 ghost use Rattle.so_events.specs.Picked.{picked_on};
@@ -121,6 +121,13 @@ impl<'a> Events<'a> {
         extend(&mut self.queued, place, outcomes);
     }
 
+    /// The demand of this name, among all that were queued.
+    pub fn named(&self, id: DemandId) -> Option<Demand>
+        ensures { result ≡ named id self.now.queued }
+    {
+        find_demand(&self.queued, id)
+    }
+
     /// The first demand that the lane may take: it serves the demand's queue, the demand is the next of it, and the
     /// turns of the queue that run allow what `heads` tells of the demand.
     pub fn pick<H: Heads>(&self, heads: &H, lane: LaneId) -> Option<Demand>
@@ -135,7 +142,7 @@ impl<'a> Events<'a> {
             heads,
             lane,
         ) {
-            Some(id) => find_demand(&self.queued, id),
+            Some(id) => self.named(id),
             None => None,
         }
     }

@@ -40,7 +40,7 @@ returns-in-Some g c =
     } in
     let class = g.H.Heads.class c.args.heads.now in
     let is = found t c.self.inside.queues class c.args.lane c.dispatcher.result.now c.lane.result (Some c.in-Some.id) c.self.invariant.0 refl refl refl c.lane.ensures.value c.dispatcher.ensures (sym c.in-Some.is ∙ c.pick_on.ensures) in
-    rw (← c.self.view_is, c.find_demand.ensures, c.deref.ensures.value) (named_found (may_take_by t class c.args.lane) (waits_in c.self.inside.scene.now c.self.inside.queues.lists) c.self.inside.queued.items c.in-Some.id c.self.invariant.0.order is)
+    rw (c.named.ensures, ← c.self.view_is) (named_found (may_take_by t class c.args.lane) (waits_in c.self.inside.scene.now c.self.inside.queues.lists) c.self.inside.queued.items c.in-Some.id c.self.invariant.0.order is)
 
 pub returns-in-None : goal.returns-in-None
 returns-in-None g c =
