@@ -1,6 +1,6 @@
 -- The round of a dispatcher after one more entry.
 use Rattle.std.proofs.Common.{◌≡◌, ◌<◌, List, ◌∷◌, length, true, false, Option, Some, None, refl, sym, ◌∙◌, ap, subst}
-use Rattle.std.specs.Prelude.{◌==◌}
+use Rattle.std.specs.Prelude.{◌==◌, ◌&&◌}
 use Rattle.std.proofs.lemmas.Bool.{and_parts, eq-eqb, eqb-true}
 use Rattle.so_ids.specs.declared.AgentId.{AgentId}
 use Rattle.so_ids.specs.declared.DispId.{DispId}
@@ -25,18 +25,20 @@ use Rattle.so_history.specs.declared.entry.Demand.{Demand}
 use Rattle.so_history.specs.declared.entry.SkipWhy.{SkipWhy}
 use Rattle.so_history.specs.Demands.{waiting}
 use Rattle.so_history.specs.Safety.{kind_of}
-use Rattle.so_history.specs.Heads.{is_of_priority, some_of_priority, on_dispatcher, moved_round, takes_on, round, in_queue, next_by}
+use Rattle.so_history.specs.Heads.{is_of_priority, some_of_priority, on_dispatcher, moved_round, has_rounds, takes_on, round, in_queue, next_by}
 use Rattle.so_history.specs.Order.{pick, opening_of, skipped, taking_as, taking}
 use Rattle.so_history.proofs.DemandLaws.{picked_of}
 use Rattle.so_history.proofs.HeadLaws.{picked_may, picked_waits, picked_next}
 
 -- ---- who takes
 
-taking_on : (s : SceneParts) (disp : DispId) (lane : LaneId) (d : Demand) (begins : Opening) (w : Option SkipWhy) → takes_on s disp (taking_as lane d begins w) ≡ ((lane_at s lane).disp.0 == disp.0)
+taking_on : (s : SceneParts) (disp : DispId) (lane : LaneId) (d : Demand) (begins : Opening) (w : Option SkipWhy) →
+    takes_on s disp (taking_as lane d begins w) ≡ (has_rounds (disp_of s disp).kind && ((lane_at s lane).disp.0 == disp.0))
 taking_on s disp lane d begins None = refl
 taking_on s disp lane d begins (Some why) = refl
 
-pub takes_on-taking : (s : SceneParts) (h : List Entry) (disp : DispId) (lane : LaneId) (d : Demand) → takes_on s disp (taking s h lane d) ≡ ((lane_at s lane).disp.0 == disp.0)
+pub takes_on-taking : (s : SceneParts) (h : List Entry) (disp : DispId) (lane : LaneId) (d : Demand) →
+    takes_on s disp (taking s h lane d) ≡ (has_rounds (disp_of s disp).kind && ((lane_at s lane).disp.0 == disp.0))
 takes_on-taking s h disp lane d = taking_on s disp lane d (opening_of s h d) (skipped (opening_of s h d))
 
 -- a lane takes the demands of its own dispatcher's agents
@@ -77,7 +79,9 @@ round-taken s h e lane d scene picks is kind =
     let before : Round = round s h disp in
     let moved : Round = moved_round s (waiting s h) disp before in
     let lanes = ap (λ (x : DispId). x.0) (picked_lane s h lane d scene picks) in
-    let on : takes_on s disp e.kind ≡ true = ap (takes_on s disp) is ∙ takes_on-taking s h disp lane d ∙ eq-eqb (lane_at s lane).disp.0 disp.0 lanes in
+    let has : has_rounds (disp_of s disp).kind ≡ true = ap has_rounds kind in
+    let itself : ((lane_at s lane).disp.0 == disp.0) ≡ true = eq-eqb (lane_at s lane).disp.0 disp.0 lanes in
+    let on : takes_on s disp e.kind ≡ true = ap (takes_on s disp) is ∙ takes_on-taking s h disp lane d ∙ ap (λ b. b && ((lane_at s lane).disp.0 == disp.0)) has ∙ itself in
     let some : HasSome (some_of_priority s (on_dispatcher s disp (waiting s h))) = record {
       at = priority_of s d.agent;
       here = any_found (λ x. same_demand d.id x.id) (is_of_priority s (priority_of s d.agent).level) (λ x. is_bound s disp x.agent) (waiting s h) d
