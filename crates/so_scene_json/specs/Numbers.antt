@@ -1,4 +1,4 @@
--- The numbers of a document: one below zero has 64 bits.
+-- The numbers of a document: an integer below zero has 64 bits. One from zero on is tried where it is read.
 use Rattle.serde_json.specs.Data.{Num, unsigned, negative, float, Data, null, boolean, number, string, array, object, Items, no_items, item, Members, no_members, member}
 use Rattle.so_scene_json.specs.Visits.{Visit, enters, tries, leaves}
 use Rattle.so_scene.specs.Written.{IsNumber}
