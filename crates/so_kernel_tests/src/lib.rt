@@ -2,4 +2,8 @@
 #![tactic(auto)]
 
 #[cfg(test)]
+mod priorities;
+#[cfg(test)]
 mod tests;
+#[cfg(test)]
+mod thread_safe;

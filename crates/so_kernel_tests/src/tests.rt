@@ -55,21 +55,21 @@ fn trace(alloc: Global, scene: &Scene, history: &History) -> Result<Vec<u8>, NoM
 
 /// A scene, a row of picks, and the trace of what they add.
 #[derive(Clone, Copy)]
-struct Row<'a> {
-    scene: &'a str,
-    picks: &'a [Pick],
-    trace: &'a str,
+pub(crate) struct Row<'a> {
+    pub(crate) scene: &'a str,
+    pub(crate) picks: &'a [Pick],
+    pub(crate) trace: &'a str,
 }
 
 /// Main's registration.
-const REGISTER: Pick = Pick::Register;
+pub(crate) const REGISTER: Pick = Pick::Register;
 
 /// A step of lane 0, 1 or 2.
-const L0: Pick = Pick::Lane(LaneId(0));
+pub(crate) const L0: Pick = Pick::Lane(LaneId(0));
 
-const L1: Pick = Pick::Lane(LaneId(1));
+pub(crate) const L1: Pick = Pick::Lane(LaneId(1));
 
-const L2: Pick = Pick::Lane(LaneId(2));
+pub(crate) const L2: Pick = Pick::Lane(LaneId(2));
 
 /// Two agents on the dispatcher `default`.
 const ONE_LANE: &str =
@@ -101,15 +101,15 @@ const STARTED: &str =
     "0 p0 register 0\n1 p1 begin 0 0.0 start\n2 p1 act 1 send m1 0 = sent 1 0 0\n3 p1 act 1 send m1 1 = sent 1 0 0\n4 p1 act 1 send m2 0 = sent 1 0 0\n5 p1 end 1\n6 p2 begin 1 0.1 start\n7 p2 end 6\n8 p2 begin 1 0.2 start\n9 p2 end 8\n";
 
 /// What follows where the queue is the cooperation's, and where each agent has one.
-const THEN_ONE: &str = "10 p2 begin 1 2.0 run 0\n";
+pub(crate) const THEN_ONE: &str = "10 p2 begin 1 2.0 run 0\n";
 
-const THEN_TWO: &str = "10 p2 begin 1 2.0 run 0\n11 p3 begin 2 4.0 run 0\n";
+pub(crate) const THEN_TWO: &str = "10 p2 begin 1 2.0 run 0\n11 p3 begin 2 4.0 run 0\n";
 
 /// The picks up to the end of the three starts, and one more of both lanes of the pool.
 const STARTS: [Pick; 12] = [REGISTER, L0, L0, L0, L0, L0, L1, L1, L1, L1, L1, L2];
 
 /// Reads each scene, plays its picks, and compares the trace.
-fn compare(rt: &impl Abort, alloc: Global, rows: &[Row]) -> Result<(), Fail> {
+pub(crate) fn compare(rt: &impl Abort, alloc: Global, rows: &[Row]) -> Result<(), Fail> {
     for row in rows {
         let Ok(scene) = read_scene(alloc, row.scene.as_bytes()) else {
             panic!(rt; "the scene isn't read")
@@ -170,7 +170,12 @@ fn agents_with_lanes_of_their_own_and_groups_run_beside_each_other(
 }
 
 /// Plays the picks on a scene, and compares the end of the trace.
-fn compare_end(rt: &impl Abort, alloc: Global, scene: &str, end: &str) -> Result<(), Fail> {
+pub(crate) fn compare_end(
+    rt: &impl Abort,
+    alloc: Global,
+    scene: &str,
+    end: &str,
+) -> Result<(), Fail> {
     let Ok(scene) = read_scene(alloc, scene.as_bytes()) else {
         panic!(rt; "the scene isn't read")
     };
