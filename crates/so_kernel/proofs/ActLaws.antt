@@ -26,13 +26,13 @@ use Rattle.so_kernel.specs.Gates.{HasMoved, IsActOf, act_entry, answer_for}
 use Rattle.so_kernel.proofs.HeldLaws.{held_whose}
 
 module _ (k : Core) (t : Turn) (m : Move) (scene : IsScene k.scene) (legal : Legal k.scene k.history) (moved : HasMoved k.scene k.history t m) where
-  pub sound_before : IsSound k.scene (record { agent = t.agent; event = t.event; frame = moved.before })
+  pub sound_before : IsSound k.scene (record { agent = t.agent; safe = t.safe; event = t.event; frame = moved.before })
   sound_before = course_sound k.scene scene k.history t.begun.0 _ legal moved.held.course
 
-  pub does : (move_of k.scene (record { agent = t.agent; event = t.event; frame = moved.before })).0 ≡ m
+  pub does : (move_of k.scene (record { agent = t.agent; safe = t.safe; event = t.event; frame = moved.before })).0 ≡ m
   does = ap (λ (p : Move × Frame). p.0) moved.moves
 
-  pub frame_is : (move_of k.scene (record { agent = t.agent; event = t.event; frame = moved.before })).1 ≡ t.frame
+  pub frame_is : (move_of k.scene (record { agent = t.agent; safe = t.safe; event = t.event; frame = moved.before })).1 ≡ t.frame
   frame_is = ap (λ (p : Move × Frame). p.1) moved.moves
 
   pub moved_is_frame : IsFrame (code_of k.scene t.agent) t.frame
@@ -72,7 +72,7 @@ moves_act s h t e a moved answers = record {
   turn = moved.held.turn;
   runs = moved.held.runs;
   signed = sym moved.held.by;
-  reached = record { agent = t.agent; event = t.event; frame = moved.before };
+  reached = record { agent = t.agent; safe = t.safe; event = t.event; frame = moved.before };
   has = moved.held.course;
   is = rw (moved.moves, answers) refl;
 }

@@ -83,7 +83,7 @@ pub record IsHeld (s : SceneParts) (h : List Entry) (t : Turn) : Type 0 where
   pub runs : turn_at h t.begun.0 ≡ Some turn
   pub by : turn.by ≡ t.by
   pub lane : turn.lane ≡ t.lane
-  pub course : course s h t.begun.0 ≡ Some (record { agent = t.agent; event = t.event; frame = t.frame })
+  pub course : course s h t.begun.0 ≡ Some (record { agent = t.agent; safe = t.safe; event = t.event; frame = t.frame })
 
 -- a turn that has made this move: its frame is the one after the move
 pub record HasMoved (s : SceneParts) (h : List Entry) (t : Turn) (move : Move) : Type 0 where
