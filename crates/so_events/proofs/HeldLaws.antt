@@ -1,15 +1,14 @@
 -- Which demands stand in the queues that hold some of them.
-use Rattle.std.proofs.Common.{◌≡◌, ℕ, ◌+◌, ◌*◌, ◌<◌, ◌≤◌, List, [], ◌∷◌, ◌++◌, length, map, Bool, true, false, ◌&&◌, ◌||◌, cond, arith, refl, sym, ◌∙◌, ap}
+use Rattle.std.proofs.Common.{◌≡◌, ◌*◌, ◌<◌, List, [], ◌∷◌, length, map, Bool, true, false, ◌&&◌, cond, arith, refl, ◌∙◌, ap}
 use Rattle.std.specs.List.{filter, AllByRecursion}
 use Rattle.std.proofs.lemmas.Bool.{eq-eqb}
-use Rattle.so_ids.specs.declared.AgentId.{AgentId}
 use Rattle.so_ids.specs.declared.DemandId.{DemandId}
 use Rattle.so_ids.specs.Ids.{same_demand, is_earlier}
 use Rattle.so_lists.specs.Lists.{each_below}
 use Rattle.so_lists.proofs.Filters.{each-weaker, each-filter, filter-filter, both_each}
 use Rattle.so_lists.proofs.EachBelow.{get_or-each_below}
 use Rattle.so_scene.specs.declared.parts.SceneParts.{SceneParts}
-use Rattle.so_scene.specs.Lanes.{keys, key_of}
+use Rattle.so_scene.specs.Lanes.{keys}
 use Rattle.so_scene.proofs.LaneLaws.{key_in_range}
 use Rattle.so_queue.specs.Queues.{list_at}
 use Rattle.so_deliver.proofs.CommitLaws.{low}

@@ -4,3 +4,6 @@ pub mod NameOrder
 pub mod HeldLaws
 pub mod TiedLaws
 pub mod PickLaws
+pub mod NextLaws
+pub mod PickedLaws
+pub mod RoundTable

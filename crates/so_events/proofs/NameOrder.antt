@@ -1,17 +1,17 @@
 -- Demands in the order of their names.
-use Rattle.std.proofs.Common.{◌≡◌, ◌≢◌, ℕ, zero, suc, ◌+◌, ◌<◌, ◌≤◌, List, [], ◌∷◌, ◌++◌, length, Bool, true, false, ◌&&◌, not, Option, Some, None, arith, refl, sym, ◌∙◌, ap, subst, inl, inr, cond}
-use Rattle.std.specs.Prelude.{slice_get, ◌⊎◌}
+use Rattle.std.proofs.Common.{◌≡◌, ℕ, zero, suc, ◌+◌, ◌<◌, ◌≤◌, List, [], ◌∷◌, ◌++◌, length, Bool, true, false, ◌&&◌, Option, Some, None, arith, refl, sym, ◌∙◌, ap, subst, inl, inr}
+use Rattle.std.specs.Prelude.{slice_get}
 use Rattle.std.specs.Option.{option_map}
 use Rattle.std.specs.List.{filter, find, AllByRecursion}
-use Rattle.std.proofs.lemmas.Bool.{cases_Bool, cases_lt, cases_eq, false≢true}
+use Rattle.std.proofs.lemmas.Bool.{cases_lt, cases_eq}
 use Rattle.so_ids.specs.declared.DemandId.{DemandId}
 use Rattle.so_ids.specs.Ids.{same_demand, is_earlier}
-use Rattle.so_lists.proofs.Filters.{each-append, each-weaker}
+use Rattle.so_lists.proofs.Filters.{each-append}
 use Rattle.so_lists.proofs.First.{option_map-none}
 use Rattle.so_queue.proofs.OrderLaws.{earlier_trans}
 use Rattle.so_history.specs.declared.entry.Demand.{Demand}
-use Rattle.so_history.specs.Demands.{named, without}
-use Rattle.so_history.proofs.NameLaws.{Sorted, sorted-filter, same_place, itself, found_by_name}
+use Rattle.so_history.specs.Demands.{named}
+use Rattle.so_history.proofs.NameLaws.{Sorted, sorted-filter, same_place, found_by_name}
 use Rattle.so_events.specs.Tied.{AreInOrder, id_of}
 use Rattle.so_events.proofs.ListLaws.{find-filtered}
 

@@ -1,30 +1,27 @@
--- The pick of the queues is the first demand that may be taken.
-use Rattle.std.proofs.Common.{◌≡◌, ◌≢◌, ℕ, zero, suc, ◌+◌, ◌*◌, ◌<◌, ◌≤◌, List, [], ◌∷◌, length, map, Bool, true, false, ◌||◌, ◌&&◌, Option, Some, None, arith, refl, sym, ◌∙◌, ap, subst, inl, inr}
-use Rattle.std.specs.Prelude.{◌==◌, replicate, slice_index_or}
+-- The least of what many tests find is the first that any finds. So the front of a queue is the first that waits in it.
+use Rattle.std.proofs.Common.{◌≡◌, ℕ, zero, suc, ◌+◌, ◌*◌, ◌<◌, List, [], ◌∷◌, length, map, Bool, true, false, ◌||◌, Option, Some, None, arith, refl, sym, ◌∙◌, ap, inl, inr}
+use Rattle.std.specs.Prelude.{◌==◌}
 use Rattle.std.specs.List.{filter, find, AllByRecursion}
 use Rattle.std.specs.Option.{option_map, is_none}
-use Rattle.std.proofs.lemmas.Bool.{cases_Bool, cases_eq, eq-eqb, ne_eqb, eqb-true, and_parts, false≢true}
-use Rattle.std.proofs.lemmas.List.{get_or-replicate, length-replicate}
+use Rattle.std.proofs.lemmas.Bool.{cases_Bool, cases_eq, eq-eqb, ne_eqb, false≢true}
 use Rattle.so_ids.specs.declared.DemandId.{DemandId}
 use Rattle.so_ids.specs.declared.KeyId.{KeyId}
-use Rattle.so_ids.specs.declared.LaneId.{LaneId}
 use Rattle.so_ids.specs.Ids.{is_earlier}
 use Rattle.so_lists.specs.Lists.{each_below, is_empty}
 use Rattle.so_lists.proofs.Filters.{each-weaker, each-filter, found}
 use Rattle.so_lists.proofs.EachBelow.{get_or-each_below}
 use Rattle.so_scene.specs.declared.parts.SceneParts.{SceneParts}
-use Rattle.so_scene.specs.Lanes.{keys, key_of, serves}
-use Rattle.so_queue.specs.Queues.{QueueTable, keys_of, list_at, head_of, lesser, least_to, front_of_key, is_behind, IsNextKey}
+use Rattle.so_scene.specs.Lanes.{keys, key_of}
+use Rattle.so_queue.specs.Queues.{QueueTable, keys_of, list_at, head_of, lesser, least_to, front_of_key, IsNextKey}
 use Rattle.so_queue.proofs.OrderLaws.{earlier_itself, not_both}
 use Rattle.so_queue.specs.Picks.{least_below}
-use Rattle.so_disp_excl.specs.Pick.{is_open, open_front, pick}
 use Rattle.so_scene.specs.Parts.{priority_of}
 use Rattle.so_deliver.proofs.CommitLaws.{low}
 use Rattle.so_history.specs.declared.entry.Demand.{Demand}
-use Rattle.so_events.specs.Events.{place_of, is_beside, may_take_by, turns_with}
+use Rattle.so_events.specs.Events.{place_of}
 use Rattle.so_events.specs.Tied.{AreInOrder, id_of, is_at, ids_at, waits_in, waiting_in, IsTied}
-use Rattle.so_events.proofs.ListLaws.{find_same_each, and-right}
-use Rattle.so_events.proofs.NameOrder.{order-filter, other_way}
+use Rattle.so_events.proofs.ListLaws.{find_same_each}
+use Rattle.so_events.proofs.NameOrder.{order-filter}
 use Rattle.so_scene.proofs.LaneLaws.{key_in_range}
 
 -- ---- the lesser of what two tests find
@@ -50,7 +47,7 @@ found_lesser p q (x ∷ ds) order =
           ]
     ]
 
-find_never : (ds : List Demand) → find (λ x. false) ds ≡ None
+pub find_never : (ds : List Demand) → find (λ x. false) ds ≡ None
 find_never [] = refl
 find_never (x ∷ ds) = find_never ds
 
@@ -69,7 +66,7 @@ or_false true = refl
 or_false false = refl
 
 -- at most one of them passes
-any_at : (f : ℕ → Bool) (n k : ℕ) → k < n → ((j : ℕ) → j < n → (j ≡ k → ⊥) → f j ≡ false) → any_below f n ≡ f k
+pub any_at : (f : ℕ → Bool) (n k : ℕ) → k < n → ((j : ℕ) → j < n → (j ≡ k → ⊥) → f j ≡ false) → any_below f n ≡ f k
 any_at f zero k l others = absurd (omega arith)
 any_at f (suc n) k l others =
     elim (cases_eq k n) [
@@ -80,12 +77,12 @@ any_at f (suc n) k l others =
           rw (any_at f n k before (λ j m. others j (omega arith)), last) (or_false (f k)))
     ]
 
-least_found : (f : ℕ → Option DemandId) (p : ℕ → Demand → Bool) (ds : List Demand) (n : ℕ) → AreInOrder ds → ((k : ℕ) → k < n → f k ≡ option_map id_of (find (p k) ds)) → least_below f n ≡ option_map id_of (find (λ x. any_below (λ k. p k x) n) ds)
+pub least_found : (f : ℕ → Option DemandId) (p : ℕ → Demand → Bool) (ds : List Demand) (n : ℕ) → AreInOrder ds → ((k : ℕ) → k < n → f k ≡ option_map id_of (find (p k) ds)) → least_below f n ≡ option_map id_of (find (λ x. any_below (λ k. p k x) n) ds)
 unfolding least_below
 least_found f p ds zero order each = rw (find_never ds) refl
 least_found f p ds (suc n) order each = rw (least_found f p ds n order (λ k l. each k (omega arith)), each n (omega arith)) (found_lesser (λ x. any_below (λ k. p k x) n) (p n) ds order)
 
-each_all : (P : Demand → Type 0) (ds : List Demand) → ((x : Demand) → P x) → AllByRecursion P ds
+pub each_all : (P : Demand → Type 0) (ds : List Demand) → ((x : Demand) → P x) → AllByRecursion P ds
 each_all P [] all = tt
 each_all P (x ∷ ds) all = (all x, each_all P ds all)
 
@@ -96,7 +93,7 @@ unfolding least_to least_below
 least_to-below zero i lists = refl
 least_to-below (suc n) i lists = rw (least_to-below n i lists) refl
 
-head_found : (p : Demand → Bool) (ds : List Demand) → head_of (map id_of (filter p ds)) ≡ option_map id_of (find p ds)
+pub head_found : (p : Demand → Bool) (ds : List Demand) → head_of (map id_of (filter p ds)) ≡ option_map id_of (find p ds)
 head_found p [] = refl
 head_found p (x ∷ ds) = elim (cases_Bool (p x)) [ inl t ↦ rw t refl | inr f ↦ rw f (head_found p ds) ]
 
@@ -116,46 +113,13 @@ on_one s k x =
           ∙ sym (ne_eqb (key_of s x.agent).0 k other)
     ]
 
-front_is : (s : SceneParts) (ds : List Demand) (lists : List (List DemandId)) (k : ℕ) → AreInOrder ds → lists ≡ each_below (ids_at s ds) (8 * keys s) → k < keys s → front_of_key lists k ≡ option_map id_of (find (is_on s k) ds)
+pub front_is : (s : SceneParts) (ds : List Demand) (lists : List (List DemandId)) (k : ℕ) → AreInOrder ds → lists ≡ each_below (ids_at s ds) (8 * keys s) → k < keys s → front_of_key lists k ≡ option_map id_of (find (is_on s k) ds)
 unfolding front_of_key
 front_is s ds lists k order are within =
     least_to-below 8 (8 * k) lists
     ∙ (least_found (λ l. head_of (list_at lists (8 * k + l))) (λ l. is_at s (8 * k + l)) ds 8 order
     (λ l m. ap head_of (ap (λ ls. list_at ls (8 * k + l)) are ∙ get_or-each_below (ids_at s ds) (8 * keys s) (8 * k + l) [] (omega arith)) ∙ head_found (is_at s (8 * k + l)) ds)
     ∙ ap (option_map id_of) (find_same_each (λ x. any_below (λ l. is_at s (8 * k + l) x) 8) (is_on s k) ds (each_all (λ x. any_below (λ l. is_at s (8 * k + l) x) 8 ≡ is_on s k x) ds (λ x. on_one s k x))))
-
--- ---- the pick
-
-and-off : (a b : Bool) → b ≡ false → (a && b) ≡ false
-and-off true b e = e
-and-off false b e = refl
-
-open_is : (s : SceneParts) (q : QueueTable) (lane : LaneId) (ds : List Demand) (k : ℕ) → front_of_key q.lists k ≡ option_map id_of (find (is_on s k) ds) →
-    open_front s q lane k ≡ option_map id_of (find (λ x. is_open s q lane (record { 0 = k }) && is_on s k x) ds)
-open_is s q lane ds k front =
-    elim (cases_Bool (is_open s q lane (record { 0 = k }))) [
-      | inl t ↦ rw t front
-      | inr f ↦ rw f (sym (ap (option_map id_of) (find_never ds)))
-    ]
-
-open_one : (s : SceneParts) (q : QueueTable) (lane : LaneId) (x : Demand) → q.safe ≡ replicate (keys s) 0 → x.agent.0 < length s.agents →
-    any_below (λ k. is_open s q lane (record { 0 = k }) && is_on s k x) (keys s) ≡ may_take_by s q.exclusive lane x
-open_one s q lane x safe known =
-    let key = key_of s x.agent in
-    let here : is_on s key.0 x ≡ true = eq-eqb key.0 key.0 refl in
-    let none : slice_index_or q.safe key.0 0 ≡ 0 = ap (λ xs. slice_index_or xs key.0 0) safe ∙ get_or-replicate (keys s) key.0 0 0 (key_in_range s x.agent known) in
-    any_at (λ k. is_open s q lane (record { 0 = k }) && is_on s k x) (keys s) key.0 (key_in_range s x.agent known) (λ j m apart. and-off (is_open s q lane (record { 0 = j })) (is_on s j x) (ne_eqb key.0 j (λ e. apart (sym e))))
-    ∙ (ap (λ b. is_open s q lane key && b) here ∙ (and-right (is_open s q lane key) ∙ rw none refl))
-
-pub pick_is : (s : SceneParts) (all : List Demand) (q : QueueTable) (cap : ℕ) (lane : LaneId) → IsTied s all (waiting_in s q.lists all) q cap → pick s q lane ≡ option_map id_of (find (may_take_by s q.exclusive lane) (waiting_in s q.lists all))
-unfolding pick
-pick_is s all q cap lane t =
-    let W = waiting_in s q.lists all in
-    let order : AreInOrder W = order-filter (waits_in s q.lists) all t.order in
-    least_found (open_front s q lane) (λ k x. is_open s q lane (record { 0 = k }) && is_on s k x) W (keys s) order (λ k l. open_is s q lane W k (front_is s W q.lists k order t.lists l))
-    ∙ ap (option_map id_of) (find_same_each (λ x. any_below (λ k. is_open s q lane (record { 0 = k }) && is_on s k x) (keys s)) (may_take_by s q.exclusive lane) W
-    (each-weaker (λ (x : Demand). x.agent.0 < length s.agents) (λ (x : Demand). any_below (λ k. is_open s q lane (record { 0 = k }) && is_on s k x) (keys s) ≡ may_take_by s q.exclusive lane x) (λ x known. open_one s q lane x t.safe known) W
-    (each-filter (λ (x : Demand). x.agent.0 < length s.agents) (waits_in s q.lists) all t.agents)))
 
 -- ---- no queue is ready exactly where nothing waits
 
@@ -178,5 +142,4 @@ pub ready_is : (s : SceneParts) (all : List Demand) (q : QueueTable) (cap : ℕ)
 ready_is s all q cap o t next =
     let W = waiting_in s q.lists all in
     let order : AreInOrder W = order-filter (waits_in s q.lists) all t.order in
-    let size : keys_of q ≡ keys s = ap length t.safe ∙ length-replicate (keys s) 0 in
-    none_waits s W q o size (λ k l. front_is s W q.lists k order t.lists l) (each-filter (λ (x : Demand). x.agent.0 < length s.agents) (waits_in s q.lists) all t.agents) next
+    none_waits s W q o t.safe (λ k l. front_is s W q.lists k order t.lists l) (each-filter (λ (x : Demand). x.agent.0 < length s.agents) (waits_in s q.lists) all t.agents) next

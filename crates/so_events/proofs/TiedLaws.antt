@@ -1,9 +1,9 @@
 -- The queues after a demand more or less.
-use Rattle.std.proofs.Common.{◌≡◌, ◌≢◌, ℕ, zero, suc, ◌+◌, ◌-◌, ◌*◌, ◌<◌, ◌≤◌, List, [], ◌∷◌, ◌++◌, length, map, Bool, true, false, ◌||◌, ◌&&◌, not, Some, None, arith, refl, sym, ◌∙◌, ap, subst, inl, inr, append_assoc}
-use Rattle.std.specs.Prelude.{slice_set, ◌==◌, ◌⊎◌, replicate}
+use Rattle.std.proofs.Common.{◌≡◌, ℕ, zero, suc, ◌+◌, ◌*◌, ◌<◌, ◌≤◌, List, [], ◌∷◌, ◌++◌, length, map, Bool, true, false, ◌||◌, ◌&&◌, not, Some, arith, refl, sym, ◌∙◌, ap, subst, inl, inr, append_assoc}
+use Rattle.std.specs.Prelude.{slice_set, slice_index_or, replicate}
 use Rattle.std.specs.List.{filter, find, All, AllByRecursion}
 use Rattle.std.proofs.lemmas.Bool.{cases_Bool, cases_lt, eq-eqb, ne_eqb, eqb-true}
-use Rattle.std.proofs.lemmas.List.{append-nil, length-append, map-append, length-replicate, get_or_past, get_or-replicate}
+use Rattle.std.proofs.lemmas.List.{append-nil, length-append, map-append, length-replicate, get_or_past}
 use Rattle.std.proofs.lemmas.List.Elements.{filter-append}
 use Rattle.so_ids.specs.declared.DemandId.{DemandId}
 use Rattle.so_ids.specs.declared.Place.{Place}
@@ -14,12 +14,12 @@ use Rattle.so_lists.proofs.Filters.{each-append, each-weaker, each-filter, found
 use Rattle.so_lists.proofs.EachBelow.{get_or-each_below, length-each_below, each_below-set, each_below-replicate}
 use Rattle.so_scene.specs.declared.parts.SceneParts.{SceneParts}
 use Rattle.so_scene.specs.Lanes.{keys, key_of}
-use Rattle.so_queue.specs.Queues.{QueueTable, no_demands, list_at, head_of, behind_head, IsAmong, IsAfterAll, after_take}
-use Rattle.so_queue.proofs.OrderLaws.{earlier_trans, earlier_at_once, earlier_there}
+use Rattle.so_queue.specs.Queues.{QueueTable, no_demands, list_at, head_of, behind_head, IsAmong, after_take}
+use Rattle.so_queue.proofs.OrderLaws.{earlier_at_once, earlier_there}
 use Rattle.so_scene.specs.Parts.{priority_of}
-use Rattle.so_deliver.specs.Commit.{after_demand, committed_from, IsPlaceAfter}
+use Rattle.so_deliver.specs.Commit.{after_demand, committed_from}
 use Rattle.so_history.specs.declared.entry.Demand.{Demand}
-use Rattle.so_history.specs.Demands.{Asked, ask, demand_of, demands_from, without}
+use Rattle.so_history.specs.Demands.{Asked, ask, demands_from, without}
 use Rattle.so_history.proofs.NameLaws.{itself, filter-without, demands_from_sorted, named_here}
 use Rattle.so_events.specs.Events.{place_of, is_beside}
 use Rattle.so_events.specs.Tied.{AreInOrder, id_of, is_at, ids_at, waits_in, waiting_in, IsTied}
@@ -29,10 +29,16 @@ use Rattle.so_events.proofs.HeldLaws.{place_known, held_is}
 
 -- ---- nothing waits
 
+none_counted : (n k : ℕ) → let none : ℕ = 0 in slice_index_or (replicate n none) k none ≡ none
+none_counted zero k = refl
+none_counted (suc n) zero = refl
+none_counted (suc n) (suc k) = none_counted n k
+
 nothing_there : (s : SceneParts) (q : QueueTable) (cap : ℕ) → q ≡ no_demands (keys s) cap → IsTied s [] [] q cap
 nothing_there s q cap are = rw are (record {
   lists = sym (each_below-replicate (ids_at s []) (8 * keys s) [] (λ i. refl));
-  safe = refl;
+  safe = length-replicate (keys s) 0;
+  overlap = λ k off. none_counted (keys s) k;
   exclusive = length-replicate (keys s) 0;
   order = tt;
   agents = tt;
@@ -91,6 +97,7 @@ pushed s all q cap d t its few last =
       tied = record {
         lists = lists;
         safe = t.safe;
+        overlap = t.overlap;
         exclusive = t.exclusive;
         order = order-last all d t.order last;
         agents = each-append (λ (x : Demand). x.agent.0 < length s.agents) all (d ∷ []) t.agents (its, tt);
@@ -155,6 +162,10 @@ pushed_all s all (d ∷ ds) q cap t its few last order =
 committed_is : (s : SceneParts) (place : Place) (k : ℕ) (events : List Queued) (q : QueueTable) → committed_from s place k events q ≡ queue_all s (demands_from place.0 k (map ask events)) q
 committed_is s place k [] q = refl
 committed_is s place k (event ∷ events) q = committed_is s place (k + 1) events (after_demand s event.agent (record { place = place; k = k }) q)
+
+pub committed-safe : (s : SceneParts) (place : Place) (k : ℕ) (events : List Queued) (q : QueueTable) → (committed_from s place k events q).safe ≡ q.safe
+committed-safe s place k [] q = refl
+committed-safe s place k (event ∷ events) q = committed-safe s place (k + 1) events (after_demand s event.agent (record { place = place; k = k }) q)
 
 pub committed-exclusive : (s : SceneParts) (place : Place) (k : ℕ) (events : List Queued) (q : QueueTable) → (committed_from s place k events q).exclusive ≡ q.exclusive
 committed-exclusive s place k [] q = refl
@@ -255,6 +266,7 @@ taken s all q cap d t its is =
       tied = record {
         lists = lists;
         safe = t.safe;
+        overlap = t.overlap;
         exclusive = t.exclusive;
         order = t.order;
         agents = t.agents;

@@ -1,6 +1,5 @@
 -- The demands of a run, how many turns run with each queue, and the rounds of the dispatchers.
-use Rattle.std.specs.Prelude.{ℕ, ◌+◌, ◌-◌, ◌==◌, ◌&&◌, List, [], ◌∷◌, ◌++◌, length, Bool, true, false, slice_index_or, slice_set, replicate}
-use Rattle.so_ids.specs.declared.DispId.{DispId}
+use Rattle.std.specs.Prelude.{ℕ, ◌+◌, ◌-◌, ◌==◌, ◌&&◌, List, [], ◌++◌, length, Bool, true, false, slice_index_or, slice_set, replicate}
 use Rattle.so_ids.specs.declared.KeyId.{KeyId}
 use Rattle.so_ids.specs.declared.LaneId.{LaneId}
 use Rattle.so_ids.specs.declared.DemandId.{DemandId}

@@ -1,2 +1,3 @@
 pub mod Events
 pub mod Tied
+pub mod Picked

@@ -1,5 +1,5 @@
 //! The demands of a run.
-ghost use Rattle.std.specs.Prelude.{◌≡◌, ◌<◌, ◌≤◌, ◌+◌, ◌^◌, [], ◌∷◌, ◌++◌, true, Some, length, map, vec_capacity, IfOk, List};
+ghost use Rattle.std.specs.Prelude.{◌≡◌, ◌<◌, ◌≤◌, ◌+◌, ◌-◌, ◌^◌, [], ◌∷◌, ◌++◌, true, Some, length, map, vec_capacity, IfOk, List};
 ghost use Rattle.std.specs.List.{All, AllByRecursion, find};
 ghost use Rattle.so_ids.specs.Ids.{is_earlier};
 ghost use Rattle.so_ids.specs.declared.Queued.{Queued as Event};
@@ -7,31 +7,36 @@ ghost use Rattle.so_history.specs.declared.entry.Demand.{Demand as AnyDemand};
 ghost use Rattle.so_lists.specs.Lists.{is_empty};
 ghost use Rattle.so_scene.specs.Lanes.{lanes, keys};
 ghost use Rattle.so_scene.specs.Parts.{agents_from};
-ghost use Rattle.so_history.specs.Demands.{ask, ask_each, demand_of, demands_from};
-ghost use Rattle.so_events.specs.Events.{no_events, after_demands, after_taking, turns_with, after_start, after_end, may_take_by, is_beside};
+ghost use Rattle.so_history.specs.Demands.{ask, ask_each, demand_of, demands_from, named};
+ghost use Rattle.so_events.specs.Events.{no_events, after_demands, after_taking, turns_of, after_start, after_end, may_take_by, is_beside};
+ghost use Rattle.so_events.specs.Tied.{overlaps};
+ghost use Rattle.so_events.specs.Picked.{picked_on};
+ghost use Rattle.so_queue.specs.Queues.{keys_of};
 
 use crate::find::find_demand;
 use so_deliver::{Outcomes, commit, queue_demand};
-use so_disp_excl::pick;
+use so_disp_adv::Heads;
+use so_disp_prio::Prio;
 use so_history::{Demand, DemandKind};
 use so_ids::{AgentId, DemandId, KeyId, LaneId, NoMemory, Place, Queued};
 use so_queue::Queues;
-use so_scene::Scene;
+use so_scene::{DispKind, Scene};
 use std::alloc::Global;
 use std::marker::Model;
 
-/// All demands that were queued, in order, and the queues in which those wait that were not taken. Nothing
-/// after its making takes memory.
+/// All demands that were queued, in order, the queues in which those wait that were not taken, with how many
+/// turns run with each, and the rounds of the dispatchers. Nothing after its making takes memory.
 #[derive(Drop)]
 pub struct Events<'a> {
     scene: &'a Scene,
     queued: Vec<Demand>,
     queues: Queues,
+    prio: Prio,
     room: u32,
 }
 
 impl<'a> Model for Events<'a> {
-    ghost use Rattle.std.specs.Prelude.{◌≤◌, ◌<◌, ◌^◌, vec_capacity};
+    ghost use Rattle.std.specs.Prelude.{◌≡◌, ◌≤◌, ◌<◌, ◌^◌, length, vec_capacity};
     ghost use Rattle.so_events.specs.Events.{EventTable};
     ghost use Rattle.so_events.specs.Tied.{waiting_in, IsTied};
 
@@ -41,12 +46,14 @@ impl<'a> Model for Events<'a> {
       scene = e.scene.now;
       queued = e.queued.items;
       waiting = waiting_in e.scene.now e.queues.lists e.queued.items;
-      running = e.queues.exclusive;
+      safe = e.queues.safe;
+      exclusive = e.queues.exclusive;
+      rounds = e.prio;
       room = e.room;
     } };
 
     ghost invariant = { λ e. IsTied e.scene.now e.queued.items (waiting_in e.scene.now e.queues.lists e.queued.items) e.queues e.room
-        × (e.room ≤ vec_capacity e.queued) × (e.room < 2 ^ 32) };
+        × (length e.prio ≡ length e.scene.now.dispatchers) × (e.room ≤ vec_capacity e.queued) × (e.room < 2 ^ 32) };
 }
 
 impl<'a> Events<'a> {
@@ -55,6 +62,7 @@ impl<'a> Events<'a> {
         ensures { IfOk result (λ e. e ≡ no_events scene.now room) }
     {
         let queues = Queues::with(alloc, scene.keys(), room)?;
+        let prio = Prio::with(alloc, scene)?;
         let Ok(queued) = Vec::with_capacity(alloc, room as usize) else {
             return Err(NoMemory);
         };
@@ -62,6 +70,7 @@ impl<'a> Events<'a> {
             scene,
             queued,
             queues,
+            prio,
             room,
         })
     }
@@ -112,42 +121,82 @@ impl<'a> Events<'a> {
         extend(&mut self.queued, place, outcomes);
     }
 
-    /// The first demand that the lane may take: it serves the demand's queue, and no turn of that queue runs.
-    pub fn pick(&self, lane: LaneId) -> Option<Demand>
-        requires { lane.0 < lanes self.now.scene }
-        ensures { result ≡ find (may_take_by self.now.scene self.now.running lane) self.now.waiting }
+    /// The demand of this name, among all that were queued.
+    pub fn named(&self, id: DemandId) -> Option<Demand>
+        ensures { result ≡ named id self.now.queued }
     {
-        match pick(self.scene, &self.queues, lane) {
-            Some(id) => find_demand(&self.queued, id),
+        find_demand(&self.queued, id)
+    }
+
+    /// The first demand that the lane may take: it serves the demand's queue, the demand is the next of it, and the
+    /// turns of the queue that run allow what `heads` tells of the demand.
+    pub fn pick<H: Heads>(&self, heads: &H, lane: LaneId) -> Option<Demand>
+        requires { lane.0 < lanes self.now.scene }
+        ensures { result ≡ find (may_take_by self.now (H.class heads.now) lane) self.now.waiting }
+    {
+        match pick_on(
+            self.scene.dispatcher(self.scene.lane(lane).disp).kind,
+            self.scene,
+            &self.queues,
+            &self.prio,
+            heads,
+            lane,
+        ) {
+            Some(id) => self.named(id),
             None => None,
         }
     }
 
-    /// Takes a demand out, the first that waits in its queue with its priority.
-    pub fn take(&mut self, demand: Demand)
-        requires { find (is_beside self.old.scene demand) self.old.waiting ≡ Some demand }
-        ensures { self.new ≡ after_taking demand.id self.old }
+    /// The lane takes a demand out, the first that waits in its queue with its priority.
+    pub fn take(&mut self, lane: LaneId, demand: Demand)
+        requires lane { lane.0 < lanes self.old.scene }
+        requires first { find (is_beside self.old.scene demand) self.old.waiting ≡ Some demand }
+        ensures { self.new ≡ after_taking lane demand self.old }
     {
         let key = self.scene.key(demand.agent);
-        let _id = self.queues.take(key, self.scene.priority(demand.agent));
+        let priority = self.scene.priority(demand.agent);
+        let _id = self.queues.take(key, priority);
+        self.prio.took(self.scene, lane, priority);
     }
 
-    /// A turn begins with a queue, of which none runs.
-    pub fn started(&mut self, key: KeyId)
+    /// A turn begins with a queue, a thread-safe one only where such may overlap.
+    pub fn started(&mut self, key: KeyId, safe: bool)
         requires key { key.0 < keys self.old.scene }
-        requires free { turns_with self.old.running key ≡ 0 }
-        ensures { self.new ≡ after_start key self.old }
+        requires overlap { safe ≡ true → overlaps self.old.scene key.0 ≡ true }
+        requires room { turns_of safe self.old key < 2 ^ 32 - 1 }
+        ensures { self.new ≡ after_start safe key self.old }
     {
-        self.queues.started(key, false);
+        self.queues.started(key, safe);
     }
 
-    /// A turn with the queue has ended.
-    pub fn ended(&mut self, key: KeyId)
+    /// A turn with the queue has ended, a thread-safe one or another.
+    pub fn ended(&mut self, key: KeyId, safe: bool)
         requires key { key.0 < keys self.old.scene }
-        requires runs { 0 < turns_with self.old.running key }
-        ensures { self.new ≡ after_end key self.old }
+        requires runs { 0 < turns_of safe self.old key }
+        ensures { self.new ≡ after_end safe key self.old }
     {
-        self.queues.ended(key, false);
+        self.queues.ended(key, safe);
+    }
+}
+
+/// The name of the demand that a lane may take, picked as a dispatcher of this kind does.
+fn pick_on<H: Heads>(
+    kind: DispKind,
+    scene: &Scene,
+    queues: &Queues,
+    prio: &Prio,
+    heads: &H,
+    lane: LaneId,
+) -> Option<DemandId>
+    requires lane { lane.0 < lanes scene.now }
+    requires keys { keys_of queues.now ≡ keys scene.now }
+    requires rounds { length prio.now ≡ length scene.now.dispatchers }
+    ensures { result ≡ picked_on kind scene.now queues.now prio.now (H.class heads.now) lane }
+{
+    match kind {
+        DispKind::AdvThreadPool => so_disp_adv::pick(scene, queues, heads, lane),
+        DispKind::StrictlyOrdered | DispKind::QuotedRoundRobin => prio.pick(scene, queues, lane),
+        _ => so_disp_excl::pick(scene, queues, lane),
     }
 }
 

@@ -1,4 +1,4 @@
-use Rattle.std.proofs.Common.{◌≡◌, ◌<◌, ◌≤◌, length, map, take, ap, arith, sym, ◌∙◌, rules}
+use Rattle.std.proofs.Common.{◌≡◌, length, map, take, ap, arith, sym, ◌∙◌, rules}
 use Rattle.std.specs.Prelude.{vec_len}
 use Rattle.std.proofs.lemmas.List.{length-append, length-map}
 use Rattle.so_history.specs.Demands.{ask, demands_from}

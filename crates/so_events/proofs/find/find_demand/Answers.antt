@@ -1,4 +1,4 @@
-use Rattle.std.proofs.Common.{◌≡◌, ◌<◌, ◌≤◌, ◌+◌, ◌-◌, ℕ, length, sym, ◌∙◌, arith, true}
+use Rattle.std.proofs.Common.{◌<◌, ◌+◌, ◌-◌, ℕ, length, sym, ◌∙◌, arith}
 use Rattle.std.specs.Prelude.{◌/◌}
 use Rattle.so_events.proofs.ListLaws.{got}
 use Rattle.so_events.proofs.NameOrder.{other_order, named_at, search_begins, search_up, search_down, search_over}

@@ -1,40 +1,40 @@
-use Rattle.std.proofs.Common.{◌≡◌, ◌<◌, ◌∙◌, length, refl, sym, ap, arith, subst, Some, rules}
+use Rattle.std.proofs.Common.{◌≡◌, refl, sym, subst, Some, rules}
 use Rattle.std.specs.List.{find}
-use Rattle.so_queue.specs.Queues.{head_of, queue_of}
 use Rattle.so_events.specs.Events.{EventTable, is_beside}
-use Rattle.so_events.proofs.TiedLaws.{Taken, taken, taken_head, waiting_known}
+use Rattle.so_events.proofs.RoundTable.{rounds_kept}
+use Rattle.so_events.proofs.TiedLaws.{taken, taken_head, waiting_known}
 use Rattle.so_events.proofs.events.Events.take.Goals as goal
 
 pub key-key-requires : goal.key-key-requires
 key-key-requires c =
     let P : EventTable → Type 0 = λ v. find (is_beside v.scene c.args.demand) v.waiting ≡ Some c.args.demand in
-    waiting_known c.self.inside.scene.now c.self.inside.queued.items c.self.inside.queues c.self.inside.room (is_beside c.self.inside.scene.now c.args.demand) c.args.demand c.self.invariant.0 (subst P (sym c.self.view_is) c.requires)
+    waiting_known c.self.inside.scene.now c.self.inside.queued.items c.self.inside.queues c.self.inside.room (is_beside c.self.inside.scene.now c.args.demand) c.args.demand c.self.invariant.0 (subst P (sym c.self.view_is) c.requires.first)
 
-pub priority-requires : goal.priority-requires
-priority-requires c =
+pub priority-priority-requires : goal.priority-priority-requires
+priority-priority-requires c =
     let P : EventTable → Type 0 = λ v. find (is_beside v.scene c.args.demand) v.waiting ≡ Some c.args.demand in
-    waiting_known c.self.inside.scene.now c.self.inside.queued.items c.self.inside.queues c.self.inside.room (is_beside c.self.inside.scene.now c.args.demand) c.args.demand c.self.invariant.0 (subst P (sym c.self.view_is) c.requires)
+    waiting_known c.self.inside.scene.now c.self.inside.queued.items c.self.inside.queues c.self.inside.room (is_beside c.self.inside.scene.now c.args.demand) c.args.demand c.self.invariant.0 (subst P (sym c.self.view_is) c.requires.first)
 
 pub take-id-requires-clause-waits : goal.take-id-requires-clause-waits
 take-id-requires-clause-waits c =
     let P : EventTable → Type 0 = λ v. find (is_beside v.scene c.args.demand) v.waiting ≡ Some c.args.demand in
-    let is = subst P (sym c.self.view_is) c.requires in
+    let is = subst P (sym c.self.view_is) c.requires.first in
     let known = waiting_known c.self.inside.scene.now c.self.inside.queued.items c.self.inside.queues c.self.inside.room (is_beside c.self.inside.scene.now c.args.demand) c.args.demand c.self.invariant.0 is in
     let head = taken_head c.self.inside.scene.now c.self.inside.queued.items c.self.inside.queues c.self.inside.room c.args.demand c.self.invariant.0 known is in
-    rw (c.key-key.ensures.value, c.priority.ensures, head) (search rules)
+    rw (c.key-key.ensures.value, c.priority-priority.ensures, head) (search rules)
 
 pub invariant_of-self : goal.invariant_of-self
 invariant_of-self c =
     let P : EventTable → Type 0 = λ v. find (is_beside v.scene c.args.demand) v.waiting ≡ Some c.args.demand in
-    let is = subst P (sym c.self.view_is) c.requires in
+    let is = subst P (sym c.self.view_is) c.requires.first in
     let known = waiting_known c.self.inside.scene.now c.self.inside.queued.items c.self.inside.queues c.self.inside.room (is_beside c.self.inside.scene.now c.args.demand) c.args.demand c.self.invariant.0 is in
     let t = taken c.self.inside.scene.now c.self.inside.queued.items c.self.inside.queues c.self.inside.room c.args.demand c.self.invariant.0 known is in
-    rw (c.take-id.ensures.after, c.key-key.ensures.value, c.priority.ensures, t.waiting) (t.tied, c.self.invariant.1, c.self.invariant.2)
+    rw (c.take-id.ensures.after, c.key-key.ensures.value, c.priority-priority.ensures, t.waiting) (t.tied, rounds_kept c.self.inside.scene.now c.args.lane c.priority-priority.result c.self.inside.prio _ c.self.invariant.1 c.took.ensures, c.self.invariant.2, c.self.invariant.3)
 
 pub returns : goal.returns
 returns c =
     let P : EventTable → Type 0 = λ v. find (is_beside v.scene c.args.demand) v.waiting ≡ Some c.args.demand in
-    let is = subst P (sym c.self.view_is) c.requires in
+    let is = subst P (sym c.self.view_is) c.requires.first in
     let known = waiting_known c.self.inside.scene.now c.self.inside.queued.items c.self.inside.queues c.self.inside.room (is_beside c.self.inside.scene.now c.args.demand) c.args.demand c.self.invariant.0 is in
     let t = taken c.self.inside.scene.now c.self.inside.queued.items c.self.inside.queues c.self.inside.room c.args.demand c.self.invariant.0 known is in
-    rw (← c.self.view_is, c.take-id.ensures.after, c.key-key.ensures.value, c.priority.ensures, t.waiting) refl
+    rw (← c.self.view_is, c.take-id.ensures.after, c.key-key.ensures.value, c.took.ensures, c.priority-priority.ensures, t.waiting) refl
