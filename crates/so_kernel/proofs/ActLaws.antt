@@ -1,5 +1,5 @@
 -- The effect of a turn that has moved, and its answer.
-use Rattle.std.proofs.Common.{◌≡◌, List, true, Some, refl, sym, ◌∙◌, ap, subst}
+use Rattle.std.proofs.Common.{◌≡◌, List, Some, refl, sym, ◌∙◌, ap, subst}
 use Rattle.so_code.specs.declared.effect.Answer.{Answer}
 use Rattle.so_code.specs.declared.effect.Effect.{Effect}
 use Rattle.so_code.specs.declared.effect.Move.{Move}
@@ -18,7 +18,6 @@ use Rattle.so_scene.specs.declared.parts.SceneParts.{SceneParts}
 use Rattle.so_history.proofs.SoundLaws.{IsSound, agent_code, moved_waits, moved_frame, names_parts, answer_fits, course_sound}
 use Rattle.so_kernel.specs.declared.answers.Turn.{Turn}
 use Rattle.so_kernel.specs.Shapes.{Core}
-use Rattle.so_ids.specs.declared.AgentId.{AgentId}
 use Rattle.so_history.specs.declared.entry.EntryKind.TheVariants.{Act}
 use Rattle.so_history.proofs.TurnLaws.{turn_looked_up}
 use Rattle.so_history.proofs.TextLaws.{beginner_of}

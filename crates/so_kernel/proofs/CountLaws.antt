@@ -1,15 +1,12 @@
 -- How many turns run with each queue, after one more entry: of those that pass a test, as the thread-safe ones.
-use Rattle.std.proofs.Common.{◌≡◌, ℕ, ◌+◌, ◌-◌, ◌<◌, ◌≤◌, ◌^◌, List, [], ◌∷◌, ◌++◌, length, Bool, true, false, not, cond, Some, arith, refl, sym, ◌∙◌, ap, subst, inl, inr, get_or}
+use Rattle.std.proofs.Common.{◌≡◌, ℕ, ◌+◌, ◌<◌, ◌≤◌, List, [], ◌∷◌, ◌++◌, length, Bool, true, false, not, cond, Some, arith, refl, sym, ◌∙◌, ap, subst, inl, inr, get_or}
 use Rattle.std.specs.Prelude.{◌==◌}
-use Rattle.std.specs.List.{filter, AllByRecursion}
+use Rattle.std.specs.List.{filter}
 use Rattle.std.proofs.lemmas.List.{append-nil, length-append}
 use Rattle.std.proofs.lemmas.List.Elements.{filter-append, filter_agree}
 use Rattle.std.proofs.lemmas.List.Filters.{length-filter_both}
 use Rattle.std.proofs.lemmas.Bool.{ne_eqb, eq-eqb, eqb-true, cases_Bool, cases_eq, false≢true}
-use Rattle.so_ids.specs.declared.AgentId.{AgentId}
 use Rattle.so_ids.specs.declared.KeyId.{KeyId}
-use Rattle.so_ids.specs.declared.LaneId.{LaneId}
-use Rattle.so_ids.specs.declared.PartyId.{PartyId}
 use Rattle.so_ids.specs.declared.Place.{Place}
 use Rattle.so_lists.proofs.EachBelow.{get_or-each_below, each_below-same, each_below-set}
 use Rattle.so_lists.proofs.Filters.{each-weaker, filter_none, filter-swap, filter-short}
@@ -17,11 +14,10 @@ use Rattle.so_scene.specs.declared.parts.SceneParts.{SceneParts}
 use Rattle.so_scene.specs.Lanes.{keys, key_of}
 use Rattle.so_scene.proofs.LaneLaws.{key_in_range}
 use Rattle.so_history.specs.declared.entry.Entry.{Entry}
-use Rattle.so_history.specs.declared.entry.EntryKind.{EntryKind}
 use Rattle.so_history.specs.declared.entry.EntryKind.TheVariants.{End}
 use Rattle.so_history.specs.Order.{runs_safe}
 use Rattle.so_history.specs.Turns.{Started, started_by, ends, ended, turns, running, running_at, running_with, key_number, turn_at}
-use Rattle.so_history.specs.Steps.{IsRow, Legal}
+use Rattle.so_history.specs.Steps.{Legal}
 use Rattle.so_history.proofs.TurnLaws.{Frees, started_here, few_started, running_early, running_at-begun, running_at-same, running_at-ended, running_at-other, alone, turn_found}
 use Rattle.so_events.specs.Events.{EventTable, one_more, one_less, turns_with, turns_of, after_start, after_end}
 use Rattle.so_kernel.specs.Tables.{is_other, counts, events_of}

@@ -1,10 +1,10 @@
 -- The tables after one more entry: one law for each kind.
-use Rattle.std.proofs.Common.{◌≡◌, ℕ, ◌+◌, ◌-◌, ◌<◌, List, [], ◌∷◌, ◌++◌, length, map, Bool, true, false, not, Option, Some, None, arith, refl, sym, ◌∙◌, ap, subst, inl, inr, get_or}
-use Rattle.std.specs.Prelude.{◌==◌, ◌↔◌, ◌&&◌, IsTrue, slice_set}
+use Rattle.std.proofs.Common.{◌≡◌, ℕ, ◌<◌, List, [], ◌∷◌, ◌++◌, length, map, Bool, true, false, Option, Some, None, arith, refl, sym, ◌∙◌, ap, subst, inl, inr, get_or}
+use Rattle.std.specs.Prelude.{◌==◌, ◌↔◌, IsTrue, slice_set}
 use Rattle.std.specs.List.{filter, All}
 use Rattle.std.specs.Option.{is_none}
-use Rattle.std.proofs.lemmas.List.{append-nil, length-append, length-map, set-get_or}
-use Rattle.std.proofs.lemmas.Bool.{cases_Bool, and_parts, not-true, not-false, false≢true, ne_eqb, eq-eqb, eqb-true}
+use Rattle.std.proofs.lemmas.List.{append-nil, length-map, set-get_or}
+use Rattle.std.proofs.lemmas.Bool.{cases_Bool, not-true, not-false, false≢true, ne_eqb, eq-eqb}
 use Rattle.std.proofs.lemmas.Option.{same_Some}
 use Rattle.so_ids.specs.declared.CoopId.{CoopId}
 use Rattle.so_ids.specs.declared.LaneId.{LaneId}
@@ -46,7 +46,7 @@ use Rattle.so_history.specs.Places.{entry_at, beginner_at}
 use Rattle.so_history.specs.Delivery.{rows_by_effect, active_rows, filters_by_effect, active_filters, delivered}
 use Rattle.so_history.specs.Demands.{ask, ask_each, asked_by_effect, queued_by, demands, taken, waiting}
 use Rattle.so_history.specs.Units.{cost, units}
-use Rattle.so_history.specs.Turns.{Started, Course, move_of, vars_after, vars, course, started_by, ends, turns, running, running_at, running_on, running_with, lane_number, key_number, turn_at}
+use Rattle.so_history.specs.Turns.{Started, Course, move_of, vars_after, vars, course, started_by, ends, turns, running, running_at, running_on, lane_number, key_number, turn_at}
 use Rattle.so_history.specs.Coops.{the_coop, tried, present, leaving, is_stop, stop_asked, stopped, aborted}
 use Rattle.so_history.specs.Heads.{round}
 use Rattle.so_history.specs.Safety.{is_safe}
@@ -55,7 +55,7 @@ use Rattle.so_history.specs.Steps.{Legal, yes_where, may_subscribe, is_active}
 use Rattle.so_history.proofs.DemandLaws.{waiting-queued, waiting-same, waiting-taken, picked}
 use Rattle.so_history.proofs.NameLaws.{length-demands_from}
 use Rattle.so_history.proofs.TurnLaws.{Frees, running_at-begun, running_at-same, running_at-ended, running_at-other, alone, turn_found, running_nowhere, running_at-nil, lanes_free}
-use Rattle.so_mbox.specs.Table.{Subscriptions, after_unsubscribe, after_set_filter, after_drop_filter}
+use Rattle.so_mbox.specs.Table.{after_unsubscribe, after_set_filter, after_drop_filter}
 use Rattle.so_events.specs.Events.{after_taking, after_start as turn_started, after_end as turn_ended}
 use Rattle.so_kernel.specs.Gates.{is_skip, is_quiet, IsActOf, IsQuietActOf}
 use Rattle.so_kernel.specs.Tables.{is_other, round_at, events_of, tables_of, variables_of, subscriptions_of, initial, places, first_place, brought_back, fresh, queued, with_mboxes, subscribed, after_asking, after_abort, after_register, after_begin, after_skip, after_act, after_end, after_leaving, after_left, after_stop}
@@ -194,7 +194,9 @@ tables-send s room h e a mbox msg payload acts known legal going =
       demands-queued s h e,
       waiting-queued s h e legal (λ d. rw acts.is refl),
       places-same lane_number s h e (lanes s) legal (rw acts.is refl) (λ t. rw acts.is refl),
-      counts-same s (runs_safe s) h e legal (rw acts.is refl) (λ t. rw acts.is refl), counts-same s (is_other s) h e legal (rw acts.is refl) (λ t. rw acts.is refl), rounds-same s h e (λ d. rw acts.is refl),
+      counts-same s (runs_safe s) h e legal (rw acts.is refl) (λ t. rw acts.is refl),
+      counts-same s (is_other s) h e legal (rw acts.is refl) (λ t. rw acts.is refl),
+      rounds-same s h e (λ d. rw acts.is refl),
       acts.is,
       length-demands_from (length h) 0 (map ask (events (delivered s h mbox msg payload))),
     ) refl
@@ -280,7 +282,9 @@ tables-asking s room h e a acts known legal going =
       demands-same s h e (rw acts.is refl),
       waiting-same s h e legal (rw acts.is refl) (λ d. rw acts.is refl),
       places-same lane_number s h e (lanes s) legal (rw acts.is refl) (λ t. rw acts.is refl),
-      counts-same s (runs_safe s) h e legal (rw acts.is refl) (λ t. rw acts.is refl), counts-same s (is_other s) h e legal (rw acts.is refl) (λ t. rw acts.is refl), rounds-same s h e (λ d. rw acts.is refl),
+      counts-same s (runs_safe s) h e legal (rw acts.is refl) (λ t. rw acts.is refl),
+      counts-same s (is_other s) h e legal (rw acts.is refl) (λ t. rw acts.is refl),
+      rounds-same s h e (λ d. rw acts.is refl),
       acts.is,
     ) refl
 

@@ -1,12 +1,11 @@
 -- What a lane may take by the tables, and the rounds after it.
-use Rattle.std.proofs.Common.{◌≡◌, ℕ, ◌<◌, List, [], ◌∷◌, length, Bool, true, false, not, ◌&&◌, ◌||◌, Option, Some, None, arith, refl, sym, ◌∙◌, ap, subst, inl, inr}
+use Rattle.std.proofs.Common.{◌≡◌, ℕ, ◌<◌, List, [], ◌∷◌, length, Bool, true, false, not, ◌&&◌, ◌||◌, Option, Some, None, arith, refl, sym, ◌∙◌, ap, inl, inr}
 use Rattle.std.specs.Prelude.{◌==◌}
 use Rattle.std.specs.List.{filter, find, list_all, AllByRecursion}
-use Rattle.std.proofs.lemmas.Bool.{cases_Bool, cases_eq, ne_eqb, eq-eqb, eqb-true}
+use Rattle.std.proofs.lemmas.Bool.{cases_eq, ne_eqb, eq-eqb, eqb-true}
 use Rattle.so_ids.specs.declared.AgentId.{AgentId}
 use Rattle.so_ids.specs.declared.DemandId.{DemandId}
 use Rattle.so_ids.specs.declared.DispId.{DispId}
-use Rattle.so_ids.specs.declared.KeyId.{KeyId}
 use Rattle.so_ids.specs.declared.LaneId.{LaneId}
 use Rattle.so_ids.specs.declared.Opening.{Opening}
 use Rattle.so_ids.specs.declared.Opening.TheVariants as opening
@@ -21,7 +20,7 @@ use Rattle.so_scene.specs.declared.parts.DispKind.TheVariants.{OneThread, Active
 use Rattle.so_scene.specs.declared.parts.SceneParts.{SceneParts}
 use Rattle.so_scene.specs.declared.round.Round.{Round}
 use Rattle.so_scene.specs.Checked.{IsScene}
-use Rattle.so_scene.specs.Lanes.{keys, key_of, queue_at, queue_of, agent_number, lane_at, serves}
+use Rattle.so_scene.specs.Lanes.{key_of, agent_number, lane_at, serves}
 use Rattle.so_scene.specs.Parts.{no_agent, agent_of, disp_of, priority_of}
 use Rattle.so_scene.specs.Rounds.{first_round, after_taking}
 use Rattle.so_scene.proofs.LaneLaws.{its_key, key_in_range}
@@ -35,13 +34,13 @@ use Rattle.so_history.specs.Demands.{named, demands, waiting}
 use Rattle.so_history.specs.Heads.{has_rounds, takes_on, round, first_of_priority, in_queue, moved_round, next_by, is_it, is_next_among, is_next}
 use Rattle.so_history.specs.Order.{opening_of, skipped, runs_safe, is_allowed_beside, is_allowed, may_take, pick, taking}
 use Rattle.so_history.specs.Safety.{kind_of, lets_overlap, is_safe}
-use Rattle.so_history.specs.Turns.{Started, running_at, key_number, running_with}
+use Rattle.so_history.specs.Turns.{Started, running_with}
 use Rattle.so_history.proofs.DemandLaws.{demands_of, picked_of, waiting_of, waiting_named}
 use Rattle.so_history.proofs.HeadLaws.{is_ranked_with, picked_first}
 use Rattle.so_history.proofs.RoundLaws.{takes_on-taking, picked_lane, round-kept, round-taken}
-use Rattle.so_events.specs.Events.{EventTable, allows, may_take_by, place_of, is_beside}
+use Rattle.so_events.specs.Events.{allows, may_take_by, place_of, is_beside}
 use Rattle.so_events.specs.Tied.{overlaps}
-use Rattle.so_kernel.specs.Tables.{is_other, counts, round_at, rounds, events_of}
+use Rattle.so_kernel.specs.Tables.{is_other, round_at, rounds, events_of}
 use Rattle.so_kernel.specs.Classes.{class_by, class_of, class_in, class_named}
 use Rattle.so_kernel.proofs.CountLaws.{count_at}
 

@@ -1,7 +1,6 @@
-use Rattle.std.proofs.Common.{◌≡◌, ◌∙◌, refl, sym, ◌<◌, subst, length, get_or, None, true, false}
+use Rattle.std.proofs.Common.{◌≡◌, ◌∙◌, sym, ◌<◌, subst, get_or, None, true, false}
 use Rattle.std.specs.List.{find}
 use Rattle.std.specs.Option.{is_none}
-use Rattle.std.proofs.lemmas.List.Elements.{All-from_recursion}
 use Rattle.so_lists.proofs.EachBelow.{length-each_below}
 use Rattle.so_scene.specs.Lanes.{lanes}
 use Rattle.so_history.specs.Demands.{waiting}
