@@ -26,14 +26,14 @@ use Rattle.so_history.specs.declared.entry.Demand.{Demand}
 use Rattle.so_code.specs.declared.effect.Effect.{Effect}
 use Rattle.so_history.specs.Coops.{the_coop, present}
 use Rattle.so_history.specs.Delivery.{registered}
-use Rattle.so_history.specs.Demands.{ask_each, asked_by, asked_by_effect, demands_from, queued_by, demands, takes, taken, waiting, without}
+use Rattle.so_history.specs.Demands.{ask_each, asked_by, asked_by_effect, demands_from, queued_by, demands, takes, taken, waiting, without, named}
 use Rattle.so_history.specs.Units.{units}
 use Rattle.so_history.specs.Order.{is_free, may_take, pick}
 use Rattle.so_history.specs.Steps.{IsTaking, IsRow, Legal}
 use Rattle.so_history.specs.Facts.{takings}
 use Rattle.so_history.proofs.TakingLaws.{takes-taking}
 use Rattle.so_history.proofs.AskedLaws.{effect_asks, delivered_of}
-use Rattle.so_history.proofs.NameLaws.{same_place, Sorted, sorted-append, sorted-filter, named_here, demands_from_sorted, length-demands_from, all_earlier, filter-without}
+use Rattle.so_history.proofs.NameLaws.{same_place, Sorted, each_named, sorted-append, sorted-filter, named_here, demands_from_sorted, length-demands_from, all_earlier, filter-without}
 
 -- demands are queued at the place of their entry
 pub queued_here : (s : SceneParts) (h : List Entry) (kind : EntryKind) → AllByRecursion (λ d. d.id.place.0 ≡ length h) (queued_by s h kind)
@@ -57,6 +57,11 @@ demands_sorted s (e ∷ h) =
 pub waiting_sorted : (s : SceneParts) (h : List Entry) → Sorted (waiting s h)
 unfolding waiting
 waiting_sorted s h = sorted-filter _ (demands s h) (demands_sorted s h)
+
+-- each that waits is found by its name among all
+pub waiting_named : (s : SceneParts) (h : List Entry) → AllByRecursion (λ d. named d.id (demands s h) ≡ Some d) (waiting s h)
+unfolding waiting
+waiting_named s h = each-filter (λ d. named d.id (demands s h) ≡ Some d) _ (demands s h) (each_named (demands s h) (demands_sorted s h))
 
 pub waiting_early : (s : SceneParts) (h : List Entry) → AllByRecursion (λ d. d.id.place.0 < length h) (waiting s h)
 unfolding waiting
@@ -217,7 +222,7 @@ queued_of s h (Skip lane demand why) scene = tt
 queued_of s h (Stop cause) scene = tt
 queued_of s h (Abort cause) scene = tt
 
-demands_of : (s : SceneParts) (h : List Entry) → IsScene s → AllByRecursion (λ d. d.agent.0 < length s.agents) (demands s h)
+pub demands_of : (s : SceneParts) (h : List Entry) → IsScene s → AllByRecursion (λ d. d.agent.0 < length s.agents) (demands s h)
 unfolding demands
 demands_of s [] scene = tt
 demands_of s (e ∷ h) scene = each-append _ (demands s h) _ (demands_of s h scene) (queued_of s h e.kind scene)

@@ -96,6 +96,17 @@ unfolding Sorted
 found_by_name q [] d a e = cc
 found_by_name q (x ∷ xs) d a e = name_case q x d xs (q x) refl a.0 e (found_by_name q xs d a.1)
 
+-- each of a list in order is found there by its name
+pub each_named : (ds : List Demand) → Sorted ds → AllByRecursion (λ d. find (λ x. same_demand d.id x.id) ds ≡ Some d) ds
+unfolding Sorted
+each_named [] sorted = tt
+each_named (d ∷ ds) sorted = (
+  rw (itself d.id) refl,
+  both (λ x. is_earlier d.id x.id ≡ true) (λ x. find (λ y. same_demand x.id y.id) ds ≡ Some x) (λ x. find (λ y. same_demand x.id y.id) (d ∷ ds) ≡ Some x)
+      (λ x later there. rw (swapped d.id x.id later) there)
+      ds sorted.0 (each_named ds sorted.1),
+)
+
 not_earlier : (a : DemandId) → is_earlier a a ≡ false
 not_earlier a = grind arith
 

@@ -31,7 +31,7 @@ use Rattle.so_history.proofs.TakingLaws.{begins_as}
 use Rattle.so_history.proofs.DemandLaws.{picked, picked_of}
 use Rattle.so_history.proofs.HeadLaws.{picked_may}
 
-started_here : (place : ℕ) (by : PartyId) (kind : EntryKind) → AllByRecursion (λ t. t.place ≡ place) (started_by place by kind)
+pub started_here : (place : ℕ) (by : PartyId) (kind : EntryKind) → AllByRecursion (λ t. t.place ≡ place) (started_by place by kind)
 started_here place by (Begin lane demand opening agent) = (refl, tt)
 started_here place by (Register coop) = tt
 started_here place by (Leaving coop reason) = tt
@@ -146,7 +146,7 @@ begun_one f n xs [] few l a = rw append-nil l
 begun_one f n xs (t ∷ u ∷ ts) few l a = absurd (omega arith)
 begun_one f n xs (t ∷ []) few l a = one_more f n xs t (f t == n) refl l a.0
 
-few_started : (place : ℕ) (by : PartyId) (kind : EntryKind) → length (started_by place by kind) ≤ 1
+pub few_started : (place : ℕ) (by : PartyId) (kind : EntryKind) → length (started_by place by kind) ≤ 1
 few_started place by (Begin lane demand opening agent) = omega arith
 few_started place by (Register coop) = omega arith
 few_started place by (Leaving coop reason) = omega arith

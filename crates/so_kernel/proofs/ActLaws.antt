@@ -1,5 +1,5 @@
 -- The effect of a turn that has moved, and its answer.
-use Rattle.std.proofs.Common.{◌≡◌, List, true, Some, refl, sym, ◌∙◌, ap, subst}
+use Rattle.std.proofs.Common.{◌≡◌, List, Some, refl, sym, ◌∙◌, ap, subst}
 use Rattle.so_code.specs.declared.effect.Answer.{Answer}
 use Rattle.so_code.specs.declared.effect.Effect.{Effect}
 use Rattle.so_code.specs.declared.effect.Move.{Move}
@@ -18,7 +18,6 @@ use Rattle.so_scene.specs.declared.parts.SceneParts.{SceneParts}
 use Rattle.so_history.proofs.SoundLaws.{IsSound, agent_code, moved_waits, moved_frame, names_parts, answer_fits, course_sound}
 use Rattle.so_kernel.specs.declared.answers.Turn.{Turn}
 use Rattle.so_kernel.specs.Shapes.{Core}
-use Rattle.so_ids.specs.declared.AgentId.{AgentId}
 use Rattle.so_history.specs.declared.entry.EntryKind.TheVariants.{Act}
 use Rattle.so_history.proofs.TurnLaws.{turn_looked_up}
 use Rattle.so_history.proofs.TextLaws.{beginner_of}
@@ -26,13 +25,13 @@ use Rattle.so_kernel.specs.Gates.{HasMoved, IsActOf, act_entry, answer_for}
 use Rattle.so_kernel.proofs.HeldLaws.{held_whose}
 
 module _ (k : Core) (t : Turn) (m : Move) (scene : IsScene k.scene) (legal : Legal k.scene k.history) (moved : HasMoved k.scene k.history t m) where
-  pub sound_before : IsSound k.scene (record { agent = t.agent; event = t.event; frame = moved.before })
+  pub sound_before : IsSound k.scene (record { agent = t.agent; safe = t.safe; event = t.event; frame = moved.before })
   sound_before = course_sound k.scene scene k.history t.begun.0 _ legal moved.held.course
 
-  pub does : (move_of k.scene (record { agent = t.agent; event = t.event; frame = moved.before })).0 ≡ m
+  pub does : (move_of k.scene (record { agent = t.agent; safe = t.safe; event = t.event; frame = moved.before })).0 ≡ m
   does = ap (λ (p : Move × Frame). p.0) moved.moves
 
-  pub frame_is : (move_of k.scene (record { agent = t.agent; event = t.event; frame = moved.before })).1 ≡ t.frame
+  pub frame_is : (move_of k.scene (record { agent = t.agent; safe = t.safe; event = t.event; frame = moved.before })).1 ≡ t.frame
   frame_is = ap (λ (p : Move × Frame). p.1) moved.moves
 
   pub moved_is_frame : IsFrame (code_of k.scene t.agent) t.frame
@@ -72,7 +71,7 @@ moves_act s h t e a moved answers = record {
   turn = moved.held.turn;
   runs = moved.held.runs;
   signed = sym moved.held.by;
-  reached = record { agent = t.agent; event = t.event; frame = moved.before };
+  reached = record { agent = t.agent; safe = t.safe; event = t.event; frame = moved.before };
   has = moved.held.course;
   is = rw (moved.moves, answers) refl;
 }

@@ -1,12 +1,11 @@
 -- What acts cost, and the rows of what lanes take.
-use Rattle.std.proofs.Common.{◌≡◌, ℕ, ◌+◌, ◌<◌, ◌≤◌, List, [], ◌∷◌, length, map, Bool, true, false, cond, Option, Some, None, arith, refl, sym, ◌∙◌, ap, subst}
+use Rattle.std.proofs.Common.{◌≡◌, ℕ, ◌+◌, ◌<◌, ◌≤◌, List, [], ◌∷◌, length, Bool, true, false, cond, Option, Some, None, arith, refl, sym, ◌∙◌, ap, subst}
 use Rattle.std.proofs.lemmas.Option.{same_Some}
 use Rattle.std.proofs.lemmas.List.{length-map}
 use Rattle.so_ids.specs.declared.AgentId.{AgentId}
 use Rattle.so_ids.specs.declared.LaneId.{LaneId}
 use Rattle.so_ids.specs.declared.MboxId.{MboxId}
 use Rattle.so_ids.specs.declared.MsgId.{MsgId}
-use Rattle.so_ids.specs.declared.Opening.{Opening}
 use Rattle.so_ids.specs.declared.PartyId.{PartyId}
 use Rattle.so_ids.specs.declared.Payload.{Payload}
 use Rattle.so_ids.specs.declared.Place.{Place}
@@ -21,9 +20,9 @@ use Rattle.so_code.specs.declared.effect.Effect.TheVariants as effect
 use Rattle.so_lists.proofs.EachBelow.{length-each_below}
 use Rattle.so_lists.proofs.Filters.{filter-short}
 use Rattle.so_scene.specs.declared.parts.SceneParts.{SceneParts}
-use Rattle.so_scene.specs.Parts.{agents_from, agents_of}
+use Rattle.so_scene.specs.Parts.{agents_of}
 use Rattle.so_scene.specs.Checked.{IsScene}
-use Rattle.so_scene.specs.Delivery.{Outcome, is_subscribed, outcome_for, outcomes, events, sent_of}
+use Rattle.so_scene.specs.Delivery.{Outcome, is_subscribed, outcome_for, outcomes, events}
 use Rattle.so_history.specs.declared.entry.Demand.{Demand}
 use Rattle.so_history.specs.declared.entry.Entry.{Entry}
 use Rattle.so_history.specs.declared.entry.EntryKind.TheVariants.{Act}
@@ -31,7 +30,7 @@ use Rattle.so_history.specs.declared.entry.SkipWhy.{SkipWhy}
 use Rattle.so_history.specs.Coops.{the_coop, present}
 use Rattle.so_scene.specs.Lanes.{lanes}
 use Rattle.so_history.specs.Delivery.{registered, active_rows, active_filters, passes, is_leaving, receivers, delivered, sent}
-use Rattle.so_history.specs.Demands.{ask, asked_by_effect, demands_from, queued_by}
+use Rattle.so_history.specs.Demands.{ask, asked_by_effect}
 use Rattle.so_history.specs.Order.{pick, opening_of, skipped, taking_as, taking}
 use Rattle.so_history.specs.Steps.{IsSigner, IsTaking, IsRow, answer_of, answer_to_switch, choice_for, yes_where, may_subscribe, is_active}
 use Rattle.so_history.specs.Leaves.{switch_of}

@@ -30,8 +30,9 @@ use Rattle.so_history.specs.declared.entry.SkipWhy.{SkipWhy}
 use Rattle.so_ids.specs.declared.Opening.{Opening}
 use Rattle.so_history.specs.Turns.{Started, Course, vars, ends, running_at, running_on, lane_number, turn_at, move_of, answer_to, course}
 use Rattle.so_history.specs.Coops.{aborted}
+use Rattle.so_history.specs.Safety.{is_safe}
 use Rattle.so_history.specs.Demands.{message_of, event_of}
-use Rattle.so_history.specs.Order.{pick, opening_of, skipped, taking_as, taking}
+use Rattle.so_history.specs.Order.{runs_safe, pick, opening_of, skipped, taking_as, taking}
 use Rattle.so_history.specs.Steps.{finished, answer_of, Legal}
 use Rattle.so_history.specs.Chain.{registration, tidying, turn_on, turn_entry, lane_entry, first}
 use Rattle.so_history.proofs.TurnLaws.{running_at-begun, running_at-same, running_at-ended, alone, turn_found, turn-begun, turn-spared, turn_of, turn_looked_up, turn_agent, lanes_free}
@@ -52,7 +53,7 @@ use Rattle.so_kernel.proofs.TableLaws.{begins_turn}
 
 -- the turn that a Begin hands out is held
 pub held_begun : (s : SceneParts) (h : List Entry) (e : Entry) (lane : LaneId) (d : Demand) → Legal s h → e.kind ≡ Begin lane (Some d.id) (opening_of s h d) d.agent →
-    IsHeld s (e ∷ h) (record { begun = record { 0 = length h }; by = e.by; lane = lane; agent = d.agent; event = event_of s h (Some d.id); frame = begun (opening_of s h d) (vars s h d.agent) (message_of s h (Some d.id)) })
+    IsHeld s (e ∷ h) (record { begun = record { 0 = length h }; by = e.by; lane = lane; agent = d.agent; safe = is_safe s d.agent (opening_of s h d); event = event_of s h (Some d.id); frame = begun (opening_of s h d) (vars s h d.agent) (message_of s h (Some d.id)) })
 held_begun s h e lane d legal is =
     record {
       turn = record { place = length h; by = e.by; lane = lane; agent = d.agent; opening = opening_of s h d };
@@ -66,10 +67,10 @@ held_begun s h e lane d legal is =
 pub held_acted : (k : Core) (t : Turn) (effect : Effect) → Legal k.scene k.history → HasMoved k.scene k.history t (Do effect) →
     IsHeld k.scene (act_entry k t effect ∷ k.history) (record t { frame = answered (answer_for k t effect) t.frame })
 held_acted k t effect legal moved =
-    let c : Course = record { agent = t.agent; event = t.event; frame = moved.before } in
+    let c : Course = record { agent = t.agent; safe = t.safe; event = t.event; frame = moved.before } in
     let frame : (move_of k.scene c).1 ≡ t.frame = ap (λ (p : Move × Frame). p.1) moved.moves in
-    let after_it : answer_to k.scene (answer_for k t effect) c ≡ record { agent = t.agent; event = t.event; frame = answered (answer_for k t effect) t.frame } =
-    ap (λ (f : Frame). record { agent = t.agent; event = t.event; frame = answered (answer_for k t effect) f }) frame in
+    let after_it : answer_to k.scene (answer_for k t effect) c ≡ record { agent = t.agent; safe = t.safe; event = t.event; frame = answered (answer_for k t effect) t.frame } =
+    ap (λ (f : Frame). record { agent = t.agent; safe = t.safe; event = t.event; frame = answered (answer_for k t effect) f }) frame in
     record {
       turn = moved.held.turn;
       runs = turn-spared k.scene k.history (act_entry k t effect) t.begun.0 moved.held.turn legal refl moved.held.runs;
@@ -518,14 +519,20 @@ first_of_turns k ts lane scene legal held in_range some before =
 pub none_running : (k : Core) (ts : List (Option Turn)) → AreHeld k ts → ((l : ℕ) → l < lanes k.scene → get_or ts l None ≡ None) → aborted k.history ≡ false → (l : ℕ) → l < lanes k.scene → running_at lane_number k.history l ≡ []
 none_running k ts held none going l in_range = let P : Option Turn → Type 0 = λ x. IsLaneHeld k.scene k.history l x in subst P (none l in_range) (held.each l in_range) going
 
--- the agent of a held turn is the one that began, and one of the scene's
-pub held_whose : (s : SceneParts) (h : List Entry) (t : Turn) (held : IsHeld s h t) → held.turn.agent ≡ t.agent
-held_whose s h t held =
+-- the agent of a held turn is the one that began, and one of the scene's, and it is thread-safe as it began
+held_course : (s : SceneParts) (h : List Entry) (t : Turn) (held : IsHeld s h t) → (held.turn.agent ≡ t.agent) × (runs_safe s held.turn ≡ t.safe)
+held_course s h t held =
     let it = has_course s h held.turn (looked_up h t.begun.0 held.turn held.runs) in
     let place : held.turn.place ≡ t.begun.0 = (turn_found h t.begun.0 held.turn held.runs).0 in
-    let same : Some it.reached ≡ Some (record { agent = t.agent; event = t.event; frame = t.frame }) = sym it.has ∙ (ap (course s h) place ∙ held.course) in
-    let its : it.reached.agent ≡ t.agent = ap (λ (c : Course). c.agent) (same_Some it.reached _ same) in
-    sym it.whose ∙ its
+    let same : Some it.reached ≡ Some (record { agent = t.agent; safe = t.safe; event = t.event; frame = t.frame }) = sym it.has ∙ (ap (course s h) place ∙ held.course) in
+    let one : it.reached ≡ record { agent = t.agent; safe = t.safe; event = t.event; frame = t.frame } = same_Some it.reached _ same in
+    (sym it.whose ∙ ap (λ (c : Course). c.agent) one, sym it.safe ∙ ap (λ (c : Course). c.safe) one)
+
+pub held_whose : (s : SceneParts) (h : List Entry) (t : Turn) (held : IsHeld s h t) → held.turn.agent ≡ t.agent
+held_whose s h t held = (held_course s h t held).0
+
+pub held_safe : (s : SceneParts) (h : List Entry) (t : Turn) (held : IsHeld s h t) → runs_safe s held.turn ≡ t.safe
+held_safe s h t held = (held_course s h t held).1
 
 pub held_agent : (s : SceneParts) (h : List Entry) (t : Turn) → IsScene s → Legal s h → IsHeld s h t → t.agent.0 < length s.agents
 held_agent s h t scene legal held =

@@ -7,7 +7,7 @@ use Rattle.so_ids.specs.declared.CoopId.{CoopId}
 use Rattle.so_ids.specs.declared.Reason.{Reason}
 use Rattle.so_scene.specs.Lanes.{lanes}
 use Rattle.so_history.specs.declared.entry.EntryKind.{EntryKind}
-use Rattle.so_history.specs.declared.entry.EntryKind.TheVariants.{Register, Begin, Skip, Leaving, Left}
+use Rattle.so_history.specs.declared.entry.EntryKind.TheVariants.{Register, Leaving, Left}
 use Rattle.so_history.specs.declared.entry.Demand.{Demand}
 use Rattle.so_history.specs.Order.{opening_of, skipped, taking_as, taking}
 use Rattle.so_history.specs.declared.entry.SkipWhy.{SkipWhy}

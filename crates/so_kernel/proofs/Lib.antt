@@ -1,5 +1,7 @@
 pub mod KeptLaws
 pub mod MboxLaws
+pub mod CountLaws
+pub mod TakeLaws
 pub mod TableLaws
 pub mod StateLaws
 pub mod CostLaws

@@ -1,10 +1,10 @@
 -- The subscriptions after one more entry.
-use Rattle.std.proofs.Common.{◌≡◌, ℕ, zero, suc, ◌+◌, ◌<◌, ◌≤◌, List, [], ◌∷◌, ◌++◌, length, take, set, get_or, map, zip, Bool, true, false, not, ◌||◌, cond, Option, Some, None, Result, Ok, Err, arith, refl, sym, ◌∙◌, ap, subst, inl, inr, append_assoc}
-use Rattle.std.specs.Prelude.{◌==◌, slice_set, slice_get, replicate, is_ok}
+use Rattle.std.proofs.Common.{◌≡◌, ℕ, zero, suc, ◌+◌, ◌<◌, ◌≤◌, List, [], ◌∷◌, ◌++◌, length, take, set, get_or, map, Bool, true, false, not, ◌||◌, cond, Option, Some, None, arith, refl, sym, ◌∙◌, ap, inl, inr, append_assoc}
+use Rattle.std.specs.Prelude.{◌==◌, slice_set}
 use Rattle.std.specs.List.{filter, list_any, All, AllByRecursion}
 use Rattle.std.proofs.lemmas.List.{append-nil, length-set, take_more_set, take_all, set-get_or}
 use Rattle.std.proofs.lemmas.Option.{slice_get-get_or}
-use Rattle.std.proofs.lemmas.Bool.{cases_Bool, cases_lt, ne_eqb, eq-eqb, eqb-true, false≢true}
+use Rattle.std.proofs.lemmas.Bool.{cases_Bool, cases_lt, ne_eqb, eq-eqb}
 use Rattle.so_ids.specs.declared.AgentId.{AgentId}
 use Rattle.so_ids.specs.declared.CoopId.{CoopId}
 use Rattle.so_ids.specs.declared.FilterId.{FilterId}
@@ -12,31 +12,25 @@ use Rattle.so_ids.specs.declared.Place.{Place}
 use Rattle.so_ids.specs.declared.RowId.{RowId}
 use Rattle.so_ids.specs.declared.DefFault.{DefFault}
 use Rattle.so_code.specs.declared.effect.Answer.{Answer}
-use Rattle.so_code.specs.declared.effect.Answer.TheVariants.{Yes, No}
 use Rattle.so_code.specs.declared.effect.Effect.{Effect}
-use Rattle.so_code.specs.declared.effect.Effect.TheVariants as effect
-use Rattle.so_lists.specs.Lists.{each_below, or_else, first_below}
+use Rattle.so_lists.specs.Lists.{each_below, first_below}
 use Rattle.so_lists.proofs.EachBelow.{length-each_below, get_or-each_below, each_below-same, each_below-set, all-each_below}
 use Rattle.so_lists.proofs.First.{or_else-none, none-first_below}
 use Rattle.so_lists.proofs.Filters.{each-weaker, each-filter}
-use Rattle.so_state.specs.declared.choice.Row.{Row}
 use Rattle.so_scene.specs.declared.parts.AgentDef.{AgentDef}
-use Rattle.so_scene.specs.declared.parts.FilterDef.{FilterDef}
 use Rattle.so_scene.specs.declared.parts.SceneParts.{SceneParts}
-use Rattle.so_scene.specs.Parts.{no_agent, no_coop, agent_of, coop_of, agents_from, agents_of, rows_of, filters_of}
+use Rattle.so_scene.specs.Parts.{no_agent, no_coop, coop_of, agents_from, agents_of, rows_of, filters_of}
 use Rattle.so_scene.specs.Checked.{IsCoop, IsScene}
-use Rattle.so_scene.specs.Definition.{is_not_owner, is_twice, row_fault, row_fault_after, filter_fault, filter_fault_of, definition_fault}
-use Rattle.so_scene.specs.Subscriptions.{no_row, row_of, no_filter, filter_of, rows_first, row_set, row_dropped, filters_first, filter_set, filter_dropped}
+use Rattle.so_scene.specs.Definition.{is_not_owner, row_fault, row_fault_after, filter_fault, filter_fault_of, definition_fault}
+use Rattle.so_scene.specs.Subscriptions.{no_row, row_of, no_filter, filter_of, rows_first, filters_first}
 use Rattle.so_history.specs.declared.entry.Entry.{Entry}
-use Rattle.so_history.specs.declared.entry.EntryKind.{EntryKind}
 use Rattle.so_history.specs.declared.entry.EntryKind.TheVariants.{Register, Act, Left}
 use Rattle.so_history.specs.Places.{entry_at, beginner_at}
 use Rattle.so_history.specs.Coops.{the_coop, present, leaving}
 use Rattle.so_history.specs.Leaves.{is_of, is_turn_of}
-use Rattle.so_history.specs.Delivery.{registered, no_rows, rows_by, rows_by_effect, active_rows, filters_by, filters_by_effect, active_filters, receivers, delivered}
-use Rattle.so_history.specs.Steps.{yes_where, may_subscribe, is_active}
-use Rattle.so_mbox.specs.Table.{active_rows as table_rows, active_filters as table_filters, receivers as table_receivers, passes as table_passes, Subscriptions, nobody, none_active, all_none, all_filters_first, is_other, same_agent, is_entered, after_enter, after_leave, after_subscribe, after_unsubscribe, after_set_filter, after_drop_filter}
-use Rattle.so_mbox.specs.Answers.{subscribe_answer}
+use Rattle.so_history.specs.Delivery.{registered, rows_by, rows_by_effect, active_rows, filters_by, filters_by_effect, active_filters, receivers, delivered}
+use Rattle.so_history.specs.Steps.{is_active}
+use Rattle.so_mbox.specs.Table.{active_rows as table_rows, active_filters as table_filters, receivers as table_receivers, passes as table_passes, Subscriptions, nobody, none_active, is_other, same_agent, is_entered, after_enter, after_leave}
 use Rattle.so_deliver.specs.Planned.{outcomes_of}
 use Rattle.so_scene.specs.Delivery.{Outcome, events, is_subscribed, passes_with, outcome_for, outcomes}
 use Rattle.so_ids.specs.declared.MboxId.{MboxId}
@@ -49,7 +43,7 @@ use Rattle.so_history.specs.Demands.{ask, demands_from}
 use Rattle.so_history.proofs.AskedLaws.{delivered_of}
 use Rattle.so_history.proofs.DemandLaws.{registered_of}
 use Rattle.so_events.proofs.Asking.{agents_from-next}
-use Rattle.so_kernel.specs.Tables.{rows_after, filters_after, subscriptions_of, entered, departed, subscribed}
+use Rattle.so_kernel.specs.Tables.{rows_after, filters_after, subscriptions_of, entered, departed}
 
 -- ---- the one cooperation
 

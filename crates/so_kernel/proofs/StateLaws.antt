@@ -1,8 +1,8 @@
 -- How the agents stand after one more entry.
 use Rattle.std.proofs.Common.{◌≡◌, ℕ, ◌+◌, ◌<◌, List, [], ◌∷◌, ◌++◌, length, Bool, true, false, cond, arith, refl, sym, ◌∙◌, ap, subst, inl, inr, get_or}
-use Rattle.std.specs.Prelude.{◌==◌, slice_set, if◌then◌else◌}
-use Rattle.std.proofs.lemmas.List.{length-set, get_or-set_same, get_or-set_other, get_or_push, get_or_append_left}
-use Rattle.std.proofs.lemmas.Bool.{cases_eq, cases_lt, ne_eqb, eq-eqb}
+use Rattle.std.specs.Prelude.{slice_set}
+use Rattle.std.proofs.lemmas.List.{get_or-set_same, get_or-set_other, get_or_push, get_or_append_left}
+use Rattle.std.proofs.lemmas.Bool.{cases_eq, cases_lt, eq-eqb}
 use Rattle.so_ids.specs.declared.AgentId.{AgentId}
 use Rattle.so_ids.specs.declared.CoopId.{CoopId}
 use Rattle.so_ids.specs.declared.StateId.{StateId}
@@ -17,8 +17,7 @@ use Rattle.so_scene.specs.declared.parts.SceneParts.{SceneParts}
 use Rattle.so_scene.specs.Parts.{no_agent, agent_of, states_of}
 use Rattle.so_scene.specs.Checked.{IsScene}
 use Rattle.so_history.specs.declared.entry.Entry.{Entry}
-use Rattle.so_history.specs.declared.entry.EntryKind.{EntryKind}
-use Rattle.so_history.specs.declared.entry.EntryKind.TheVariants.{Register, Act}
+use Rattle.so_history.specs.declared.entry.EntryKind.TheVariants.{Register}
 use Rattle.so_history.specs.Coops.{the_coop}
 use Rattle.so_history.specs.Leaves.{is_turn_of, leaves_by_effect, leaves_by, leaves}
 use Rattle.so_kernel.specs.declared.states.Standing.{Standing}

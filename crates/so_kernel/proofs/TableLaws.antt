@@ -1,10 +1,10 @@
 -- The tables after one more entry: one law for each kind.
-use Rattle.std.proofs.Common.{◌≡◌, ℕ, ◌+◌, ◌-◌, ◌<◌, List, [], ◌∷◌, ◌++◌, length, map, Bool, true, false, not, Option, Some, None, arith, refl, sym, ◌∙◌, ap, subst, inl, inr, get_or}
-use Rattle.std.specs.Prelude.{◌==◌, ◌↔◌, ◌&&◌, IsTrue, slice_set}
-use Rattle.std.specs.List.{find, All, AllByRecursion}
+use Rattle.std.proofs.Common.{◌≡◌, ℕ, ◌<◌, List, [], ◌∷◌, ◌++◌, length, map, Bool, true, false, Option, Some, None, arith, refl, sym, ◌∙◌, ap, subst, inl, inr, get_or}
+use Rattle.std.specs.Prelude.{◌==◌, ◌↔◌, IsTrue, slice_set}
+use Rattle.std.specs.List.{filter, All}
 use Rattle.std.specs.Option.{is_none}
-use Rattle.std.proofs.lemmas.List.{append-nil, length-append, length-map, set-get_or}
-use Rattle.std.proofs.lemmas.Bool.{cases_Bool, and_parts, not-true, not-false, false≢true, ne_eqb, eq-eqb, eqb-true}
+use Rattle.std.proofs.lemmas.List.{append-nil, length-map, set-get_or}
+use Rattle.std.proofs.lemmas.Bool.{cases_Bool, not-true, not-false, false≢true, ne_eqb, eq-eqb}
 use Rattle.std.proofs.lemmas.Option.{same_Some}
 use Rattle.so_ids.specs.declared.CoopId.{CoopId}
 use Rattle.so_ids.specs.declared.LaneId.{LaneId}
@@ -33,8 +33,8 @@ use Rattle.so_scene.specs.Checked.{IsScene}
 use Rattle.so_scene.specs.Definition.{is_not_owner, is_twice}
 use Rattle.so_scene.specs.Delivery.{events}
 use Rattle.so_scene.specs.Subscriptions.{row_of, row_set, row_dropped, filter_set, filter_dropped}
-use Rattle.so_scene.specs.Lanes.{lanes, keys, key_of, serves}
-use Rattle.so_scene.proofs.LaneLaws.{key_in_range}
+use Rattle.so_scene.specs.Lanes.{lanes, keys, key_of}
+use Rattle.so_scene.specs.Rounds.{first_round}
 use Rattle.so_history.specs.declared.entry.Entry.{Entry}
 use Rattle.so_history.specs.declared.entry.EntryKind.TheVariants.{Register, Begin, Skip, Act, End, Leaving, Left, Stop, Abort}
 use Rattle.so_history.specs.declared.entry.AbortCause.{AbortCause}
@@ -46,18 +46,21 @@ use Rattle.so_history.specs.Places.{entry_at, beginner_at}
 use Rattle.so_history.specs.Delivery.{rows_by_effect, active_rows, filters_by_effect, active_filters, delivered}
 use Rattle.so_history.specs.Demands.{ask, ask_each, asked_by_effect, queued_by, demands, taken, waiting}
 use Rattle.so_history.specs.Units.{cost, units}
-use Rattle.so_history.specs.Turns.{Started, Course, move_of, vars_after, vars, course, started_by, ends, turns, running, running_at, running_on, running_with, lane_number, key_number, turn_at}
+use Rattle.so_history.specs.Turns.{Started, Course, move_of, vars_after, vars, course, started_by, ends, turns, running, running_at, running_on, lane_number, key_number, turn_at}
 use Rattle.so_history.specs.Coops.{the_coop, tried, present, leaving, is_stop, stop_asked, stopped, aborted}
-use Rattle.so_history.specs.Order.{may_take, pick, opening_of, skipped, taking_as, taking}
+use Rattle.so_history.specs.Heads.{round}
+use Rattle.so_history.specs.Safety.{is_safe}
+use Rattle.so_history.specs.Order.{runs_safe, pick, opening_of, skipped, taking_as, taking}
 use Rattle.so_history.specs.Steps.{Legal, yes_where, may_subscribe, is_active}
 use Rattle.so_history.proofs.DemandLaws.{waiting-queued, waiting-same, waiting-taken, picked}
 use Rattle.so_history.proofs.NameLaws.{length-demands_from}
-use Rattle.so_history.proofs.TurnLaws.{Frees, running_at-begun, running_at-same, running_at-ended, running_at-other, alone, turn_found, running_nowhere, running_at-nil, lanes_free, keys_free, may_be_taken}
-use Rattle.so_mbox.specs.Table.{Subscriptions, after_unsubscribe, after_set_filter, after_drop_filter}
-use Rattle.so_deliver.proofs.CommitLaws.{low}
-use Rattle.so_events.specs.Events.{may_take_by, place_of, is_beside}
+use Rattle.so_history.proofs.TurnLaws.{Frees, running_at-begun, running_at-same, running_at-ended, running_at-other, alone, turn_found, running_nowhere, running_at-nil, lanes_free}
+use Rattle.so_mbox.specs.Table.{after_unsubscribe, after_set_filter, after_drop_filter}
+use Rattle.so_events.specs.Events.{after_taking, after_start as turn_started, after_end as turn_ended}
 use Rattle.so_kernel.specs.Gates.{is_skip, is_quiet, IsActOf, IsQuietActOf}
-use Rattle.so_kernel.specs.Tables.{tables_of, variables_of, subscriptions_of, initial, places, counts, first_place, fresh, queued, with_mboxes, subscribed, after_asking, after_abort, after_register, after_begin, after_skip, after_act, after_end, after_leaving, after_left, after_stop}
+use Rattle.so_kernel.specs.Tables.{is_other, round_at, events_of, tables_of, variables_of, subscriptions_of, initial, places, first_place, brought_back, fresh, queued, with_mboxes, subscribed, after_asking, after_abort, after_register, after_begin, after_skip, after_act, after_end, after_leaving, after_left, after_stop}
+use Rattle.so_kernel.proofs.CountLaws.{counts-same, counts-started, counts-ended}
+use Rattle.so_kernel.proofs.TakeLaws.{off_right, rounds-same, rounds-taken}
 use Rattle.so_kernel.proofs.MboxLaws.{mboxes-fresh, mboxes-same, mboxes-registered, mboxes-left, mboxes-quiet, mboxes-rows, mboxes-filters, rows_here, filters_here, set-down, its_owner}
 
 -- where turns run after an entry that begins and ends nothing
@@ -65,11 +68,6 @@ places-same : (f : Started → ℕ) (s : SceneParts) (h : List Entry) (e : Entry
     places f (e ∷ h) n ≡ places f h n
 places-same f s h e n legal none quiet =
     each_below-same _ _ n (λ l _. ap first_place (running_at-same f s h e l legal none quiet))
-
-counts-same : (f : Started → ℕ) (s : SceneParts) (h : List Entry) (e : Entry) (n : ℕ) → Legal s h → started_by (length h) e.by e.kind ≡ [] → ((t : ℕ) → ends e.kind t ≡ false) →
-    counts f (e ∷ h) n ≡ counts f h n
-counts-same f s h e n legal none quiet =
-    each_below-same _ _ n (λ l _. ap length (running_at-same f s h e l legal none quiet))
 
 -- the demands after one more entry
 demands-queued : (s : SceneParts) (h : List Entry) (e : Entry) → demands s (e ∷ h) ≡ demands s h ++ queued_by s h e.kind
@@ -92,30 +90,41 @@ vars-registered s h e coop scene is one =
     let its : (agent_of s (record { 0 = a })).coop.0 ≡ coop.0 = (scene.agents a no_agent within).coop ∙ sym (ap (λ (c : CoopId). c.0) one) in
     rw (is, eq-eqb _ _ its) refl)
 
--- and after the End of a turn
-vars-ended : (s : SceneParts) (h : List Entry) (e : Entry) (place : Place) (c : Course) → e.kind ≡ End place → course s h place.0 ≡ Some c → c.agent.0 < length s.agents →
-    variables_of s (e ∷ h) ≡ slice_set (variables_of s h) c.agent.0 (move_of s c).1.vars
+-- and after the End of a turn, which brings its variables back where it isn't thread-safe
+vars_case : (s : SceneParts) (h : List Entry) (e : Entry) (place : Place) (c : Course) (safe : Bool) → c.safe ≡ safe → e.kind ≡ End place → course s h place.0 ≡ Some c → c.agent.0 < length s.agents →
+    variables_of s (e ∷ h) ≡ brought_back safe c.agent (move_of s c).1.vars (variables_of s h)
 unfolding vars
-vars-ended s h e place c is has known =
+vars_case s h e place c true safe is has known = each_below-same _ _ (length s.agents) (λ a _. rw (is, has, safe, off_right (c.agent.0 == a) false refl) refl)
+vars_case s h e place c false safe is has known =
     each_below-set _ _ (length s.agents) c.agent.0 _ known
-    (rw (is, has, eq-eqb c.agent.0 c.agent.0 refl) refl)
-    (λ j _ other. let apart : (c.agent.0 == j) ≡ false = ne_eqb c.agent.0 j (λ same. other (sym same)) in rw (is, has, apart) refl)
+    (rw (is, has, safe, eq-eqb c.agent.0 c.agent.0 refl) refl)
+    (λ j _ other. let apart : (c.agent.0 == j) ≡ false = ne_eqb c.agent.0 j (λ same. other (sym same)) in rw (is, has, safe, apart) refl)
+
+vars-ended : (s : SceneParts) (h : List Entry) (e : Entry) (place : Place) (c : Course) → e.kind ≡ End place → course s h place.0 ≡ Some c → c.agent.0 < length s.agents →
+    variables_of s (e ∷ h) ≡ brought_back c.safe c.agent (move_of s c).1.vars (variables_of s h)
+vars-ended s h e place c is has known = vars_case s h e place c c.safe refl is has known
 
 pub tables-fresh : (s : SceneParts) (room : ℕ) → tables_of s room [] ≡ fresh s room
-unfolding waiting demands taken units tried present leaving stop_asked stopped aborted running turns vars
-tables-fresh s room = rw (mboxes-fresh s, each_below-replicate (λ i. first_place (running_at lane_number [] i)) (lanes s) None (λ i. refl), each_below-replicate (λ i. length (running_at (key_number s) [] i)) (keys s) 0 (λ i. refl)) refl
+unfolding waiting demands taken units tried present leaving stop_asked stopped aborted running turns vars round
+tables-fresh s room =
+    rw (
+      mboxes-fresh s,
+      each_below-replicate (λ i. first_place (running_at lane_number [] i)) (lanes s) None (λ i. refl),
+      each_below-replicate (λ i. length (filter (runs_safe s) (running_at (key_number s) [] i))) (keys s) 0 (λ i. refl),
+      each_below-replicate (round_at s []) (length s.dispatchers) first_round (λ i. refl),
+    ) refl
 
 pub tables-register : (s : SceneParts) (room : ℕ) (h : List Entry) (e : Entry) (coop : CoopId) → e.kind ≡ Register coop → Legal s h → IsScene s → coop ≡ the_coop → present h ≡ false → aborted h ≡ false →
     tables_of s room (e ∷ h) ≡ after_register s (length h) (agents_of s coop) (tables_of s room h)
 unfolding tried present leaving stop_asked stopped aborted units
 tables-register s room h e coop is legal scene one absent going =
-    rw (mboxes-registered s h e coop scene is one absent, vars-registered s h e coop scene is one, going, demands-queued s h e, waiting-queued s h e legal (λ d. rw is refl), places-same lane_number s h e (lanes s) legal (rw is refl) (λ t. rw is refl), counts-same (key_number s) s h e (keys s) legal (rw is refl) (λ t. rw is refl), is, length-demands_from (length h) 0 (ask_each Start (agents_of s coop))) refl
+    rw (mboxes-registered s h e coop scene is one absent, vars-registered s h e coop scene is one, going, demands-queued s h e, waiting-queued s h e legal (λ d. rw is refl), places-same lane_number s h e (lanes s) legal (rw is refl) (λ t. rw is refl), counts-same s (runs_safe s) h e legal (rw is refl) (λ t. rw is refl), counts-same s (is_other s) h e legal (rw is refl) (λ t. rw is refl), rounds-same s h e (λ d. rw is refl), is, length-demands_from (length h) 0 (ask_each Start (agents_of s coop))) refl
 
 pub tables-leaving : (s : SceneParts) (room : ℕ) (h : List Entry) (e : Entry) (coop : CoopId) (reason : Reason) → e.kind ≡ Leaving coop reason → Legal s h → aborted h ≡ false →
     tables_of s room (e ∷ h) ≡ after_leaving (length h) (agents_of s coop) (tables_of s room h)
 unfolding tried present leaving stop_asked stopped aborted units
 tables-leaving s room h e coop reason is legal going =
-    rw (mboxes-same s h e (rw is refl) (λ a r. rw is refl) (λ a f. rw is refl), vars-same s h e (λ c a v. rw is refl), going, demands-queued s h e, waiting-queued s h e legal (λ d. rw is refl), places-same lane_number s h e (lanes s) legal (rw is refl) (λ t. rw is refl), counts-same (key_number s) s h e (keys s) legal (rw is refl) (λ t. rw is refl), is, length-demands_from (length h) 0 (ask_each Finish (agents_of s coop))) refl
+    rw (mboxes-same s h e (rw is refl) (λ a r. rw is refl) (λ a f. rw is refl), vars-same s h e (λ c a v. rw is refl), going, demands-queued s h e, waiting-queued s h e legal (λ d. rw is refl), places-same lane_number s h e (lanes s) legal (rw is refl) (λ t. rw is refl), counts-same s (runs_safe s) h e legal (rw is refl) (λ t. rw is refl), counts-same s (is_other s) h e legal (rw is refl) (λ t. rw is refl), rounds-same s h e (λ d. rw is refl), is, length-demands_from (length h) 0 (ask_each Finish (agents_of s coop))) refl
 
 -- an act that changes neither variables nor demands
 module _ (s : SceneParts) (room : ℕ) (h : List Entry) (e : Entry) (a : AgentId) (x : Effect) (acts : IsActOf s h e a x) (legal : Legal s h) (going : aborted h ≡ false) where
@@ -123,7 +132,7 @@ module _ (s : SceneParts) (room : ℕ) (h : List Entry) (e : Entry) (a : AgentId
   unfolding tried present leaving stop_asked stopped aborted units
   acted nothing quiet =
       let none : queued_by s h e.kind ≡ [] = rw (acts.is, nothing) refl in
-      rw (vars-same s h e (λ c b v. rw acts.is refl), going, demands-same s h e none, waiting-same s h e legal none (λ d. rw acts.is refl), places-same lane_number s h e (lanes s) legal (rw acts.is refl) (λ t. rw acts.is refl), counts-same (key_number s) s h e (keys s) legal (rw acts.is refl) (λ t. rw acts.is refl), acts.is, nothing, quiet) refl
+      rw (vars-same s h e (λ c b v. rw acts.is refl), going, demands-same s h e none, waiting-same s h e legal none (λ d. rw acts.is refl), places-same lane_number s h e (lanes s) legal (rw acts.is refl) (λ t. rw acts.is refl), counts-same s (runs_safe s) h e legal (rw acts.is refl) (λ t. rw acts.is refl), counts-same s (is_other s) h e legal (rw acts.is refl) (λ t. rw acts.is refl), rounds-same s h e (λ d. rw acts.is refl), acts.is, nothing, quiet) refl
 
 asks_nothing : (s : SceneParts) (h : List Entry) (x : Effect) → is_quiet x ≡ true → asked_by_effect s h x ≡ []
 asks_nothing s h (effect.Log text payload) q = refl
@@ -185,7 +194,9 @@ tables-send s room h e a mbox msg payload acts known legal going =
       demands-queued s h e,
       waiting-queued s h e legal (λ d. rw acts.is refl),
       places-same lane_number s h e (lanes s) legal (rw acts.is refl) (λ t. rw acts.is refl),
-      counts-same (key_number s) s h e (keys s) legal (rw acts.is refl) (λ t. rw acts.is refl),
+      counts-same s (runs_safe s) h e legal (rw acts.is refl) (λ t. rw acts.is refl),
+      counts-same s (is_other s) h e legal (rw acts.is refl) (λ t. rw acts.is refl),
+      rounds-same s h e (λ d. rw acts.is refl),
       acts.is,
       length-demands_from (length h) 0 (map ask (events (delivered s h mbox msg payload))),
     ) refl
@@ -271,7 +282,9 @@ tables-asking s room h e a acts known legal going =
       demands-same s h e (rw acts.is refl),
       waiting-same s h e legal (rw acts.is refl) (λ d. rw acts.is refl),
       places-same lane_number s h e (lanes s) legal (rw acts.is refl) (λ t. rw acts.is refl),
-      counts-same (key_number s) s h e (keys s) legal (rw acts.is refl) (λ t. rw acts.is refl),
+      counts-same s (runs_safe s) h e legal (rw acts.is refl) (λ t. rw acts.is refl),
+      counts-same s (is_other s) h e legal (rw acts.is refl) (λ t. rw acts.is refl),
+      rounds-same s h e (λ d. rw acts.is refl),
       acts.is,
     ) refl
 
@@ -279,19 +292,19 @@ pub tables-abort : (s : SceneParts) (room : ℕ) (h : List Entry) (e : Entry) �
     tables_of s room (e ∷ h) ≡ after_abort (tables_of s room h)
 unfolding tried present leaving stop_asked stopped aborted units
 tables-abort s room h e is legal =
-    rw (mboxes-same s h e (rw is.1 refl) (λ a r. rw is.1 refl) (λ a f. rw is.1 refl), vars-same s h e (λ c a v. rw is.1 refl), demands-same s h e (rw is.1 refl), waiting-same s h e legal (rw is.1 refl) (λ d. rw is.1 refl), places-same lane_number s h e (lanes s) legal (rw is.1 refl) (λ t. rw is.1 refl), counts-same (key_number s) s h e (keys s) legal (rw is.1 refl) (λ t. rw is.1 refl), is.1) refl
+    rw (mboxes-same s h e (rw is.1 refl) (λ a r. rw is.1 refl) (λ a f. rw is.1 refl), vars-same s h e (λ c a v. rw is.1 refl), demands-same s h e (rw is.1 refl), waiting-same s h e legal (rw is.1 refl) (λ d. rw is.1 refl), places-same lane_number s h e (lanes s) legal (rw is.1 refl) (λ t. rw is.1 refl), counts-same s (runs_safe s) h e legal (rw is.1 refl) (λ t. rw is.1 refl), counts-same s (is_other s) h e legal (rw is.1 refl) (λ t. rw is.1 refl), rounds-same s h e (λ d. rw is.1 refl), is.1) refl
 
 pub tables-left : (s : SceneParts) (room : ℕ) (h : List Entry) (e : Entry) (coop : CoopId) → e.kind ≡ Left coop → Legal s h → IsScene s → coop ≡ the_coop → aborted h ≡ false →
     tables_of s room (e ∷ h) ≡ after_left (agents_of s coop) (tables_of s room h)
 unfolding tried present leaving stop_asked stopped aborted units
 tables-left s room h e coop is legal scene one going =
-    rw (mboxes-left s h e coop scene is one, vars-same s h e (λ c a v. rw is refl), going, demands-same s h e (rw is refl), waiting-same s h e legal (rw is refl) (λ d. rw is refl), places-same lane_number s h e (lanes s) legal (rw is refl) (λ t. rw is refl), counts-same (key_number s) s h e (keys s) legal (rw is refl) (λ t. rw is refl), is) refl
+    rw (mboxes-left s h e coop scene is one, vars-same s h e (λ c a v. rw is refl), going, demands-same s h e (rw is refl), waiting-same s h e legal (rw is refl) (λ d. rw is refl), places-same lane_number s h e (lanes s) legal (rw is refl) (λ t. rw is refl), counts-same s (runs_safe s) h e legal (rw is refl) (λ t. rw is refl), counts-same s (is_other s) h e legal (rw is refl) (λ t. rw is refl), rounds-same s h e (λ d. rw is refl), is) refl
 
 pub tables-stop : (s : SceneParts) (room : ℕ) (h : List Entry) (e : Entry) → (cause : StopCause) × (e.kind ≡ Stop cause) → Legal s h → aborted h ≡ false →
     tables_of s room (e ∷ h) ≡ after_stop (tables_of s room h)
 unfolding tried present leaving stop_asked stopped aborted units
 tables-stop s room h e is legal going =
-    rw (mboxes-same s h e (rw is.1 refl) (λ a r. rw is.1 refl) (λ a f. rw is.1 refl), vars-same s h e (λ c a v. rw is.1 refl), going, demands-same s h e (rw is.1 refl), waiting-same s h e legal (rw is.1 refl) (λ d. rw is.1 refl), places-same lane_number s h e (lanes s) legal (rw is.1 refl) (λ t. rw is.1 refl), counts-same (key_number s) s h e (keys s) legal (rw is.1 refl) (λ t. rw is.1 refl), is.1) refl
+    rw (mboxes-same s h e (rw is.1 refl) (λ a r. rw is.1 refl) (λ a f. rw is.1 refl), vars-same s h e (λ c a v. rw is.1 refl), going, demands-same s h e (rw is.1 refl), waiting-same s h e legal (rw is.1 refl) (λ d. rw is.1 refl), places-same lane_number s h e (lanes s) legal (rw is.1 refl) (λ t. rw is.1 refl), counts-same s (runs_safe s) h e legal (rw is.1 refl) (λ t. rw is.1 refl), counts-same s (is_other s) h e legal (rw is.1 refl) (λ t. rw is.1 refl), rounds-same s h e (λ d. rw is.1 refl), is.1) refl
 
 -- a Begin where no turn runs
 places-begin : (f : Started → ℕ) (s : SceneParts) (h : List Entry) (e : Entry) (n i : ℕ) (t : Started) → Legal s h → ((x : ℕ) → ends e.kind x ≡ false) → started_by (length h) e.by e.kind ≡ t ∷ [] → t.place ≡ length h → f t ≡ i → i < n → running_at f h i ≡ [] →
@@ -302,25 +315,8 @@ places-begin f s h e n i t legal quiet starts at number in_range free =
     (rw (after i, starts, free, eq-eqb (f t) i number, at) refl)
     (λ j _ other. let apart : (f t == j) ≡ false = ne_eqb (f t) j (λ same. other (sym same ∙ number)) in rw (after j, starts, apart, append-nil) refl)
 
--- and by the counts
-count_at : (f : Started → ℕ) (h : List Entry) (n i : ℕ) → i < n → get_or (counts f h n) i 0 ≡ length (running_at f h i)
-count_at f h n i in_range = get_or-each_below (λ l. length (running_at f h l)) n i 0 in_range
-
-counts-begin : (f : Started → ℕ) (s : SceneParts) (h : List Entry) (e : Entry) (n i : ℕ) (t : Started) → Legal s h → ((x : ℕ) → ends e.kind x ≡ false) → started_by (length h) e.by e.kind ≡ t ∷ [] → f t ≡ i → i < n →
-    counts f (e ∷ h) n ≡ slice_set (counts f h n) i (get_or (counts f h n) i 0 + 1)
-counts-begin f s h e n i t legal quiet starts number in_range =
-    let after = λ (l : ℕ). running_at-begun f s h e l legal quiet in
-    each_below-set _ _ n i _ in_range
-    (rw (after i, starts, eq-eqb (f t) i number, count_at f h n i in_range) (length-append (running_at f h i) (t ∷ [])))
-    (λ j _ other. let apart : (f t == j) ≡ false = ne_eqb (f t) j (λ same. other (sym same ∙ number)) in rw (after j, starts, apart, append-nil) refl)
-
 free_lane : (s : SceneParts) (h : List Entry) (lane : LaneId) (d : Demand) → pick s h lane ≡ Some d → running_on h lane ≡ []
 free_lane s h lane d picks = empty-list (running_on h lane) (picked s h lane d picks).0
-
-free_key : (s : SceneParts) (h : List Entry) (lane : LaneId) (d : Demand) → pick s h lane ≡ Some d → running_with s h (key_of s d.agent) ≡ []
-free_key s h lane d picks =
-    let may = may_be_taken s h lane (waiting s h) d (picked s h lane d picks).1 in
-    empty-list (running_with s h (key_of s d.agent)) (and_parts (serves s lane (key_of s d.agent)) _ may).1
 
 -- what a lane takes begins a turn, or is skipped
 taken_as : (lane : LaneId) (d : Demand) (o : Opening) (w : Option SkipWhy) → is_skip (taking_as lane d o w) ≡ false → taking_as lane d o w ≡ Begin lane (Some d.id) o d.agent
@@ -337,37 +333,44 @@ skipped_as lane d o (Some w) skips = (w, refl)
 pub skips_turn : (s : SceneParts) (h : List Entry) (lane : LaneId) (d : Demand) → is_skip (taking s h lane d) ≡ true → (why : SkipWhy) × (taking s h lane d ≡ Skip lane d.id why)
 skips_turn s h lane d skips = skipped_as lane d (opening_of s h d) (skipped (opening_of s h d)) skips
 
-pub tables-begin : (s : SceneParts) (room : ℕ) (h : List Entry) (e : Entry) (lane : LaneId) (d : Demand) → e.kind ≡ Begin lane (Some d.id) (opening_of s h d) d.agent → Legal s h → lane.0 < lanes s → d.agent.0 < length s.agents → pick s h lane ≡ Some d →
-    aborted h ≡ false → tables_of s room (e ∷ h) ≡ after_begin (record { 0 = length h }) lane (key_of s d.agent) d (tables_of s room h)
-unfolding tried present leaving stop_asked stopped aborted units
-tables-begin s room h e lane d is legal in_range known picks going =
-    let t : Started = record { place = length h; by = e.by; lane = lane; agent = d.agent; opening = opening_of s h d } in
-    let starts : started_by (length h) e.by e.kind ≡ t ∷ [] = rw is refl in
-    rw (
-      mboxes-same s h e (rw is refl) (λ a r. rw is refl) (λ a f. rw is refl),
-      vars-same s h e (λ c a v. rw is refl),
-      going,
-      demands-same s h e (rw is refl),
-      waiting-taken s h e d.id (rw is refl) (λ x. rw is refl),
-      places-begin lane_number s h e (lanes s) lane.0 t legal (λ x. rw is refl) starts refl refl in_range (free_lane s h lane d picks),
-      counts-begin (key_number s) s h e (keys s) (key_of s d.agent).0 t legal (λ x. rw is refl) starts refl (key_in_range s d.agent known),
-      is,
-    ) refl
+-- a lane takes a demand
+module _ (s : SceneParts) (room : ℕ) (h : List Entry) (e : Entry) (lane : LaneId) (d : Demand) (scene : IsScene s) (legal : Legal s h) (picks : pick s h lane ≡ Some d) (takes_it : e.kind ≡ taking s h lane d) where
+  begun_events : e.kind ≡ Begin lane (Some d.id) (opening_of s h d) d.agent → d.agent.0 < length s.agents →
+      events_of s room (e ∷ h) ≡ turn_started (is_safe s d.agent (opening_of s h d)) (key_of s d.agent) (after_taking lane d (events_of s room h))
+  begun_events is known =
+      let t : Started = record { place = length h; by = e.by; lane = lane; agent = d.agent; opening = opening_of s h d } in
+      rw (demands-same s h e (rw is refl), waiting-taken s h e d.id (rw is refl) (λ x. rw is refl), rounds-taken s h e lane d scene picks takes_it) refl
+      ∙ counts-started s h e t (is_safe s d.agent (opening_of s h d)) (after_taking lane d (events_of s room h)) legal (λ x. rw is refl) (rw is refl) known refl
 
-pub tables-skip : (s : SceneParts) (room : ℕ) (h : List Entry) (e : Entry) (lane : LaneId) (d : Demand) (why : SkipWhy) → e.kind ≡ Skip lane d.id why → Legal s h → aborted h ≡ false →
-    tables_of s room (e ∷ h) ≡ after_skip d (tables_of s room h)
-unfolding tried present leaving stop_asked stopped aborted units
-tables-skip s room h e lane d why is legal going =
-    rw (
-      mboxes-same s h e (rw is refl) (λ a r. rw is refl) (λ a f. rw is refl),
-      vars-same s h e (λ c a v. rw is refl),
-      going,
-      demands-same s h e (rw is refl),
-      waiting-taken s h e d.id (rw is refl) (λ x. rw is refl),
-      places-same lane_number s h e (lanes s) legal (rw is refl) (λ t. rw is refl),
-      counts-same (key_number s) s h e (keys s) legal (rw is refl) (λ t. rw is refl),
-      is,
-    ) refl
+  pub tables-begin : e.kind ≡ Begin lane (Some d.id) (opening_of s h d) d.agent → lane.0 < lanes s → d.agent.0 < length s.agents → aborted h ≡ false →
+      tables_of s room (e ∷ h) ≡ after_begin (record { 0 = length h }) lane (is_safe s d.agent (opening_of s h d)) (key_of s d.agent) d (tables_of s room h)
+  unfolding tried present leaving stop_asked stopped aborted units
+  tables-begin is in_range known going =
+      let t : Started = record { place = length h; by = e.by; lane = lane; agent = d.agent; opening = opening_of s h d } in
+      ap (λ events. record (tables_of s room (e ∷ h)) { events = events }) (begun_events is known)
+      ∙ rw (
+        mboxes-same s h e (rw is refl) (λ a r. rw is refl) (λ a f. rw is refl),
+        vars-same s h e (λ c a v. rw is refl),
+        going,
+        places-begin lane_number s h e (lanes s) lane.0 t legal (λ x. rw is refl) (rw is refl) refl refl in_range (free_lane s h lane d picks),
+        is,
+      ) refl
+
+  pub tables-skip : (why : SkipWhy) → e.kind ≡ Skip lane d.id why → aborted h ≡ false → tables_of s room (e ∷ h) ≡ after_skip lane d (tables_of s room h)
+  unfolding tried present leaving stop_asked stopped aborted units
+  tables-skip why is going =
+      rw (
+        mboxes-same s h e (rw is refl) (λ a r. rw is refl) (λ a f. rw is refl),
+        vars-same s h e (λ c a v. rw is refl),
+        going,
+        demands-same s h e (rw is refl),
+        waiting-taken s h e d.id (rw is refl) (λ x. rw is refl),
+        places-same lane_number s h e (lanes s) legal (rw is refl) (λ t. rw is refl),
+        counts-same s (runs_safe s) h e legal (rw is refl) (λ t. rw is refl),
+        counts-same s (is_other s) h e legal (rw is refl) (λ t. rw is refl),
+        rounds-taken s h e lane d scene picks takes_it,
+        is,
+      ) refl
 
 -- an End of a running turn
 places-end : (f : Started → ℕ) (s : SceneParts) (h : List Entry) (e : Entry) (n : ℕ) (place : Place) (t : Started) → Frees f s → e.kind ≡ End place → Legal s h → f t < n → turn_at h place.0 ≡ Some t →
@@ -378,35 +381,23 @@ places-end f s h e n place t frees is legal in_range runs =
     (rw (running_at-ended f h e (f t) (rw is refl), alone f s h place.0 t frees legal runs, is, itself) refl)
     (λ j _ other. ap first_place (running_at-other f h e place.0 j t (rw is refl) (λ x. rw is refl) runs (λ same. other (sym same))))
 
-counts-end : (f : Started → ℕ) (s : SceneParts) (h : List Entry) (e : Entry) (n : ℕ) (place : Place) (t : Started) → Frees f s → e.kind ≡ End place → Legal s h → f t < n → turn_at h place.0 ≡ Some t →
-    counts f (e ∷ h) n ≡ slice_set (counts f h n) (f t) (get_or (counts f h n) (f t) 0 - 1)
-counts-end f s h e n place t frees is legal in_range runs =
-    let itself : (place.0 == t.place) ≡ true = eq-eqb place.0 t.place (sym (turn_found h place.0 t runs).0) in
-    let one : get_or (counts f h n) (f t) 0 ≡ 1 = count_at f h n (f t) in_range ∙ ap length (alone f s h place.0 t frees legal runs) in
-    each_below-set _ _ n (f t) _ in_range
-    (rw (one, running_at-ended f h e (f t) (rw is refl), alone f s h place.0 t frees legal runs, is, itself) refl)
-    (λ j _ other. ap length (running_at-other f h e place.0 j t (rw is refl) (λ x. rw is refl) runs (λ same. other (sym same))))
-
--- how many turns run with a queue that is free, and with the one of a running turn
-pub count_free : (s : SceneParts) (h : List Entry) (lane : LaneId) (d : Demand) → d.agent.0 < length s.agents → pick s h lane ≡ Some d → get_or (counts (key_number s) h (keys s)) (key_of s d.agent).0 0 ≡ 0
-count_free s h lane d known picks = count_at (key_number s) h (keys s) (key_of s d.agent).0 (key_in_range s d.agent known) ∙ ap length (free_key s h lane d picks)
-
-pub count_runs : (s : SceneParts) (h : List Entry) (place : Place) (t : Started) → t.agent.0 < length s.agents → Legal s h → turn_at h place.0 ≡ Some t → get_or (counts (key_number s) h (keys s)) (key_of s t.agent).0 0 ≡ 1
-count_runs s h place t known legal runs = count_at (key_number s) h (keys s) (key_of s t.agent).0 (key_in_range s t.agent known) ∙ ap length (alone (key_number s) s h place.0 t (keys_free s) legal runs)
+ended_events : (s : SceneParts) (room : ℕ) (h : List Entry) (e : Entry) (place : Place) (t : Started) (safe : Bool) → e.kind ≡ End place → Legal s h → turn_at h place.0 ≡ Some t → t.agent.0 < length s.agents → runs_safe s t ≡ safe →
+    events_of s room (e ∷ h) ≡ turn_ended safe (key_of s t.agent) (events_of s room h)
+ended_events s room h e place t safe is legal runs known its =
+    rw (demands-same s h e (rw is refl), waiting-same s h e legal (rw is refl) (λ d. rw is refl), rounds-same s h e (λ d. rw is refl)) refl
+    ∙ counts-ended s h e place t safe (events_of s room h) is legal runs known its
 
 pub tables-end : (s : SceneParts) (room : ℕ) (h : List Entry) (e : Entry) (place : Place) (t : Started) (c : Course) → e.kind ≡ End place → Legal s h → t.lane.0 < lanes s → turn_at h place.0 ≡ Some t →
-    course s h place.0 ≡ Some c → t.agent ≡ c.agent → c.agent.0 < length s.agents → aborted h ≡ false →
-    tables_of s room (e ∷ h) ≡ after_end t.lane (key_of s t.agent) c.agent (move_of s c).1.vars (tables_of s room h)
+    course s h place.0 ≡ Some c → t.agent ≡ c.agent → runs_safe s t ≡ c.safe → c.agent.0 < length s.agents → aborted h ≡ false →
+    tables_of s room (e ∷ h) ≡ after_end t.lane c.safe (key_of s t.agent) c.agent (move_of s c).1.vars (tables_of s room h)
 unfolding tried present leaving stop_asked stopped aborted units
-tables-end s room h e place t c is legal in_range runs has whose known going =
-    rw (
+tables-end s room h e place t c is legal in_range runs has whose safe known going =
+    ap (λ events. record (tables_of s room (e ∷ h)) { events = events }) (ended_events s room h e place t c.safe is legal runs (subst (λ (a : AgentId). a.0 < length s.agents) (sym whose) known) safe)
+    ∙ rw (
       mboxes-same s h e (rw is refl) (λ a r. rw is refl) (λ a f. rw is refl),
       vars-ended s h e place c is has known,
       going,
-      demands-same s h e (rw is refl),
-      waiting-same s h e legal (rw is refl) (λ d. rw is refl),
       places-end lane_number s h e (lanes s) place t (lanes_free s) is legal in_range runs,
-      counts-end (key_number s) s h e (keys s) place t (keys_free s) is legal (key_in_range s t.agent (subst (λ (a : AgentId). a.0 < length s.agents) (sym whose) known)) runs,
       is,
     ) refl
 
@@ -445,42 +436,3 @@ none_first (t ∷ ts) = refl
 
 pub free-place : (f : Started → ℕ) (h : List Entry) (n i : ℕ) → i < n → is_none (get_or (places f h n) i None) ≡ is_empty (running_at f h i)
 free-place f h n i in_range = ap is_none (get_or-each_below (λ l. first_place (running_at f h l)) n i None in_range) ∙ none_first (running_at f h i)
-
--- what may be taken by the counts is what may be taken
-none_runs : (xs : List Started) → (length xs == 0) ≡ is_empty xs
-none_runs [] = refl
-none_runs (t ∷ ts) = ne_eqb (length (t ∷ ts)) 0 (λ e. omega (arith, e))
-
-may_take-table : (s : SceneParts) (h : List Entry) (lane : LaneId) (d : Demand) → d.agent.0 < length s.agents → may_take_by s (counts (key_number s) h (keys s)) lane d ≡ may_take s h lane d
-may_take-table s h lane d known = ap (λ b. serves s lane (key_of s d.agent) && b) (ap (λ n. n == 0) (count_at (key_number s) h (keys s) (key_of s d.agent).0 (key_in_range s d.agent known)) ∙ none_runs (running_with s h (key_of s d.agent)))
-
-pub find-table : (s : SceneParts) (h : List Entry) (lane : LaneId) (ds : List Demand) → AllByRecursion (λ d. d.agent.0 < length s.agents) ds → find (may_take_by s (counts (key_number s) h (keys s)) lane) ds ≡ find (may_take s h lane) ds
-find-table s h lane [] known = refl
-find-table s h lane (d ∷ ds) known = rw (may_take-table s h lane d known.0, find-table s h lane ds known.1) refl
-
--- what is picked is the first of its queue and priority
-find_narrower : (p q : Demand → Bool) (ds : List Demand) (d : Demand) → ((x : Demand) → q x ≡ true → p x ≡ true) → q d ≡ true → find p ds ≡ Some d → find q ds ≡ Some d
-find_narrower p q [] d wider it is = cc
-find_narrower p q (x ∷ ds) d wider it is =
-    elim (cases_Bool (p x)) [
-      | inl t ↦ (let some = (rw t at is) in let same : x ≡ d = cc in rw (same, it) refl)
-      | inr f ↦
-          (let some = (rw f at is) in
-          let off : q x ≡ false = elim (cases_Bool (q x)) [ inl y ↦ absurd (false≢true (sym f ∙ wider x y)) | inr o ↦ o ] in
-          rw off (find_narrower p q ds d wider it some))
-    ]
-
-same_queue : (s : SceneParts) (d x : Demand) → is_beside s d x ≡ true → key_of s x.agent ≡ key_of s d.agent
-same_queue s d x beside =
-    let at : place_of s x ≡ place_of s d = eqb-true (place_of s x) (place_of s d) beside in
-    let one = low s x.agent in
-    let two = low s d.agent in
-    let number : (key_of s x.agent).0 ≡ (key_of s d.agent).0 = omega (arith, one, two) in
-    ap (λ n. record { 0 = n }) number
-
-pub picked_first : (s : SceneParts) (h : List Entry) (lane : LaneId) (d : Demand) → pick s h lane ≡ Some d → find (is_beside s d) (waiting s h) ≡ Some d
-picked_first s h lane d picks =
-    let is = (picked s h lane d picks).1 in
-    find_narrower (may_take s h lane) (is_beside s d) (waiting s h) d
-    (λ x beside. ap (λ k. serves s lane k && is_empty (running_with s h k)) (same_queue s d x beside) ∙ may_be_taken s h lane (waiting s h) d is)
-    (eq-eqb (place_of s d) (place_of s d) refl) is

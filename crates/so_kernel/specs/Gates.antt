@@ -77,13 +77,13 @@ entries other = 0
 abbrev pub begin_by : Core → PartyId → LaneId → Option Entry
 begin_by k by lane = option_map (λ d. record { by = by; kind = taking k.scene k.history lane d }) (pick k.scene k.history lane)
 
--- a turn that is held is running, and its frame is the one that the history gives
+-- a turn that is held is running, is thread-safe as it began, and has the frame that the history gives
 pub record IsHeld (s : SceneParts) (h : List Entry) (t : Turn) : Type 0 where
   pub turn : Started
   pub runs : turn_at h t.begun.0 ≡ Some turn
   pub by : turn.by ≡ t.by
   pub lane : turn.lane ≡ t.lane
-  pub course : course s h t.begun.0 ≡ Some (record { agent = t.agent; event = t.event; frame = t.frame })
+  pub course : course s h t.begun.0 ≡ Some (record { agent = t.agent; safe = t.safe; event = t.event; frame = t.frame })
 
 -- a turn that has made this move: its frame is the one after the move
 pub record HasMoved (s : SceneParts) (h : List Entry) (t : Turn) (move : Move) : Type 0 where

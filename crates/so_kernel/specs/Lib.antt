@@ -1,5 +1,6 @@
 pub mod Shapes
 pub mod States
+pub mod Classes
 pub mod Tables
 pub mod Kept
 pub mod Gates

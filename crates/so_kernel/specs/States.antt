@@ -1,5 +1,5 @@
 -- In which state each agent is, as the kernel keeps it.
-use Rattle.std.specs.Prelude.{◌≡◌, ℕ, ◌<◌, List, [], ◌∷◌, length, Bool, ◌==◌, if◌then◌else◌, slice_index_or, replicate, None, unwrap_or}
+use Rattle.std.specs.Prelude.{◌≡◌, ℕ, ◌<◌, List, [], ◌∷◌, length, ◌==◌, if◌then◌else◌, slice_index_or, replicate, None, unwrap_or}
 use Rattle.so_ids.specs.declared.AgentId.{AgentId}
 use Rattle.so_ids.specs.declared.StateId.{StateId}
 use Rattle.so_lists.specs.Lists.{head}

@@ -73,6 +73,8 @@ pub struct Turn {
     pub by: PartyId,
     pub lane: LaneId,
     pub agent: AgentId,
+    /// It may overlap with other thread-safe turns, and leaves the variables of its agent as they are.
+    pub safe: bool,
     /// By what its event is looked up, `None` where it began with none.
     pub event: Option<EventSource>,
     pub frame: Frame,

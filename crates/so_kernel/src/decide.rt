@@ -108,7 +108,7 @@ impl<'a> Kernel<'a> {
         ensures { result ≡ pick self.now.scene self.now.history lane }
     {
         if self.tables.lanes.is_free(lane.0) {
-            self.tables.events.pick(lane)
+            self.tables.events.pick(self, lane)
         } else {
             None
         }
@@ -192,7 +192,7 @@ fn queued_by(answer: Answer) -> u32
 }
 
 /// Why a demand with this opening begins no turn, `None` where it begins one.
-fn skipped(opening: Opening) -> Option<SkipWhy>
+pub(crate) fn skipped(opening: Opening) -> Option<SkipWhy>
     ensures { result ≡ skipped opening }
 {
     match opening {

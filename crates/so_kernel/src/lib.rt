@@ -5,6 +5,7 @@
 #![tactic(auto)]
 
 mod answers;
+mod classes;
 mod decide;
 mod delivery;
 mod kernel;

@@ -1,10 +1,11 @@
 //! What the steps look up: tables that stand for what the history says. A table knows no history.
 
-ghost use Rattle.std.specs.Prelude.{◌≡◌, ◌<◌, ◌≤◌, ◌+◌, ◌^◌, [], length, map, None, Some, IfOk};
+ghost use Rattle.std.specs.Prelude.{◌≡◌, ◌<◌, ◌≤◌, ◌+◌, ◌-◌, ◌^◌, [], length, map, true, None, Some, IfOk};
 ghost use Rattle.std.specs.List.{All, find};
 ghost use Rattle.so_ids.specs.declared.Queued.{Queued as Event};
-ghost use Rattle.so_scene.specs.Lanes.{keys};
-ghost use Rattle.so_events.specs.Events.{turns_with, is_beside};
+ghost use Rattle.so_scene.specs.Lanes.{lanes, keys};
+ghost use Rattle.so_events.specs.Events.{turns_of, is_beside};
+ghost use Rattle.so_events.specs.Tied.{overlaps};
 ghost use Rattle.so_scene.specs.Parts.{agents_from, rows_of, filters_of};
 ghost use Rattle.so_scene.specs.Definition.{filter_fault_of};
 ghost use Rattle.so_scene.specs.Subscriptions.{filter_of};
@@ -94,28 +95,31 @@ impl<'a> Tables<'a> {
         self.marks.present = true;
     }
 
-    /// After a Begin.
-    pub fn begun(&mut self, place: Place, lane: LaneId, key: KeyId, demand: Demand)
-        requires lane { lane.0 < length self.old.lanes }
+    /// After a Begin, of a thread-safe turn or of another.
+    pub fn begun(&mut self, place: Place, lane: LaneId, safe: bool, key: KeyId, demand: Demand)
+        requires slot { lane.0 < length self.old.lanes }
+        requires lane { lane.0 < lanes self.old.events.scene }
         requires key { key.0 < keys self.old.events.scene }
-        requires free { turns_with self.old.events.running key ≡ 0 }
+        requires overlap { safe ≡ true → overlaps self.old.events.scene key.0 ≡ true }
+        requires few { turns_of safe self.old.events key < 2 ^ 32 - 1 }
         requires first { find (is_beside self.old.events.scene demand) self.old.events.waiting ≡ Some demand }
         requires room { HasRoom self.old 0 }
-        ensures { self.new ≡ after_begin place lane key demand self.old }
+        ensures { self.new ≡ after_begin place lane safe key demand self.old }
     {
-        self.events.take(demand);
+        self.events.take(lane, demand);
         self.lanes.start(lane.0, place);
-        self.events.started(key);
+        self.events.started(key, safe);
         self.units += 1;
     }
 
-    /// After a demand that begins no turn.
-    pub fn skipped(&mut self, demand: Demand)
+    /// After a lane took a demand that begins no turn.
+    pub fn skipped(&mut self, lane: LaneId, demand: Demand)
+        requires lane { lane.0 < lanes self.old.events.scene }
         requires first { find (is_beside self.old.events.scene demand) self.old.events.waiting ≡ Some demand }
         requires room { HasRoom self.old 0 }
-        ensures { self.new ≡ after_skip demand self.old }
+        ensures { self.new ≡ after_skip lane demand self.old }
     {
-        self.events.take(demand);
+        self.events.take(lane, demand);
         self.units += 1;
     }
 
@@ -207,18 +211,19 @@ impl<'a> Tables<'a> {
         self.units += 1;
     }
 
-    /// After the End of an agent's turn that runs on a lane and with a queue, with the variables that it leaves.
-    pub fn ended(&mut self, lane: LaneId, key: KeyId, agent: AgentId, vars: Vars)
+    /// After the End of an agent's turn that runs on a lane and with a queue, with the variables that it leaves: a
+    /// thread-safe one, or another.
+    pub fn ended(&mut self, lane: LaneId, safe: bool, key: KeyId, agent: AgentId, vars: Vars)
         requires lane { lane.0 < length self.old.lanes }
         requires key { key.0 < keys self.old.events.scene }
-        requires runs { 0 < turns_with self.old.events.running key }
+        requires runs { 0 < turns_of safe self.old.events key }
         requires agent { agent.0 < length self.old.variables }
         requires room { HasRoom self.old 0 }
-        ensures { self.new ≡ after_end lane key agent vars self.old }
+        ensures { self.new ≡ after_end lane safe key agent vars self.old }
     {
-        self.variables.set(agent, vars);
+        self.variables.bring_back(safe, agent, vars);
         self.lanes.end(lane.0);
-        self.events.ended(key);
+        self.events.ended(key, safe);
         self.units += 1;
     }
 

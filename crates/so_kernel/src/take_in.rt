@@ -10,6 +10,7 @@ ghost use Rattle.so_scene.specs.Parts.{rows_of, filters_of, mboxes};
 ghost use Rattle.so_history.specs.declared.entry.AbortCause.{AbortCause as AnyAbort};
 ghost use Rattle.so_history.specs.declared.entry.StopCause.{StopCause as AnyStop};
 ghost use Rattle.so_history.specs.Demands.{payload_of};
+ghost use Rattle.so_history.specs.Safety.{is_safe};
 ghost use Rattle.so_history.specs.Turns.{vars};
 ghost use Rattle.so_history.specs.Order.{pick, opening_of, taking};
 ghost use Rattle.so_history.specs.Steps.{NamesEffect, answer_of};
@@ -56,14 +57,16 @@ impl<'a> Kernel<'a> {
     {
         let begun = Place(self.history.len());
         let key = self.scene.key(demand.agent);
+        let safe = self.begins_safe(demand);
         let frame = self.begin_frame(demand);
-        self.tables.begun(begun, lane, key, demand);
+        self.tables.begun(begun, lane, safe, key, demand);
         self.history.push(entry);
         Turn {
             begun,
             by: entry.by,
             lane,
             agent: demand.agent,
+            safe,
             event: source_of(demand.kind),
             frame,
         }
@@ -77,8 +80,16 @@ impl<'a> Kernel<'a> {
         requires ready { IsReady self.old entry }
         ensures { self.new ≡ core_after self.old (Ok entry) }
     {
-        self.tables.skipped(demand);
+        self.tables.skipped(lane, demand);
         self.history.push(entry);
+    }
+
+    /// Tells whether the turn that begins with a demand is thread-safe.
+    fn begins_safe(&self, demand: Demand) -> bool
+        requires { demand.agent.0 < length self.now.scene.agents }
+        ensures { result ≡ is_safe self.now.scene demand.agent (opening_of self.now.scene self.now.history demand) }
+    {
+        self.is_safe(demand.agent, self.opening_of(demand))
     }
 
     /// The frame of a turn that begins with a demand.
@@ -258,7 +269,7 @@ impl<'a> Kernel<'a> {
     {
         let key = self.scene.key(turn.agent);
         self.tables
-            .ended(turn.lane, key, turn.agent, turn.frame.vars);
+            .ended(turn.lane, turn.safe, key, turn.agent, turn.frame.vars);
         self.history.push(entry);
     }
 

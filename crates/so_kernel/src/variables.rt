@@ -1,7 +1,7 @@
 //! The variables of the agents, as their last turns left them.
 
 ghost use Rattle.std.specs.Prelude.{◌≡◌, ◌<◌, length, IfOk, slice_index_or, slice_set};
-ghost use Rattle.so_kernel.specs.Tables.{initial};
+ghost use Rattle.so_kernel.specs.Tables.{initial, brought_back};
 ghost use Rattle.so_ids.specs.declared.Vars.{Vars as AnyVars};
 
 use so_ids::{AgentId, NoMemory, Vars};
@@ -56,6 +56,16 @@ impl Variables {
         ensures { (default : AnyVars) → result ≡ slice_index_or self.now agent.0 default }
     {
         self.list[agent.0 as usize]
+    }
+
+    /// A turn of the agent has ended with these variables, which it brings back unless it is thread-safe.
+    pub fn bring_back(&mut self, safe: bool, agent: AgentId, vars: Vars)
+        requires { agent.0 < length self.old }
+        ensures { self.new ≡ brought_back safe agent vars self.old }
+    {
+        if !safe {
+            self.set(agent, vars);
+        }
     }
 
     /// They are these now.

@@ -1,4 +1,4 @@
-use Rattle.std.proofs.Common.{◌≡◌, ◌+◌, ◌<◌, length, arith, sym, ◌∙◌, ap}
+use Rattle.std.proofs.Common.{◌+◌, length, arith, ◌∙◌, ap}
 use Rattle.so_scene.specs.Parts.{agents_from}
 use Rattle.so_scene.specs.declared.parts.SceneParts.{SceneParts}
 use Rattle.so_mbox.specs.Table.{Subscriptions, after_leave}

@@ -1,4 +1,4 @@
-use Rattle.std.proofs.Common.{◌≡◌, ◌<◌, refl, sym, ◌∙◌, subst, ap, arith}
+use Rattle.std.proofs.Common.{◌≡◌, ◌<◌, refl, sym, ◌∙◌, subst, ap}
 use Rattle.so_code.specs.declared.effect.Move.{Move}
 use Rattle.so_code.specs.declared.effect.Move.TheVariants.{Done}
 use Rattle.so_code.specs.declared.frame.Frame.{Frame}
@@ -10,8 +10,9 @@ use Rattle.so_kernel.specs.Shapes.{Core}
 use Rattle.so_kernel.specs.Tables.{after_end}
 use Rattle.so_kernel.specs.Gates.{HasMoved}
 use Rattle.so_kernel.proofs.KeptLaws.{kept_after, has_room, has_place, going}
-use Rattle.so_kernel.proofs.TableLaws.{tables-end, count_runs}
-use Rattle.so_kernel.proofs.HeldLaws.{held_agent, held_whose}
+use Rattle.so_kernel.proofs.CountLaws.{some_of}
+use Rattle.so_kernel.proofs.TableLaws.{tables-end}
+use Rattle.so_kernel.proofs.HeldLaws.{held_agent, held_whose, held_safe}
 use Rattle.so_kernel.proofs.StateLaws.{stands_same}
 use Rattle.so_kernel.proofs.kernel.Kernel.add_end.Goals as goal
 
@@ -42,8 +43,9 @@ ended-requires-clause-runs c =
     let P : Core → Type 0 = λ k. HasMoved k.scene k.history c.args.turn.now Done in
     let moved : HasMoved c.self.inside.scene.now c.self.inside.history.entries c.args.turn.now Done = subst P (sym c.self.view_is) c.requires.moved in
     let whose = held_whose c.self.inside.scene.now c.self.inside.history.entries _ moved.held in
-    let one = count_runs c.self.inside.scene.now c.self.inside.history.entries c.args.turn.now.begun moved.held.turn (turn_agent c.self.inside.scene.now c.self.inside.history.entries c.args.turn.now.begun.0 moved.held.turn c.self.invariant.0.scene c.self.invariant.0.legal moved.held.runs) c.self.invariant.0.legal moved.held.runs in
-    rw (c.self.invariant.0.tables, c.key-key.ensures.value, ← whose, one) (omega arith)
+    let known = turn_agent c.self.inside.scene.now c.self.inside.history.entries c.args.turn.now.begun.0 moved.held.turn c.self.invariant.0.scene c.self.invariant.0.legal moved.held.runs in
+    let some = some_of c.self.inside.scene.now c.self.inside.history.limit c.self.inside.history.entries c.args.turn.now.begun moved.held.turn c.args.turn.now.safe c.self.invariant.0.legal moved.held.runs known (held_safe c.self.inside.scene.now c.self.inside.history.entries _ moved.held) in
+    rw (c.self.invariant.0.tables, c.key-key.ensures.value, ← whose) some
 
 pub ended-requires-clause-agent : goal.ended-requires-clause-agent
 ended-requires-clause-agent c =
@@ -58,12 +60,12 @@ invariant_of-self c =
     let in_range : moved.held.turn.lane.0 < lanes c.self.inside.scene.now = turn_in_range c.self.inside.scene.now c.self.inside.history.entries c.args.turn.now.begun.0 moved.held.turn c.self.invariant.0.legal moved.held.runs in
     let whose = held_whose c.self.inside.scene.now c.self.inside.history.entries _ moved.held in
     let known = held_agent c.self.inside.scene.now c.self.inside.history.entries _ c.self.invariant.0.scene c.self.invariant.0.legal moved.held in
-    let before : Course = record { agent = c.args.turn.now.agent; event = c.args.turn.now.event; frame = moved.before } in
+    let before : Course = record { agent = c.args.turn.now.agent; safe = c.args.turn.now.safe; event = c.args.turn.now.event; frame = moved.before } in
     let vars : (move_of c.self.inside.scene.now before).1.vars ≡ c.args.turn.now.frame.vars = ap (λ (p : Move × Frame). p.1.vars) moved.moves in
     let kept = kept_after c.args.entry c.ended.new.self c.self.invariant.0 (rw c.self.view_is c.requires.ready)
     (c.ended.ensures
-    ∙ (ap (λ k. after_end c.args.turn.now.lane k c.args.turn.now.agent c.args.turn.now.frame.vars c.self.inside.tables) (c.key-key.ensures.value ∙ ap (key_of c.self.inside.scene.now) (sym whose))
-    ∙ (ap (λ l. after_end l (key_of c.self.inside.scene.now moved.held.turn.agent) c.args.turn.now.agent c.args.turn.now.frame.vars c.self.inside.tables) (sym moved.held.lane)
-    ∙ (ap (λ v. after_end moved.held.turn.lane (key_of c.self.inside.scene.now moved.held.turn.agent) c.args.turn.now.agent v c.self.inside.tables) (sym vars)
-    ∙ rw c.self.invariant.0.tables (sym (tables-end c.self.inside.scene.now c.self.inside.history.limit c.self.inside.history.entries c.args.entry c.args.turn.now.begun moved.held.turn before c.requires.is c.self.invariant.0.legal in_range moved.held.runs moved.held.course whose known (going c.args.entry c.self.invariant.0 (rw c.self.view_is c.requires.ready)))))))) in
+    ∙ (ap (λ k. after_end c.args.turn.now.lane c.args.turn.now.safe k c.args.turn.now.agent c.args.turn.now.frame.vars c.self.inside.tables) (c.key-key.ensures.value ∙ ap (key_of c.self.inside.scene.now) (sym whose))
+    ∙ (ap (λ l. after_end l c.args.turn.now.safe (key_of c.self.inside.scene.now moved.held.turn.agent) c.args.turn.now.agent c.args.turn.now.frame.vars c.self.inside.tables) (sym moved.held.lane)
+    ∙ (ap (λ v. after_end moved.held.turn.lane c.args.turn.now.safe (key_of c.self.inside.scene.now moved.held.turn.agent) c.args.turn.now.agent v c.self.inside.tables) (sym vars)
+    ∙ rw c.self.invariant.0.tables (sym (tables-end c.self.inside.scene.now c.self.inside.history.limit c.self.inside.history.entries c.args.entry c.args.turn.now.begun moved.held.turn before c.requires.is c.self.invariant.0.legal in_range moved.held.runs moved.held.course whose (held_safe c.self.inside.scene.now c.self.inside.history.entries _ moved.held) known (going c.args.entry c.self.invariant.0 (rw c.self.view_is c.requires.ready)))))))) in
     rw (c.push.ensures.entries, c.push.ensures.limit) (kept, c.self.invariant.1, stands_same c.self.inside.scene.now c.self.inside.history.entries c.args.entry c.self.inside.states (λ a l. rw c.requires.is refl) c.self.invariant.2)

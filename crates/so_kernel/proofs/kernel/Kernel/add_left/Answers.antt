@@ -1,4 +1,4 @@
-use Rattle.std.proofs.Common.{◌≡◌, ◌+◌, ◌≤◌, length, refl, sym, ◌∙◌, ap}
+use Rattle.std.proofs.Common.{refl, sym, ◌∙◌}
 use Rattle.so_kernel.proofs.KeptLaws.{kept_after, has_room, has_place, going, left_one, left_coop}
 use Rattle.so_kernel.proofs.TableLaws.{tables-left}
 use Rattle.so_kernel.proofs.StateLaws.{stands_same}

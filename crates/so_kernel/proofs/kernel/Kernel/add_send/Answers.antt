@@ -1,15 +1,11 @@
-use Rattle.std.proofs.Common.{◌≡◌, ◌+◌, ◌<◌, ◌≤◌, length, map, refl, sym, ◌∙◌, ap, subst}
+use Rattle.std.proofs.Common.{◌≡◌, ◌+◌, ◌<◌, length, refl, sym, ◌∙◌, ap, subst}
 use Rattle.so_code.specs.declared.effect.Effect.TheVariants as effect
-use Rattle.so_ids.specs.declared.Queued.{Queued}
 use Rattle.so_ids.specs.declared.Target.TheVariants.{Mbox}
-use Rattle.so_scene.specs.Parts.{mboxes}
 use Rattle.so_scene.specs.Delivery.{events}
 use Rattle.so_history.specs.Delivery.{delivered}
-use Rattle.so_history.specs.Demands.{ask}
 use Rattle.so_deliver.specs.Planned.{OutcomeTable}
 use Rattle.so_kernel.specs.Shapes.{Core}
 use Rattle.so_kernel.specs.Gates.{IsActOf}
-use Rattle.so_kernel.specs.Tables.{queued}
 use Rattle.so_kernel.proofs.KeptLaws.{is_later, kept_after, has_room, has_place, going}
 use Rattle.so_kernel.proofs.MboxLaws.{same_delivery, events_known}
 use Rattle.so_kernel.proofs.TableLaws.{tables-send, cost-sent}

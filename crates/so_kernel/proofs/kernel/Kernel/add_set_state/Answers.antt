@@ -1,4 +1,4 @@
-use Rattle.std.proofs.Common.{◌≡◌, ◌<◌, length, refl, sym, ◌∙◌, subst}
+use Rattle.std.proofs.Common.{◌<◌, length, refl, sym, ◌∙◌, subst}
 use Rattle.so_code.specs.declared.effect.Effect.TheVariants as effect
 use Rattle.so_history.specs.Leaves.{leaves}
 use Rattle.so_kernel.specs.Shapes.{Core}

@@ -1,4 +1,4 @@
-use Rattle.std.proofs.Common.{◌≡◌, ◌<◌, length, refl, sym, ◌∙◌, ap, subst}
+use Rattle.std.proofs.Common.{◌≡◌, ◌<◌, length, sym, ◌∙◌, ap, subst}
 use Rattle.so_kernel.specs.Shapes.{Core}
 use Rattle.so_history.specs.Leaves.{leaves, leaf_of}
 use Rattle.so_scene.specs.declared.parts.AgentDef.{AgentDef}
