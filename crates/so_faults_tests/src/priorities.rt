@@ -323,10 +323,7 @@ static FIELDS: [(&str, &str); 8] = [
         r#"[{"name":"p","kind":"one_per_prio"}]"#,
         r#","disp":"p","priority":0"#,
     ),
-    (
-        "[]",
-        r#","priority":3,"start":[["set","v0",1]]"#,
-    ),
+    ("[]", r#","priority":3,"start":[["set","v0",1]]"#),
     (
         "[]",
         r#","on":[{"msg":"x","safe":false,"switch":"default"}]"#,

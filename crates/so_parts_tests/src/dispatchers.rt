@@ -43,11 +43,7 @@ static LANES: [(&str, &str, u32); 14] = [
         "",
         2,
     ),
-    (
-        "[{\"name\":\"p\",\"kind\":\"adv_thread_pool\"}]",
-        "",
-        5,
-    ),
+    ("[{\"name\":\"p\",\"kind\":\"adv_thread_pool\"}]", "", 5),
     (
         "[{\"name\":\"p\",\"kind\":\"adv_thread_pool\",\"threads\":2,\"fifo\":\"individual\"}]",
         ",\"disp\":\"p\"",
@@ -63,11 +59,7 @@ static LANES: [(&str, &str, u32); 14] = [
         ",\"disp\":\"p\",\"priority\":7",
         2,
     ),
-    (
-        "[{\"name\":\"p\",\"kind\":\"one_per_prio\"}]",
-        "",
-        9,
-    ),
+    ("[{\"name\":\"p\",\"kind\":\"one_per_prio\"}]", "", 9),
     (
         "[{\"name\":\"p\",\"kind\":\"one_per_prio\"}]",
         ",\"disp\":\"p\"},{\"name\":\"d\",\"disp\":\"p\"",

@@ -12,12 +12,42 @@ static LEVELS: &str =
 
 /// The kind, threads, parameter and quotes of each dispatcher.
 static DISPS: [(DispKind, u32, Fifo, [u32; 8]); 6] = [
-    (DispKind::OneThread, 4, Fifo::Cooperation, [20, 20, 20, 20, 20, 20, 20, 20]),
-    (DispKind::StrictlyOrdered, 4, Fifo::Cooperation, [20, 20, 20, 20, 20, 20, 20, 20]),
-    (DispKind::QuotedRoundRobin, 4, Fifo::Cooperation, [1, 2, 3, 4, 5, 6, 7, 1000]),
-    (DispKind::OnePerPrio, 4, Fifo::Cooperation, [20, 20, 20, 20, 20, 20, 20, 20]),
-    (DispKind::AdvThreadPool, 2, Fifo::Individual, [20, 20, 20, 20, 20, 20, 20, 20]),
-    (DispKind::QuotedRoundRobin, 4, Fifo::Cooperation, [20, 20, 20, 20, 20, 20, 20, 20]),
+    (
+        DispKind::OneThread,
+        4,
+        Fifo::Cooperation,
+        [20, 20, 20, 20, 20, 20, 20, 20],
+    ),
+    (
+        DispKind::StrictlyOrdered,
+        4,
+        Fifo::Cooperation,
+        [20, 20, 20, 20, 20, 20, 20, 20],
+    ),
+    (
+        DispKind::QuotedRoundRobin,
+        4,
+        Fifo::Cooperation,
+        [1, 2, 3, 4, 5, 6, 7, 1000],
+    ),
+    (
+        DispKind::OnePerPrio,
+        4,
+        Fifo::Cooperation,
+        [20, 20, 20, 20, 20, 20, 20, 20],
+    ),
+    (
+        DispKind::AdvThreadPool,
+        2,
+        Fifo::Individual,
+        [20, 20, 20, 20, 20, 20, 20, 20],
+    ),
+    (
+        DispKind::QuotedRoundRobin,
+        4,
+        Fifo::Cooperation,
+        [20, 20, 20, 20, 20, 20, 20, 20],
+    ),
 ];
 
 #[test]

@@ -1023,7 +1023,7 @@ is_agent b coop a h =
       disp = on;
       group = subst (λ k. IsGroup k (length (scene_groups (parts b coop) a.disp)) a.group) (kind_there b.dispatchers a.disp.0)
           (subst (λ names. IsGroup (slice_index_or (map disp_kind b.dispatchers) a.disp.0 OneThread) (length names) a.group) (sym (groups_there b coop a.disp on)) h.group);
-          vars = h.vars;
+      vars = h.vars;
       numbers = h.numbers;
       tree = h.tree;
       no_limits = h.no_limits;
