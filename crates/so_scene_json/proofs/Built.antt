@@ -1,13 +1,11 @@
 -- What the four passes leave is what a scene keeps.
-use Rattle.std.proofs.Common.{◌≡◌, ℕ, zero, suc, cond, append-nil, take, ◌+◌, ◌-◌, ◌<◌, ◌≤◌, ◌^◌, get_or, List, [], ◌∷◌, ◌++◌, length, map, Bool, true, false, not, ◌&&◌, ◌||◌, Option, Some, None, option_and_then, Result, Ok, Err, refl, sym, ap, ◌∙◌, subst, arith, codes, if◌then◌else◌, nat_le, nat_lt, is_some, length-append, append_assoc, bytes_eq}
+use Rattle.std.proofs.Common.{◌≡◌, ℕ, zero, suc, ◌+◌, ◌-◌, ◌<◌, ◌≤◌, ◌^◌, get_or, List, [], ◌∷◌, ◌++◌, length, map, Bool, true, false, not, ◌&&◌, ◌||◌, Option, Some, None, option_and_then, Result, Ok, Err, refl, sym, ap, ◌∙◌, subst, arith, codes, if◌then◌else◌, nat_le, nat_lt, is_some, length-append, append_assoc, bytes_eq}
 use Rattle.std.proofs.Math.Nat.{min-le_left}
 use Rattle.std.proofs.lemmas.Bool.{true≢false, leb-true, ltb-false}
-use Rattle.std.proofs.Math.Seq.{take-suc}
-use Rattle.std.proofs.lemmas.List.{map_push, take_all}
-use Rattle.std.proofs.lemmas.List.Elements.{filter-append, filter_map-append}
+use Rattle.std.proofs.lemmas.List.{map_push}
 use Rattle.std.proofs.lemmas.List.Quantifiers.{position-Some}
 use Rattle.std.specs.Prelude.{slice_index_or, ◌==◌}
-use Rattle.std.specs.List.{range_with_len, All, AllByRecursion, IsDistinct, list_any, filter, filter_map}
+use Rattle.std.specs.List.{range_with_len, All, AllByRecursion, IsDistinct, list_any, filter}
 use Rattle.serde_json.specs.Data.{Data, Items, no_items, item}
 use Rattle.serde_json.specs.Events.{items_len}
 use Rattle.serde_json.specs.Find.{get, get_item, as_str}
@@ -15,14 +13,14 @@ use Rattle.so_ids.specs.declared.AgentId.{AgentId}
 use Rattle.so_ids.specs.declared.DispId.{DispId}
 use Rattle.so_ids.specs.declared.MboxId.{MboxId}
 use Rattle.so_code.specs.Shape.{agent_bodies}
-use Rattle.so_lists.specs.Lists.{is_empty, head, each_below, given_after, AreNumbered}
-use Rattle.so_lists.proofs.EachBelow.{length-each_below, get_or-each_below, each_below-elements}
-use Rattle.so_lists.proofs.Filters.{each-append, each-weaker, filter-short, filter_map-short, ap2_append}
+use Rattle.so_lists.specs.Lists.{is_empty, head, given_after, AreNumbered}
+use Rattle.so_lists.proofs.EachBelow.{length-each_below, get_or-each_below}
+use Rattle.so_lists.proofs.Filters.{each-append, each-weaker, filter-short, filter_map-short}
 use Rattle.so_lists.proofs.Given.{given-append, given-few}
 use Rattle.so_lists.proofs.First.{none-first_below}
-use Rattle.so_scene.specs.Checked.{IsAgent, IsCoop, IsDisp, IsGroup, AreGroups, IsScene, IsKind, HasNoLimit, has_handler, handlers_from, row_number, given, filter_ids, filter_id, is_pool, has_quotes, IsQuote, group_uses, text_uses, texts_to}
+use Rattle.so_scene.specs.Checked.{IsAgent, IsCoop, IsDisp, IsGroup, AreGroups, IsScene, IsKind, HasNoLimit, has_handler, handlers_from, row_number, given, filter_ids, filter_id, is_pool, has_quotes, IsQuote, text_uses}
 use Rattle.so_scene.specs.Definition.{definition_fault}
-use Rattle.so_scene.specs.Lanes.{AreBound, agent_number, lanes}
+use Rattle.so_scene.specs.Lanes.{AreBound, lanes}
 use Rattle.so_code.specs.declared.instr.Instr.{Instr}
 use Rattle.so_ids.specs.declared.RowId.{RowId}
 use Rattle.so_ids.specs.declared.StateId.{StateId}
@@ -32,7 +30,7 @@ use Rattle.so_state.specs.declared.states.State.{State}
 use Rattle.so_state.specs.Fault.{tree_fault}
 use Rattle.so_state.specs.States.{default_state}
 use Rattle.so_scene.specs.Names.{has_name, number_in}
-use Rattle.so_scene.specs.Parts.{message_name, agent_name, disp_name, default_disp, no_agent, agent_of as scene_agent, groups_of as scene_groups}
+use Rattle.so_scene.specs.Parts.{message_name, agent_name, disp_name, default_disp, no_agent, groups_of as scene_groups}
 use Rattle.so_scene.specs.Words.{is_name, is_text}
 use Rattle.so_scene.specs.Written.{IsNumber, HasParent, IsWrittenAmong, is_state_name, AreSafe}
 use Rattle.so_scene.proofs.DispLaws.{default_is_disp}

@@ -10,7 +10,7 @@ use Rattle.serde_json.specs.Events.{items_len}
 use Rattle.serde_json.specs.Find.{as_str, as_array, get}
 use Rattle.so_scene.specs.Checked.{given}
 use Rattle.so_scene.specs.declared.parts.DispKind.{DispKind}
-use Rattle.so_scene.specs.declared.parts.DispKind.TheVariants.{OneThread, ActiveGroup}
+use Rattle.so_scene.specs.declared.parts.DispKind.TheVariants.{ActiveGroup}
 use Rattle.so_scene.specs.Faults.{spelling}
 use Rattle.so_scene.specs.Names.{has_name}
 use Rattle.so_scene.specs.Words.{is_name}
