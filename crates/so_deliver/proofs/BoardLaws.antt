@@ -1,7 +1,8 @@
 -- The scene of the tests is a scene.
-use Rattle.std.proofs.Common.{◌≡◌, ℕ, zero, suc, ◌<◌, ◌+◌, get_or, inl, List, [], ◌∷◌, map, None, arith, refl, rules}
+use Rattle.std.proofs.Common.{◌≡◌, ℕ, zero, suc, ◌<◌, ◌+◌, get_or, inl, List, [], ◌∷◌, map, None, arith, refl, sym, rules}
 use Rattle.std.specs.Prelude.{ℤ, Bool, true, ◌≤◌}
 use Rattle.std.specs.List.{AllByRecursion, IsDistinct}
+use Rattle.std.proofs.lemmas.Bool.{true≢false}
 use Rattle.std.proofs.lemmas.List.Elements.{All-from_recursion, All-nil}
 use Rattle.so_ids.specs.declared.DispId.{DispId}
 use Rattle.so_lists.specs.Lists.{each_below}
@@ -11,9 +12,10 @@ use Rattle.so_code.specs.Shape.{IsCode}
 use Rattle.so_state.specs.declared.choice.Row.{Row}
 use Rattle.so_state.specs.declared.choice.RowKind.{RowKind}
 use Rattle.so_scene.specs.Checked.{IsScene, IsAgent, IsRow, IsKind, HasNoLimit, has_handler, IsFilter, IsCoop, IsDisp, AreGroups, NamesParts}
+use Rattle.so_scene.proofs.DispLaws.{default_is_disp}
 use Rattle.so_scene.specs.Words.{is_name, is_text}
 use Rattle.so_scene.specs.Written.{is_state_name, HasParent, IsNumber, IsWritten}
-use Rattle.so_scene.specs.Parts.{message_name, no_agent, default_disp}
+use Rattle.so_scene.specs.Parts.{message_name, no_agent}
 use Rattle.so_scene.specs.Lanes.{lanes, lane_list}
 use Rattle.so_state.specs.States.{default_state}
 use Rattle.so_state.proofs.TreeFacts.{IsTree-flat}
@@ -41,7 +43,7 @@ admitted_at (suc (suc zero)) l = refl
 admitted_at (suc (suc (suc n))) l = absurd (omega arith)
 
 is_row : (mbox msg : ℕ) (kind : RowKind) (active : Bool) → mbox < 5 → msg < 3 → IsKind 0 default_state kind → IsRow board 0 (row_for mbox msg kind active)
-is_row mbox msg kind active m g k = record { mbox = m; msg = g; state = search rules; kind = k; not_safe = refl }
+is_row mbox msg kind active m g k = record { mbox = m; msg = g; state = search rules; kind = k; safe = λ e. absurd (true≢false (sym e)) }
 
 is_filter : (mbox msg : ℕ) (cmp : Cmp) (value : ℤ) (active : Bool) → mbox < 5 → msg < 3 → IsNumber value → IsFilter board (field_test mbox msg cmp value active)
 is_filter mbox msg cmp value active m g n = record { mbox = m; msg = g; field = search rules; value = n }
@@ -59,7 +61,6 @@ is_agent name r r' mbox msg cmp value active mbox' msg' cmp' value' active' n h 
   coop = refl;
   disp = search rules;
   group = refl;
-  priority = refl;
   vars = refl;
   numbers = All-from_recursion IsNumber no_agent.vars.0 all_zero;
   tree = IsTree-flat;
@@ -82,6 +83,7 @@ is_agent name r r' mbox msg cmp value active mbox' msg' cmp' value' active' n h 
   parts = All-from_recursion (NamesParts board (agent name (r ∷ r' ∷ []) (field_test mbox msg cmp value active ∷ field_test mbox' msg' cmp' value' active' ∷ []))) idle_code (tt, (tt, (tt, (tt, tt))));
   written = All-from_recursion (IsWritten board) idle_code (tt, (tt, (tt, (tt, tt))));
   short = refl;
+  safe = (λ m. refl, (λ m. refl, (λ m. refl, (λ m. refl, tt))));
 }
 
 are_agents : AllByRecursion (IsAgent board) board.agents
@@ -97,9 +99,6 @@ are_agents = (
 )
 
 -- ---- its one dispatcher
-
-is_default : IsDisp default_disp
-is_default = record { named = refl; kind = refl; slots = refl; some_threads = search rules; few_threads = search rules; no_pool = λ e. (refl, refl); quotes = refl }
 
 no_groups : AreGroups board (record { 0 = 0 })
 unfolding IsDistinct each_below
@@ -126,7 +125,7 @@ board_is_scene = record {
   mboxes_named = All-from_recursion (λ name. is_name name ≡ true) board.mboxes (refl, (refl, tt));
   default = refl;
   few_dispatchers = search rules;
-  dispatchers = All-from_recursion IsDisp board.dispatchers (is_default, tt);
+  dispatchers = All-from_recursion IsDisp board.dispatchers (default_is_disp, tt);
   dispatcher_names = (tt, tt);
   all_groups = refl;
   groups = groups_at;

@@ -1,5 +1,5 @@
 -- How the lists of queues and lanes grow, what a number of a queue says, and that each queue is served by a lane.
-use Rattle.std.proofs.Common.{◌≡◌, ℕ, zero, suc, ◌+◌, ◌<◌, ◌≤◌, List, [], ◌∷◌, ◌++◌, length, map, Bool, true, false, Option, Some, None, arith, refl, sym, ◌∙◌, ap, add-one, cond, eq-eqb, inl, inr}
+use Rattle.std.proofs.Common.{◌≡◌, ℕ, zero, suc, ◌+◌, ◌-◌, ◌<◌, ◌≤◌, List, [], ◌∷◌, ◌++◌, length, map, Bool, true, false, Option, Some, None, arith, refl, sym, ◌∙◌, ap, add-one, cond, eq-eqb, inl, inr}
 use Rattle.std.specs.List.{filter, list_any, position, position_or_len}
 use Rattle.std.specs.Prelude.{slice_index_or, unwrap_or, replicate, ◌==◌, ◌&&◌, ◌||◌}
 use Rattle.std.specs.Cmp.Derive.{both_true}
@@ -13,6 +13,7 @@ use Rattle.so_ids.specs.declared.AgentId.{AgentId}
 use Rattle.so_ids.specs.declared.DispId.{DispId}
 use Rattle.so_ids.specs.declared.KeyId.{KeyId}
 use Rattle.so_ids.specs.declared.LaneId.{LaneId}
+use Rattle.so_ids.specs.declared.Priority.{Priority}
 use Rattle.so_lists.specs.Lists.{each_below}
 use Rattle.so_lists.proofs.Any.{any-each_below, any-filter}
 use Rattle.so_lists.proofs.EachBelow.{length-each_below, get_or-each_below, each_below-none, each_below-next, each_below-same}
@@ -28,8 +29,8 @@ use Rattle.so_scene.specs.declared.parts.DispKind.TheVariants.{OneThread, Active
 use Rattle.so_scene.specs.declared.parts.Fifo.{Fifo}
 use Rattle.so_scene.specs.declared.parts.SceneParts.{SceneParts}
 use Rattle.so_scene.specs.Parts.{no_agent, agent_of, default_disp, disp_of, groups_of}
-use Rattle.so_scene.specs.Checked.{IsScene, IsGroup, is_built, group_in, group_uses}
-use Rattle.so_scene.specs.Lanes.{part_in_pool, part_by, queue_of, same_part, same_queue, no_queue, queue_at, queues, key_of, key_at, keys, no_key, first_place, numbered, shared_lane, own_lane, agent_number, is_bound, bound_to, agent_lane, group_lane, lanes_by, lanes_of, lanes_to, lane_list, lanes, no_lane, serves_queue, serves, AreBound}
+use Rattle.so_scene.specs.Checked.{IsScene, IsGroup, group_in, group_uses}
+use Rattle.so_scene.specs.Lanes.{part_in_pool, part_by, queue_of, same_part, same_queue, no_queue, queue_at, queues, key_of, key_at, keys, no_key, first_place, numbered, shared_lane, own_lane, agent_number, is_bound, bound_to, agent_lane, group_lane, priority_lane, lanes_by, lanes_of, lanes_to, lane_list, lanes, no_lane, serves_queue, serves, AreBound}
 
 -- ---- lists that grow
 
@@ -204,7 +205,7 @@ pub record SomeLane (s : SceneParts) (a : AgentId) : Type 0 where
   pub in_range : lane.0 < lanes s
   pub serves : serves s lane (key_of s a) ≡ true
 
--- the lanes of a dispatcher that is built serve the queue of each agent bound to it
+-- the lanes of a dispatcher serve the queue of each agent bound to it
 shared_serves : (d : DispId) (p : Part) → serves_queue (shared_lane d) (record { disp = d; part = p }) ≡ true
 shared_serves d p = rw (same_number d.0) refl
 
@@ -229,16 +230,22 @@ some_group : (s : SceneParts) (d : DispId) (o : Option ℕ) → IsGroup ActiveGr
 some_group s d None is = absurd is
 some_group s d (Some g) is = any-each_below (λ lane. serves_queue lane (record { disp = d; part = part.Group g })) (group_lane d) (length (groups_of s d)) g is (own_serves d (part.Group g))
 
-some_of : (s : SceneParts) (d : DispId) (a : AgentId) (kind : DispKind) (fifo : Fifo) (threads : ℕ) → a.0 < length s.agents → is_bound s d a ≡ true → is_built kind ≡ true → 1 ≤ threads →
-    IsGroup kind (length (groups_of s d)) (agent_of s a).group → some (record { disp = d; part = part_by kind fifo a (agent_of s a) }) (lanes_by s d kind threads) ≡ true
-some_of s d a OneThread fifo threads l is built few group = rw (shared_serves d part.Whole) refl
-some_of s d a ActiveObj fifo threads l is built few group = some_own s d a l is
-some_of s d a ActiveGroup fifo threads l is built few group = some_group s d (agent_of s a).group group
-some_of s d a ThreadPool fifo threads l is built few group = some_shared d (part_in_pool fifo a (agent_of s a)) threads few
-some_of s d a AdvThreadPool fifo threads l is built few group = cc
-some_of s d a StrictlyOrdered fifo threads l is built few group = cc
-some_of s d a QuotedRoundRobin fifo threads l is built few group = cc
-some_of s d a OnePerPrio fifo threads l is built few group = cc
+some_priority : (d : DispId) (p : Priority) → some (record { disp = d; part = part.Prio p.level }) (each_below (priority_lane d) 8) ≡ true
+some_priority d p =
+    let its : 7 - (7 - p.level) ≡ p.level = omega (arith, p.in_range) in
+    let serves : serves_queue (priority_lane d (7 - p.level)) (record { disp = d; part = part.Prio p.level }) ≡ true = ap (λ n. serves_queue (own_lane d (part.Prio n)) (record { disp = d; part = part.Prio p.level })) its ∙ own_serves d (part.Prio p.level) in
+    any-each_below (λ lane. serves_queue lane (record { disp = d; part = part.Prio p.level })) (priority_lane d) 8 (7 - p.level) (omega arith) serves
+
+some_of : (s : SceneParts) (d : DispId) (a : AgentId) (kind : DispKind) (fifo : Fifo) (threads : ℕ) → a.0 < length s.agents → is_bound s d a ≡ true → 1 ≤ threads → IsGroup kind (length (groups_of s d)) (agent_of s a).group
+    → some (record { disp = d; part = part_by kind fifo a (agent_of s a) }) (lanes_by s d kind threads) ≡ true
+some_of s d a OneThread fifo threads l is few group = rw (shared_serves d part.Whole) refl
+some_of s d a ActiveObj fifo threads l is few group = some_own s d a l is
+some_of s d a ActiveGroup fifo threads l is few group = some_group s d (agent_of s a).group group
+some_of s d a ThreadPool fifo threads l is few group = some_shared d (part_in_pool fifo a (agent_of s a)) threads few
+some_of s d a AdvThreadPool fifo threads l is few group = some_shared d (part_in_pool fifo a (agent_of s a)) threads few
+some_of s d a StrictlyOrdered fifo threads l is few group = rw (shared_serves d part.Whole) refl
+some_of s d a QuotedRoundRobin fifo threads l is few group = rw (shared_serves d part.Whole) refl
+some_of s d a OnePerPrio fifo threads l is few group = some_priority d (agent_of s a).priority
 
 -- the lanes of one dispatcher are among all
 some_among : (s : SceneParts) (q : Queue) (d n : ℕ) → d < n → some q (lanes_of s (record { 0 = d })) ≡ true → some q (lanes_to s n) ≡ true
@@ -256,7 +263,7 @@ served s a scene l =
     let its = scene.agents a.0 no_agent l in
     let disp = scene.dispatchers (agent_of s a).disp.0 default_disp its.disp in
     some_among s (queue_of s a) (agent_of s a).disp.0 (length s.dispatchers) its.disp
-    (some_of s (agent_of s a).disp a (disp_of s (agent_of s a).disp).kind (disp_of s (agent_of s a).disp).fifo (disp_of s (agent_of s a).disp).threads l (same_number (agent_of s a).disp.0) disp.kind disp.some_threads its.group)
+    (some_of s (agent_of s a).disp a (disp_of s (agent_of s a).disp).kind (disp_of s (agent_of s a).disp).fifo (disp_of s (agent_of s a).disp).threads l (same_number (agent_of s a).disp.0) disp.some_threads its.group)
 
 at_place : (s : SceneParts) (a : AgentId) (k : ℕ) (x : Lane) → a.0 < length s.agents → k < length (lane_list s) → slice_index_or (lane_list s) k x ≡ x → serves_queue x (queue_of s a) ≡ true → SomeLane s a
 unfolding lanes serves

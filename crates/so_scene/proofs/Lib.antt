@@ -4,3 +4,4 @@ pub mod LaneDispatchers
 pub mod LaneLaws
 pub mod Positions
 pub mod RoundLaws
+pub mod DispLaws

@@ -14,7 +14,7 @@ use Rattle.so_code.specs.Shape.{IsCode, agent_bodies}
 use Rattle.so_scene.specs.declared.parts.CoopDef.{CoopDef}
 use Rattle.so_scene.specs.declared.parts.DispDef.{DispDef}
 use Rattle.so_scene.specs.declared.parts.DispKind.{DispKind}
-use Rattle.so_scene.specs.declared.parts.DispKind.TheVariants.{OneThread, ActiveObj, ActiveGroup, ThreadPool, AdvThreadPool}
+use Rattle.so_scene.specs.declared.parts.DispKind.TheVariants.{ActiveGroup, ThreadPool, AdvThreadPool, QuotedRoundRobin}
 use Rattle.so_scene.specs.declared.parts.Fifo.TheVariants.{Cooperation}
 use Rattle.so_scene.specs.declared.parts.FilterDef.{FilterDef}
 use Rattle.so_state.specs.declared.choice.Row.{Row}
@@ -28,7 +28,7 @@ use Rattle.so_scene.specs.declared.parts.AgentDef.{AgentDef}
 use Rattle.so_scene.specs.declared.parts.SceneParts.{SceneParts}
 use Rattle.so_scene.specs.Parts.{message_name, mbox_names, mboxes, agent_of, disp_of, disp_name, groups_of, default_disp}
 use Rattle.so_scene.specs.Words.{is_name, is_text}
-use Rattle.so_scene.specs.Written.{is_state_name, HasParent, IsNumber, IsWritten, are_short}
+use Rattle.so_scene.specs.Written.{is_state_name, HasParent, IsNumber, IsWritten, are_short, AreSafe}
 use Rattle.so_scene.specs.Lanes.{agent_number, bound_to, lanes}
 use Rattle.so_scene.specs.Definition.{definition_fault}
 
@@ -73,28 +73,29 @@ NamesWithin n other = ⊥
 
 -- ---- dispatchers
 
--- a kind of dispatcher that is built
-abbrev pub is_built : DispKind → Bool
-is_built OneThread = true
-is_built ActiveObj = true
-is_built ActiveGroup = true
-is_built ThreadPool = true
-is_built other = false
-
 abbrev pub is_pool : DispKind → Bool
 is_pool ThreadPool = true
 is_pool AdvThreadPool = true
 is_pool other = false
 
--- threads and the parameter of the queues are a pool's; slots and quotes aren't built
+abbrev pub has_quotes : DispKind → Bool
+has_quotes QuotedRoundRobin = true
+has_quotes other = false
+
+-- a quote is of 1 to 1,000 events
+abbrev pub IsQuote : ℕ → Type 0
+IsQuote n = (1 ≤ n) × (n ≤ 1000)
+
+-- threads and the parameter of the queues are a pool's, and quotes are given with quoted_round_robin alone; slots aren't built
 pub record IsDisp (d : DispDef) : Type 0 where
   pub named : is_name d.name ≡ true
-  pub kind : is_built d.kind ≡ true
   pub slots : d.slots ≡ 4096
   pub some_threads : 1 ≤ d.threads
   pub few_threads : d.threads ≤ 64
   pub no_pool : is_pool d.kind ≡ false → (d.threads ≡ 4) × (d.fifo ≡ Cooperation)
-  pub quotes : d.quotes ≡ replicate 8 20
+  pub eight : length d.quotes ≡ 8
+  pub quotes : All IsQuote d.quotes
+  pub no_quotes : has_quotes d.kind ≡ false → d.quotes ≡ replicate 8 20
 
 -- an agent on an active_group dispatcher has a group of that one, and any other has none
 abbrev pub IsGroup : DispKind → ℕ → Option ℕ → Type 0
@@ -172,13 +173,13 @@ IsKind states s (Transfer to) = to.0 ≤ states
 IsKind states s Suppress = Unit {0}
 IsKind states s Dead = s ≡ default_state
 
--- a row for messages of a type from a mbox of the scene, in a state of so many declared ones
+-- a row for messages of a type from a mbox of the scene, in a state of so many declared ones; only a handler is thread-safe
 pub record IsRow (s : SceneParts) (states : ℕ) (row : Row) : Type 0 where
   pub mbox : row.mbox.0 < mboxes s
   pub msg : row.msg.0 < length s.messages
   pub state : row.state.0 ≤ states
   pub kind : IsKind states row.state row.kind
-  pub not_safe : row.safe ≡ false
+  pub safe : row.safe ≡ true → has_handler row.kind ≡ true
 
 -- no state has a time limit, so far
 abbrev pub HasNoLimit : State → Type 0
@@ -204,7 +205,6 @@ pub record IsAgent (s : SceneParts) (a : AgentDef) : Type 0 where
   pub coop : a.coop.0 ≡ 0
   pub disp : a.disp.0 < length s.dispatchers
   pub group : IsGroup (disp_of s a.disp).kind (length (groups_of s a.disp)) a.group
-  pub priority : a.priority.level ≡ 0
   pub vars : length a.vars.0 ≡ 16
   pub numbers : All IsNumber a.vars.0
   pub tree : IsTree a.tree
@@ -227,6 +227,7 @@ pub record IsAgent (s : SceneParts) (a : AgentDef) : Type 0 where
   pub parts : All (NamesParts s a) a.code
   pub written : All (IsWritten s) a.code
   pub short : are_short 0 a.code ≡ true
+  pub safe : AreSafe a.rows a.code
 
 -- the parts are those of a scene: no name stands twice in its space, and each agent may be registered
 pub record IsScene (s : SceneParts) : Type 0 where

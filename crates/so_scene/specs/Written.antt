@@ -1,12 +1,17 @@
 -- What a file can say of an agent's numbers and acts.
-use Rattle.std.specs.Prelude.{◌≡◌, ℕ, zero, suc, ◌==◌, ◌&&◌, ℤ, pos, List, [], ◌∷◌, length, codes, bytes_eq, nat_lt, not, Bool, true, false, is_some, slice_index_or, if◌then◌else◌}
+use Rattle.std.specs.Prelude.{◌≡◌, ℕ, zero, suc, ◌==◌, ◌&&◌, ℤ, pos, List, [], ◌∷◌, length, codes, bytes_eq, nat_lt, not, Bool, true, false, is_some, slice_index_or, slice_get, Option, Some, None, if◌then◌else◌}
 use Rattle.so_code.specs.declared.instr.Args.{Args}
+use Rattle.so_code.specs.declared.instr.Body.{Body}
+use Rattle.so_code.specs.declared.instr.Body.TheVariants as body
+use Rattle.so_code.specs.declared.instr.Dest.{Dest}
+use Rattle.so_code.specs.declared.instr.Dest.TheVariants as dest
 use Rattle.so_code.specs.declared.instr.Instr.{Instr}
 use Rattle.so_code.specs.declared.instr.Instr.TheVariants as instr
 use Rattle.so_code.specs.declared.instr.Operand.{Operand}
 use Rattle.so_code.specs.declared.instr.Operand.TheVariants as operand
 use Rattle.so_code.specs.Bodies.{is_end}
 use Rattle.so_code.specs.Values.{fits}
+use Rattle.so_state.specs.declared.choice.Row.{Row}
 use Rattle.so_state.specs.declared.states.State.{State}
 use Rattle.so_scene.specs.declared.parts.MessageDef.{MessageDef}
 use Rattle.so_scene.specs.declared.parts.SceneParts.{SceneParts}
@@ -66,3 +71,42 @@ IsWritten s i = IsWrittenAmong s.messages i
 abbrev pub are_short : ℕ → List Instr → Bool
 are_short n [] = true
 are_short n (i ∷ code) = if is_end i then are_short 0 code else nat_lt n 256 && are_short (suc n) code
+
+-- ---- thread-safe handlers: no act of theirs changes what an agent keeps
+
+abbrev pub to_temporary : Dest → Bool
+to_temporary (dest.Temp k) = true
+to_temporary (dest.Var k) = false
+
+abbrev pub may_be_safe : Instr → Bool
+may_be_safe (instr.Set to a) = to_temporary to
+may_be_safe (instr.Add to a b) = to_temporary to
+may_be_safe (instr.Sub to a b) = to_temporary to
+may_be_safe (instr.Mul to a b) = to_temporary to
+may_be_safe (instr.Switch to) = false
+may_be_safe (instr.Subscribe row) = false
+may_be_safe (instr.Unsubscribe row) = false
+may_be_safe (instr.SetFilter filter) = false
+may_be_safe (instr.DropFilter filter) = false
+may_be_safe (instr.Timer slot target msg ms period args) = false
+may_be_safe (instr.Cancel slot) = false
+may_be_safe other = true
+
+-- a row of which the handler is marked as thread-safe
+abbrev pub is_safe_row : Option Row → Bool
+is_safe_row None = false
+is_safe_row (Some row) = row.safe
+
+abbrev pub is_marked : List Row → Body → Bool
+is_marked rows (body.Row row) = is_safe_row (slice_get rows row.0)
+is_marked rows other = false
+
+-- the body in which an instruction stands is that of the End which is next, if there is one
+abbrev pub is_marked_next : List Row → List Instr → Bool
+is_marked_next rows [] = false
+is_marked_next rows (instr.End body ∷ code) = is_marked rows body
+is_marked_next rows (other ∷ code) = is_marked_next rows code
+
+abbrev pub AreSafe : List Row → List Instr → Type 0
+AreSafe rows [] = Unit {0}
+AreSafe rows (i ∷ code) = (is_marked_next rows (i ∷ code) ≡ true → may_be_safe i ≡ true) × AreSafe rows code

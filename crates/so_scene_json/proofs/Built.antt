@@ -1,13 +1,11 @@
 -- What the four passes leave is what a scene keeps.
-use Rattle.std.proofs.Common.{◌≡◌, ℕ, zero, suc, cond, append-nil, take, ◌+◌, ◌-◌, ◌<◌, ◌≤◌, ◌^◌, get_or, List, [], ◌∷◌, ◌++◌, length, map, Bool, true, false, not, ◌&&◌, ◌||◌, Option, Some, None, option_and_then, Result, Ok, Err, refl, sym, ap, ◌∙◌, subst, arith, codes, if◌then◌else◌, nat_le, nat_lt, is_some, length-append, append_assoc, bytes_eq}
+use Rattle.std.proofs.Common.{◌≡◌, ℕ, zero, suc, ◌+◌, ◌-◌, ◌<◌, ◌≤◌, ◌^◌, get_or, List, [], ◌∷◌, ◌++◌, length, map, Bool, true, false, not, ◌&&◌, ◌||◌, Option, Some, None, option_and_then, Result, Ok, Err, refl, sym, ap, ◌∙◌, subst, arith, codes, if◌then◌else◌, nat_le, nat_lt, is_some, length-append, append_assoc, bytes_eq}
 use Rattle.std.proofs.Math.Nat.{min-le_left}
 use Rattle.std.proofs.lemmas.Bool.{true≢false, leb-true, ltb-false}
-use Rattle.std.proofs.Math.Seq.{take-suc}
-use Rattle.std.proofs.lemmas.List.{map_push, take_all}
-use Rattle.std.proofs.lemmas.List.Elements.{filter-append, filter_map-append}
+use Rattle.std.proofs.lemmas.List.{map_push}
 use Rattle.std.proofs.lemmas.List.Quantifiers.{position-Some}
-use Rattle.std.specs.Prelude.{slice_index_or}
-use Rattle.std.specs.List.{range_with_len, All, AllByRecursion, IsDistinct, list_any, filter, filter_map}
+use Rattle.std.specs.Prelude.{slice_index_or, ◌==◌}
+use Rattle.std.specs.List.{range_with_len, All, AllByRecursion, IsDistinct, list_any, filter}
 use Rattle.serde_json.specs.Data.{Data, Items, no_items, item}
 use Rattle.serde_json.specs.Events.{items_len}
 use Rattle.serde_json.specs.Find.{get, get_item, as_str}
@@ -15,14 +13,14 @@ use Rattle.so_ids.specs.declared.AgentId.{AgentId}
 use Rattle.so_ids.specs.declared.DispId.{DispId}
 use Rattle.so_ids.specs.declared.MboxId.{MboxId}
 use Rattle.so_code.specs.Shape.{agent_bodies}
-use Rattle.so_lists.specs.Lists.{is_empty, head, each_below, given_after, AreNumbered}
-use Rattle.so_lists.proofs.EachBelow.{length-each_below, get_or-each_below, each_below-elements}
-use Rattle.so_lists.proofs.Filters.{each-append, each-weaker, filter-short, filter_map-short, ap2_append}
+use Rattle.so_lists.specs.Lists.{is_empty, head, given_after, AreNumbered}
+use Rattle.so_lists.proofs.EachBelow.{length-each_below, get_or-each_below}
+use Rattle.so_lists.proofs.Filters.{each-append, each-weaker, filter-short, filter_map-short}
 use Rattle.so_lists.proofs.Given.{given-append, given-few}
 use Rattle.so_lists.proofs.First.{none-first_below}
-use Rattle.so_scene.specs.Checked.{IsAgent, IsCoop, IsDisp, IsGroup, AreGroups, IsScene, IsKind, HasNoLimit, has_handler, handlers_from, row_number, given, filter_ids, filter_id, is_pool, group_uses, text_uses, texts_to}
+use Rattle.so_scene.specs.Checked.{IsAgent, IsCoop, IsDisp, IsGroup, AreGroups, IsScene, IsKind, HasNoLimit, has_handler, handlers_from, row_number, given, filter_ids, filter_id, is_pool, has_quotes, IsQuote, text_uses}
 use Rattle.so_scene.specs.Definition.{definition_fault}
-use Rattle.so_scene.specs.Lanes.{AreBound, agent_number, lanes}
+use Rattle.so_scene.specs.Lanes.{AreBound, lanes}
 use Rattle.so_code.specs.declared.instr.Instr.{Instr}
 use Rattle.so_ids.specs.declared.RowId.{RowId}
 use Rattle.so_ids.specs.declared.StateId.{StateId}
@@ -32,9 +30,10 @@ use Rattle.so_state.specs.declared.states.State.{State}
 use Rattle.so_state.specs.Fault.{tree_fault}
 use Rattle.so_state.specs.States.{default_state}
 use Rattle.so_scene.specs.Names.{has_name, number_in}
-use Rattle.so_scene.specs.Parts.{message_name, agent_name, disp_name, default_disp, no_agent, agent_of as scene_agent, groups_of as scene_groups}
+use Rattle.so_scene.specs.Parts.{message_name, agent_name, disp_name, default_disp, no_agent, groups_of as scene_groups}
 use Rattle.so_scene.specs.Words.{is_name, is_text}
-use Rattle.so_scene.specs.Written.{IsNumber, HasParent, IsWrittenAmong, is_state_name}
+use Rattle.so_scene.specs.Written.{IsNumber, HasParent, IsWrittenAmong, is_state_name, AreSafe}
+use Rattle.so_scene.proofs.DispLaws.{default_is_disp}
 use Rattle.so_scene.proofs.Positions.{absent_any, added_distinct, no_names as no_distinct}
 use Rattle.so_scene.specs.declared.fault.SceneFault.{SceneFault}
 use Rattle.so_scene.specs.declared.fault.SceneFault.TheVariants as fault
@@ -58,7 +57,7 @@ use Rattle.so_scene_json.specs.declared.table.ObjectKind.TheVariants as object
 use Rattle.so_scene_json.specs.declared.table.Space.TheVariants as space
 use Rattle.so_scene_json.specs.declared.values.Trouble.{Trouble}
 use Rattle.so_scene_json.specs.declared.values.Trouble.TheVariants.{WrongShape, OutOfRange}
-use Rattle.so_scene_json.specs.Values.{name_in, name_of, string_in, id_in, group_in, disp_kind_in, fifo_of, integer_of, natural_up_to, from_low, number_of, checked, flag_of, read_or, ◌then◌, ◌else◌}
+use Rattle.so_scene_json.specs.Values.{name_in, name_of, string_in, id_in, group_in, disp_kind_in, fifo_of, quote_of, integer_of, natural_up_to, from_low, number_of, checked, flag_of, read_or, ◌then◌, ◌else◌}
 use Rattle.so_scene_json.specs.Visits.{Visit, enters, tries, leaves, Place, run, ◌>>=◌, narrow, listed, list_of}
 use Rattle.so_scene_json.specs.Shape.{shape_step}
 use Rattle.so_scene_json.specs.Scope.{ids_of, state_items, row_items, filter_items, scope_of, state_number}
@@ -66,13 +65,14 @@ use Rattle.so_scene_json.specs.Numbers.{HasNumbers, HaveNumbers}
 use Rattle.so_scene_json.specs.Twice.{is_signal, twice_step, disp_number, kinds_in, no_names, names_in, with_name, entering, declared_name, with_mbox_read, with_mboxes, with_field}
 use Rattle.so_scene_json.specs.Known.{known_step, knows, kind_at}
 use Rattle.so_scene_json.specs.Groups.{names_for, names_at, with_group, group_number, group_lists}
-use Rattle.so_scene_json.specs.Defs.{var_at, vars_of, message_of, disp_of, disp_in, threads_in, state_named, state_in, state_of, states_of, row_of, rows_of, mbox_in, handler_kind, kind_of, number_named, narrow_or_zero, filter_of, filters_of, field_in}
+use Rattle.so_scene_json.specs.Defs.{var_at, vars_of, message_of, disp_of, disp_in, threads_in, quote_at, quotes_in, state_named, state_in, state_of, states_of, row_of, rows_of, mbox_in, handler_kind, kind_of, number_named, narrow_or_zero, filter_of, filters_of, field_in}
 use Rattle.so_scene_json.specs.Build.{build_step, no_parts, agent_added, with_message, with_disp, with_coop, is_long, unless_broken, with_tree, with_code, with_agent, agent_with, agent_of, agent_written, fresh, written}
 use Rattle.so_scene_json.specs.Scene.{fields, no_state, exceeds, fault_of, first_fault, is_refused, coops_of, only, parts_of}
 use Rattle.so_scene_json.specs.Kept.{IsBuiltRow, IsBuiltFilter, IsBuiltAgent, AreBuiltGroups, disp_kind, agent_group, is_on, uses_on, texts_of, named_among, IsBuilt, IsChecked}
 use Rattle.so_scene_json.proofs.Grouped.{AreNames, NamedIfGiven, few_more, names_more, number_below, numbered_more, group_names_more, no_group_names, no_group_uses}
 use Rattle.so_scene_json.proofs.Codes.{HasFewIds, Grows, IsWritten, allows, names_grow, state_below, one_number, handled, is_short, agent_is_written, agent_grows, agent_numbers, agent_scope, agent_texts, OnOk, read_fine, then_fine, natural_fine}
 use Rattle.so_scene_json.proofs.Ends.{all_of, length_map, length_listed}
+use Rattle.so_scene_json.proofs.Marked.{agent_safe}
 use Rattle.so_scene_json.proofs.Uses.{texts-push, all_texts, all_uses}
 use Rattle.so_scene_json.proofs.Numbers.{get_numbers, item_numbers, list_numbers, number_read, visits_numbers}
 use Rattle.so_scene_json.proofs.Said.{AreMessages, AreSaid, message_signal, agent_said, said_short}
@@ -239,7 +239,7 @@ distinct_step s t (enters object.State place d) q k e = distinct_same s t (state
 distinct_step s t (enters object.Row place d) q k e = distinct_same s t (row_names place (id_in d) s t e) k
 distinct_step s t (enters object.Filter place d) q k e = distinct_same s t (filter_names place (id_in d) s t e) k
 distinct_step s t (enters other place d) q k e = subst AreDistinct (ok_same s t e) k
-distinct_step s t (tries rule place found) q k e = subst AreDistinct (ok_same (with_field rule.form found s) t e) (field_distinct rule.form found s k)
+distinct_step s t (tries rule place d found) q k e = subst AreDistinct (ok_same (with_field rule.form found s) t e) (field_distinct rule.form found s k)
 distinct_step s t (leaves kind place d) q k e = subst AreDistinct (ok_same s t e) k
 
 -- ---- the parts have the names that were declared
@@ -361,7 +361,7 @@ names_step s u b c (enters object.Filter place d) k e f =
     let q = filter_names place (id_in d) s u e in
     subst (λ y. HaveNames u y) (ok_same b c f) (have_same s u b (agents_same s u q) k)
 names_step s u b c (enters other place d) k e f = subst (λ y. HaveNames u y) (ok_same b c f) (subst (λ x. HaveNames x b) (ok_same s u e) k)
-names_step s u b c (tries rule place found) k e f =
+names_step s u b c (tries rule place d found) k e f =
     let q = field_agents rule.form found s in
     subst (λ y. HaveNames u y) (ok_same b c f) (subst (λ x. HaveNames x b) (ok_same (with_field rule.form found s) u e) (have_same s (with_field rule.form found s) b q k))
 names_step s u b c (leaves kind place d) k e f = subst (λ y. HaveNames u y) (ok_same b c f) (subst (λ x. HaveNames x b) (ok_same s u e) k)
@@ -453,18 +453,6 @@ stateless : (names : Declared) (scope : Scope) (d : Data) → HasRow names d →
 unfolding state_zero
 stateless names scope d h e = ap state_zero (no_state_named scope (get (codes "state") d) (h.stateless (given_flag (get (codes "dead") d) e)))
 
-built_row : (a states : ℕ) (names : Declared) (scope : Scope) → a < length names.agents → length scope.states ≡ states → (d : Data) → HasRow names d → IsBuiltRow (length names.agents + length names.mboxes) (length names.messages) states (row_of a names scope d)
-unfolding own_mbox
-built_row a states names scope l same d h = record {
-  mbox = own_or_named a names d (is_some (get (codes "mbox") d)) refl l h;
-  msg = msg_in_range names d h.msg;
-  state = omega (arith, same, state_in_range scope (codes "state") d);
-  kind = kind_if states (state_in scope (codes "state") d) (state_in scope (codes "switch") d) (state_in scope (codes "transfer") d)
-      (is_some (get (codes "do") d)) (read_or false flag_of (get (codes "dead") d)) (is_some (get (codes "switch") d)) (is_some (get (codes "transfer") d))
-      (stateless names scope d h) (omega (arith, same, state_in_range scope (codes "switch") d)) (omega (arith, same, state_in_range scope (codes "transfer") d));
-  not_safe = refl;
-}
-
 -- the rows with a handler are those with `do`
 handles_if : (x y : StateId) (does dead switches transfers : Bool) → has_handler (if does then handler_kind dead else (if switches then Switch x else (if transfers then Transfer y else Suppress))) ≡ does
 handles_if x y true true switches transfers = refl
@@ -475,6 +463,18 @@ handles_if x y false dead false false = refl
 
 handles : (scope : Scope) (d : Data) → has_handler (kind_of scope d) ≡ is_some (get (codes "do") d)
 handles scope d = handles_if (state_in scope (codes "switch") d) (state_in scope (codes "transfer") d) (is_some (get (codes "do") d)) (read_or false flag_of (get (codes "dead") d)) (is_some (get (codes "switch") d)) (is_some (get (codes "transfer") d))
+
+built_row : (a states : ℕ) (names : Declared) (scope : Scope) → a < length names.agents → length scope.states ≡ states → (d : Data) → HasRow names d → IsBuiltRow (length names.agents + length names.mboxes) (length names.messages) states (row_of a names scope d)
+unfolding own_mbox
+built_row a states names scope l same d h = record {
+  mbox = own_or_named a names d (is_some (get (codes "mbox") d)) refl l h;
+  msg = msg_in_range names d h.msg;
+  state = omega (arith, same, state_in_range scope (codes "state") d);
+  kind = kind_if states (state_in scope (codes "state") d) (state_in scope (codes "switch") d) (state_in scope (codes "transfer") d)
+      (is_some (get (codes "do") d)) (read_or false flag_of (get (codes "dead") d)) (is_some (get (codes "switch") d)) (is_some (get (codes "transfer") d))
+      (stateless names scope d h) (omega (arith, same, state_in_range scope (codes "switch") d)) (omega (arith, same, state_in_range scope (codes "transfer") d));
+  safe = λ e. handles scope d ∙ h.safe e;
+}
 
 one_handled : (b : Bool) (k : ℕ) (rows other : List RowId) → rows ≡ other → one_number b k rows ≡ (if b then row_number k ∷ other else other)
 unfolding one_number
@@ -561,10 +561,10 @@ few_ids names d fine = record {
   filters = omega (arith, length_map id_in (listed (filter_items d)), length_listed (filter_items d), fine.few_filters);
 }
 
-built_with : (a : ℕ) (names : Declared) (messages : List MessageDef) (groups : List Group) (d : Data) (code : List Instr) (texts : ℕ) → AreMessages names messages → HasFewDisps names → a < length names.agents → IsFineAgent names d → is_long d ≡ false → tree_fault (tree_in d) ≡ None → IsWritten names (scope_of d) d code texts → AreSaid messages code
+built_with : (a : ℕ) (names : Declared) (messages : List MessageDef) (groups : List Group) (d : Data) (code : List Instr) (texts : ℕ) → AreMessages names messages → HasFewDisps names → a < length names.agents → IsFineAgent names d → is_long d ≡ false → tree_fault (tree_in d) ≡ None → IsWritten names (scope_of d) d code texts → AreSaid messages code → AreSafe (rows_of a names (scope_of d) (row_items d)) code
     → IsBuiltAgent (length names.agents + length names.mboxes) messages texts (kinds_in names) (with_group (disp_in names d) (group_in d) groups) (agent_with a names groups d (tree_in d) (scope_of d) code)
 unfolding tree_in
-built_with a names messages groups d code texts known disps below fine long sound wrote said =
+built_with a names messages groups d code texts known disps below fine long sound wrote said safe =
     let short = is_short d long in
     let filters : map filter_id (filters_of names (filter_items d)) ≡ ids_of (filter_items d) = ids_of_filters names (listed (filter_items d)) in
     let count : length (rows_of a names (scope_of d) (row_items d)) ≡ items_len (row_items d) = omega (arith, length_map (row_of a names (scope_of d)) (listed (row_items d)), length_listed (row_items d)) in
@@ -575,7 +575,6 @@ built_with a names messages groups d code texts known disps below fine long soun
       coop = refl;
       disp = disp_there names d fine.on disps;
       group = group_there names d groups fine.on disps;
-      priority = refl;
       vars = refl;
       numbers = all_of IsNumber (vars_of d).0 (vars_fit (list_of (get (codes "vars") d)) (list_numbers (get (codes "vars") d) (get_numbers (codes "vars") d fine.numbers)) (range_with_len 0 16));
       tree = record { few = omega (arith, length_tree d, short.states); sound = sound };
@@ -600,13 +599,15 @@ built_with a names messages groups d code texts known disps below fine long soun
       parts = all_of _ _ (each-weaker _ _ (λ i h. names_grow _ _ i grows h) _ (wrote.named (few_ids names d fine)));
       written = all_of (IsWrittenAmong messages) code said.written;
       short = said_short messages code said;
+      safe = safe;
     }
 
 built_agent : (a : ℕ) (names : Declared) (messages : List MessageDef) (groups : List Group) (texts : List (List ℕ)) (d : Data) → AreMessages names messages → HasFewDisps names → a < length names.agents → IsFineAgent names d → is_long d ≡ false → tree_fault (tree_in d) ≡ None → length (agent_written names (fresh texts d) d).code ≤ 1024
     → IsBuiltAgent (length names.agents + length names.mboxes) messages (length (agent_written names (fresh texts d) d).texts) (kinds_in names) (with_group (disp_in names d) (group_in d) groups) (agent_of a names groups d (tree_in d) (agent_written names (fresh texts d) d))
 built_agent a names messages groups texts d known disps below fine long sound l =
     subst (λ x. IsBuiltAgent (length names.agents + length names.mboxes) messages (length (agent_written names (fresh texts d) d).texts) (kinds_in names) (with_group (disp_in names d) (group_in d) groups) (agent_with a names groups d (tree_in d) x (agent_written names (fresh texts d) d).code)) (sym (agent_scope names (fresh texts d) d))
-    (built_with a names messages groups d _ _ known disps below fine long sound (agent_is_written names (fresh texts d) d (is_short d long) refl l) (agent_said names messages known (fresh texts d) d fine refl))
+    (built_with a names messages groups d _ _ known disps below fine long sound (agent_is_written names (fresh texts d) d (is_short d long) refl l) (agent_said names messages known (fresh texts d) d fine refl)
+    (agent_safe names (row_of a names (scope_of d)) (fresh texts d) d (λ row. refl) fine.few_rows refl))
 
 grown : (mboxes : ℕ) (messages : List MessageDef) (t u : ℕ) (kinds : List DispKind) (groups : List Group) (e : DispId) (o : Option (List ℕ)) (a : AgentDef) → t ≤ u → IsBuiltAgent mboxes messages t kinds groups a → IsBuiltAgent mboxes messages u kinds (with_group e o groups) a
 grown mboxes messages t u kinds groups e o a l h = record {
@@ -614,7 +615,6 @@ grown mboxes messages t u kinds groups e o a l h = record {
   coop = h.coop;
   disp = h.disp;
   group = group_grows (slice_index_or kinds a.disp.0 OneThread) (length (names_for a.disp groups)) (length (names_for a.disp (with_group e o groups))) a.group (names_more a.disp e o groups) h.group;
-  priority = h.priority;
   vars = h.vars;
   numbers = h.numbers;
   tree = h.tree;
@@ -637,6 +637,7 @@ grown mboxes messages t u kinds groups e o a l h = record {
   parts = λ i d k. names_grow (named_among mboxes (length messages) t (length a.tree) a.row_ids (filter_ids a)) (named_among mboxes (length messages) u (length a.tree) a.row_ids (filter_ids a)) (get_or a.code i d) (record { mboxes = omega arith; messages = refl; texts = l; states = refl; rows = refl; filters = refl }) (h.parts i d k);
   written = h.written;
   short = h.short;
+  safe = h.safe;
 }
 
 -- ---- the fourth pass
@@ -724,7 +725,7 @@ kept_step names messages known disps s t (enters object.Agent place d) fine k e 
     let q = agent_ok place s t d e in
     subst (AreKept names messages) q.same (agent_kept names messages s t d known disps fine k q)
 kept_step names messages known disps s t (enters other place d) fine k e = subst (AreKept names messages) (ok_same s t e) k
-kept_step names messages known disps s t (tries rule place found) fine k e = subst (AreKept names messages) (ok_same s t e) k
+kept_step names messages known disps s t (tries rule place d found) fine k e = subst (AreKept names messages) (ok_same s t e) k
 kept_step names messages known disps s t (leaves kind place d) fine k e = subst (AreKept names messages) (ok_same s t e) k
 
 -- ---- messages, cooperations and dispatchers
@@ -762,21 +763,32 @@ absent : {X : Type 0} (x : X) (f : Data → Result X Trouble) (o : Option Data) 
 absent x f None e = refl
 absent x f (Some d) e = absurd (true≢false e)
 
+quote_fits : (k : ℕ) (ds : Items) → IsQuote (quote_at k ds)
+quote_fits k ds =
+    read_fine IsQuote 20 quote_of (get_item k ds) (omega arith, omega arith)
+    (λ x. bounds 1 1000 (integer_of x then natural_up_to 1000) (then_fine (λ k. k ≤ 1000) (integer_of x) (natural_up_to 1000) (natural_fine 1000)))
+
+quotes_fit : (ds : Items) (ks : List ℕ) → AllByRecursion IsQuote (map (λ k. quote_at k ds) ks)
+quotes_fit ds [] = tt
+quotes_fit ds (k ∷ ks) = (quote_fits k ds, quotes_fit ds ks)
+
+not_given : (o : Option Data) → ((if is_some o then 1 else 0) == 1) ≡ false → o ≡ None
+not_given None e = refl
+not_given (Some d) e = absurd (true≢false e)
+
 is_disp : (d : Data) → IsFineDisp d → IsDisp (disp_of d)
 is_disp d h = record {
   named = h.named;
-  kind = h.kind;
   slots = refl;
   some_threads = (few_threads d).0;
   few_threads = (few_threads d).1;
   no_pool = λ e.
-      let none = no_fields (is_some (get (codes "threads") d)) (is_some (get (codes "fifo") d)) (unfit (is_pool (disp_kind_in d)) _ e h.fits) in
+      let none = no_fields (is_some (get (codes "threads") d)) (is_some (get (codes "fifo") d)) (unfit (is_pool (disp_kind_in d)) _ e h.pool) in
       (absent 4 (number_of 1 64) (get (codes "threads") d) none.0, absent Cooperation fifo_of (get (codes "fifo") d) none.1);
-  quotes = refl;
+  eight = refl;
+  quotes = all_of IsQuote (quotes_in (list_of (get (codes "quotes") d))) (quotes_fit (list_of (get (codes "quotes") d)) (range_with_len 0 8));
+  no_quotes = λ e. ap (λ o. quotes_in (list_of o)) (not_given (get (codes "quotes") d) (unfit (has_quotes (disp_kind_in d)) _ e h.quotes));
 }
-
-default_is_disp : IsDisp default_disp
-default_is_disp = record { named = refl; kind = refl; slots = refl; some_threads = omega arith; few_threads = omega arith; no_pool = λ e. (refl, refl); quotes = refl }
 
 -- names are legal, and the dispatchers are, of which `default` is the first
 record AreNamed (s : Build) : Type 0 where
@@ -810,7 +822,7 @@ named_step names s t (enters object.Agent place d) fine k e =
     let q = agent_ok place s t d e in
     subst AreNamed q.same (record { messages = k.messages; coops = k.coops; default = k.default; dispatchers = k.dispatchers })
 named_step names s t (enters other place d) fine k e = subst AreNamed (ok_same s t e) k
-named_step names s t (tries rule place found) fine k e = subst AreNamed (ok_same s t e) k
+named_step names s t (tries rule place d found) fine k e = subst AreNamed (ok_same s t e) k
 named_step names s t (leaves kind place d) fine k e = subst AreNamed (ok_same s t e) k
 
 -- ---- how many messages, mboxes and dispatchers
@@ -839,7 +851,7 @@ message_step s t (enters object.Agent place d) e =
     let q = agent_ok place s t d e in
     omega (arith, ap (λ (x : Build). length x.messages) q.same)
 message_step s t (enters other place d) e = omega (arith, ap (λ (x : Build). length x.messages) (ok_same s t e))
-message_step s t (tries rule place found) e = omega (arith, ap (λ (x : Build). length x.messages) (ok_same s t e))
+message_step s t (tries rule place d found) e = omega (arith, ap (λ (x : Build). length x.messages) (ok_same s t e))
 message_step s t (leaves kind place d) e = omega (arith, ap (λ (x : Build). length x.messages) (ok_same s t e))
 
 mboxes_of : Declared → ℕ
@@ -880,7 +892,7 @@ mbox_step s t (enters object.State place d) e = omega (arith, ap length (state_n
 mbox_step s t (enters object.Row place d) e = omega (arith, ap length (row_names place (id_in d) s t e).mboxes)
 mbox_step s t (enters object.Filter place d) e = omega (arith, ap length (filter_names place (id_in d) s t e).mboxes)
 mbox_step s t (enters other place d) e = omega (arith, ap (λ (x : Declared). length x.mboxes) (ok_same s t e))
-mbox_step s t (tries rule place found) e = omega (arith, ap (λ (x : Declared). length x.mboxes) (ok_same (with_field rule.form found s) t e), field_count rule.form found s)
+mbox_step s t (tries rule place d found) e = omega (arith, ap (λ (x : Declared). length x.mboxes) (ok_same (with_field rule.form found s) t e), field_count rule.form found s)
 mbox_step s t (leaves kind place d) e = omega (arith, ap (λ (x : Declared). length x.mboxes) (ok_same s t e))
 
 disps_of : Declared → ℕ
@@ -904,7 +916,7 @@ disp_step s t (enters object.State place d) e = omega (arith, ap length (state_n
 disp_step s t (enters object.Row place d) e = omega (arith, ap length (row_names place (id_in d) s t e).dispatchers)
 disp_step s t (enters object.Filter place d) e = omega (arith, ap length (filter_names place (id_in d) s t e).dispatchers)
 disp_step s t (enters other place d) e = omega (arith, ap (λ (x : Declared). length x.dispatchers) (ok_same s t e))
-disp_step s t (tries rule place found) e = omega (arith, ap (λ (x : Declared). length x.dispatchers) (ok_same (with_field rule.form found s) t e), ap length (field_agents rule.form found s).dispatchers)
+disp_step s t (tries rule place d found) e = omega (arith, ap (λ (x : Declared). length x.dispatchers) (ok_same (with_field rule.form found s) t e), ap length (field_agents rule.form found s).dispatchers)
 disp_step s t (leaves kind place d) e = omega (arith, ap (λ (x : Declared). length x.dispatchers) (ok_same s t e))
 
 -- ---- all passes
@@ -1009,7 +1021,6 @@ is_agent b coop a h =
       disp = on;
       group = subst (λ k. IsGroup k (length (scene_groups (parts b coop) a.disp)) a.group) (kind_there b.dispatchers a.disp.0)
           (subst (λ names. IsGroup (slice_index_or (map disp_kind b.dispatchers) a.disp.0 OneThread) (length names) a.group) (sym (groups_there b coop a.disp on)) h.group);
-      priority = h.priority;
       vars = h.vars;
       numbers = h.numbers;
       tree = h.tree;
@@ -1019,7 +1030,7 @@ is_agent b coop a h =
       initial = h.initial;
       each_state_once = h.each_state_once;
       few_rows = h.few_rows;
-      rows = λ i d l. let row = h.rows i d l in record { mbox = row.mbox; msg = row.msg; state = row.state; kind = row.kind; not_safe = row.not_safe };
+      rows = λ i d l. let row = h.rows i d l in record { mbox = row.mbox; msg = row.msg; state = row.state; kind = row.kind; safe = row.safe };
       row_ids = h.row_ids;
       rows_named = h.rows_named;
       each_row_id_once = h.each_row_id_once;
@@ -1032,6 +1043,7 @@ is_agent b coop a h =
       parts = h.parts;
       written = h.written;
       short = h.short;
+      safe = h.safe;
     }
 
 -- ---- agents by number and agents in a list

@@ -3,7 +3,7 @@ use Rattle.std.proofs.Common.{◌≡◌, ℕ, zero, suc, ◌+◌, ◌-◌, ◌<�
 use Rattle.std.proofs.Math.Nat.{min-le_left, min-le_right}
 use Rattle.std.proofs.lemmas.Bool.{leb-true, ltb-true, ltb-false, true≢false}
 use Rattle.std.proofs.lemmas.List.Quantifiers.{position-Some}
-use Rattle.std.specs.Prelude.{slice_get, slice_index, bytes_eq, map, codes}
+use Rattle.std.specs.Prelude.{slice_get, bytes_eq, map, codes}
 use Rattle.std.specs.List.Sorted.{IsStrictlyIncreasing}
 use Rattle.std.specs.List.{AllByRecursion}
 use Rattle.std.specs.Option.{option_map, option_and_then}
@@ -25,9 +25,10 @@ use Rattle.so_lists.specs.Lists.{given_after}
 use Rattle.so_lists.proofs.Filters.{each-append, each-weaker}
 use Rattle.so_lists.proofs.Given.{given-append, given-old, given-next}
 use Rattle.so_scene.specs.Words.{is_text}
+use Rattle.so_scene.specs.Written.{may_be_safe}
 use Rattle.so_scene_json.specs.Acts.{act_parts}
-use Rattle.so_scene_json.specs.ActTable.{is_allowed}
-use Rattle.so_scene_json.specs.Build.{allowed_in, body_written, start_written, state_written, states_written, row_body, handler_written, rows_written, agent_written, is_long}
+use Rattle.so_scene_json.specs.ActTable.{is_safe_act, is_allowed, handler_acts}
+use Rattle.so_scene_json.specs.Build.{body_written, start_written, state_written, states_written, row_body, handler_written, rows_written, agent_written, is_long}
 use Rattle.std.proofs.lemmas.List.{append-nil}
 use Rattle.so_scene.specs.Names.{number_in}
 use Rattle.so_ids.specs.declared.FilterId.{FilterId}
@@ -42,14 +43,14 @@ use Rattle.so_scene_json.specs.Kept.{named_among}
 use Rattle.so_scene_json.specs.Scope.{is_id, number_with, state_items, row_items, all_states, state_number}
 use Rattle.so_scene_json.specs.Twice.{names_in}
 use Rattle.so_scene_json.specs.declared.act_table.Allowed.{Allowed}
-use Rattle.so_scene_json.specs.declared.act_table.Allowed.TheVariants.{AnyAct, NoSwitch}
+use Rattle.so_scene_json.specs.declared.act_table.Allowed.TheVariants.{AnyAct, NoSwitch, Safe}
 use Rattle.so_scene_json.specs.declared.act_table.Word.{Word}
 use Rattle.so_scene_json.specs.declared.act_table.Word.TheVariants as word
 use Rattle.so_scene_json.specs.declared.values.Trouble.{Trouble}
 use Rattle.so_scene_json.specs.declared.values.Trouble.TheVariants.{OutOfRange}
 use Rattle.so_scene_json.specs.declared.declare.Declared.{Declared}
 use Rattle.so_scene_json.specs.declared.write.Writer.{Writer}
-use Rattle.so_scene_json.specs.Values.{◌or◌, ◌else◌, ◌then◌, numbered, small_number, operand_named, operand_or_number, operand_of, dest_named, dest_of, named, integer_of, natural_up_to, count_of, ok_or, read_or, text_or_empty}
+use Rattle.so_scene_json.specs.Values.{◌or◌, ◌else◌, ◌then◌, numbered, small_number, operand_named, operand_or_number, operand_of, dest_named, dest_of, named, integer_of, natural_up_to, count_of, ok_or, read_or, is_safe, text_or_empty}
 use Rattle.so_scene_json.specs.Visits.{narrow, list_of}
 use Rattle.so_scene_json.specs.Writer.{operand_at, dest_at, count_at, args_from, send_instr, state_id, state_at, row_id, filter_number, row_at, filter_at, or_idle, text_at, string_at, texts_with, number_or_next, with_instr, word_written, parts_written, if_allowed, act_written, acts_written, idle}
 
@@ -214,19 +215,20 @@ pub record HasFewIds (scope : Scope) : Type 0 where
   pub rows : length scope.rows ≤ 128
   pub filters : length scope.filters ≤ 32
 
--- an act writes one instruction, which may stand before so many others, and names what there is
-record Wrote (names : Declared) (may : Bool) (rest : ℕ) (w v : Writer) : Type 0 where
+-- an act writes one instruction, which may stand before so many others, is safe where it must, and names what there is
+record Wrote (names : Declared) (may must : Bool) (rest : ℕ) (w v : Writer) : Type 0 where
   one : Instr
   same : v.code ≡ w.code ++ one ∷ []
   fine : IsActBefore may one rest
+  safe : must ≡ true → may_be_safe one ≡ true
   grows : length w.texts ≤ length v.texts
   scope : v.scope ≡ w.scope
   named : HasFewIds w.scope → NamesWithin (allows names w.scope (length v.texts)) one
   numbered : length v.texts ≤ 4096 → given_after (length w.texts) (text_uses (one ∷ [])) ≡ Some (length v.texts)
   texts : AllByRecursion (λ t. is_text t ≡ true) w.texts → AllByRecursion (λ t. is_text t ≡ true) v.texts
 
-simple : (names : Declared) (may : Bool) (rest : ℕ) (w : Writer) (i : Instr) → IsQuiet i → IsActBefore may i rest → (HasFewIds w.scope → NamesWithin (allows names w.scope (length w.texts)) i) → Wrote names may rest w (with_instr i w)
-simple names may rest w i q f n = record { one = i; same = refl; fine = f; grows = omega arith; scope = refl; named = n; numbered = λ l. none_given (length w.texts) i q; texts = λ a. a }
+simple : (names : Declared) (may must : Bool) (rest : ℕ) (w : Writer) (i : Instr) → IsQuiet i → IsActBefore may i rest → (must ≡ true → may_be_safe i ≡ true) → (HasFewIds w.scope → NamesWithin (allows names w.scope (length w.texts)) i) → Wrote names may must rest w (with_instr i w)
+simple names may must rest w i q f s n = record { one = i; same = refl; fine = f; safe = s; grows = omega arith; scope = refl; named = n; numbered = λ l. none_given (length w.texts) i q; texts = λ a. a }
 
 -- what is no switch
 never : (may : Bool) → false ≡ true → may ≡ true
@@ -244,6 +246,11 @@ send_quiet : (a m : Option ℕ) (args : Args) → IsQuiet (send_instr a m args)
 send_quiet (Some a) (Some m) args = refl
 send_quiet (Some a) None args = refl
 send_quiet None m args = refl
+
+send_safe : (a m : Option ℕ) (args : Args) → may_be_safe (send_instr a m args) ≡ true
+send_safe (Some a) (Some m) args = refl
+send_safe (Some a) None args = refl
+send_safe None m args = refl
 
 send_named : (n : Named) (a m : Option ℕ) (args : Args) → OnSome (λ k. k < n.mboxes) a → OnSome (λ k. k < n.messages) m → NamesWithin n (send_instr a m args)
 unfolding OnSome
@@ -287,14 +294,16 @@ filter_there ids name None filter few e f = absurd cc
 filter_there ids name (Some k) filter few e f = let its : filter_number k ≡ filter = cc in subst (λ (r : FilterId). HasId ids r.0) its (id_there ids name k few e)
 
 -- an act on a row of the agent, and on a filter
-row_wrote : (names : Declared) (may : Bool) (rest : ℕ) (w : Writer) (ds : Items) (f : RowId → Instr) → ((row : RowId) → IsQuiet (f row)) → ((row : RowId) → IsActBefore may (f row) rest) → ((n : Named) (row : RowId) → HasId n.rows row.0 → NamesWithin n (f row)) → Wrote names may rest w (with_instr (or_idle f (row_at w.scope ds)) w)
-row_wrote names may rest w ds f quiet fine names_it =
-    simple names may rest w _ (or_fine IsQuiet f (row_at w.scope ds) refl (λ row e. quiet row)) (or_fine (λ i. IsActBefore may i rest) f (row_at w.scope ds) (idle_fine may rest) (λ row e. fine row))
+row_wrote : (names : Declared) (may must : Bool) (rest : ℕ) (w : Writer) (ds : Items) (f : RowId → Instr) → (must ≡ true → false ≡ true) → ((row : RowId) → IsQuiet (f row)) → ((row : RowId) → IsActBefore may (f row) rest) → ((n : Named) (row : RowId) → HasId n.rows row.0 → NamesWithin n (f row)) → Wrote names may must rest w (with_instr (or_idle f (row_at w.scope ds)) w)
+row_wrote names may must rest w ds f safe quiet fine names_it =
+    simple names may must rest w _ (or_fine IsQuiet f (row_at w.scope ds) refl (λ row e. quiet row)) (or_fine (λ i. IsActBefore may i rest) f (row_at w.scope ds) (idle_fine may rest) (λ row e. fine row))
+    (λ e. absurd (true≢false (sym (safe e))))
     (λ few. or_fine (NamesWithin (allows names w.scope (length w.texts))) f (row_at w.scope ds) tt (λ row e. names_it (allows names w.scope (length w.texts)) row (row_there w.scope.rows (string_at 0 ds) (number_with w.scope.rows (string_at 0 ds)) row few.rows refl e)))
 
-filter_wrote : (names : Declared) (may : Bool) (rest : ℕ) (w : Writer) (ds : Items) (f : FilterId → Instr) → ((filter : FilterId) → IsQuiet (f filter)) → ((filter : FilterId) → IsActBefore may (f filter) rest) → ((n : Named) (filter : FilterId) → HasId n.filters filter.0 → NamesWithin n (f filter)) → Wrote names may rest w (with_instr (or_idle f (filter_at w.scope ds)) w)
-filter_wrote names may rest w ds f quiet fine names_it =
-    simple names may rest w _ (or_fine IsQuiet f (filter_at w.scope ds) refl (λ filter e. quiet filter)) (or_fine (λ i. IsActBefore may i rest) f (filter_at w.scope ds) (idle_fine may rest) (λ filter e. fine filter))
+filter_wrote : (names : Declared) (may must : Bool) (rest : ℕ) (w : Writer) (ds : Items) (f : FilterId → Instr) → (must ≡ true → false ≡ true) → ((filter : FilterId) → IsQuiet (f filter)) → ((filter : FilterId) → IsActBefore may (f filter) rest) → ((n : Named) (filter : FilterId) → HasId n.filters filter.0 → NamesWithin n (f filter)) → Wrote names may must rest w (with_instr (or_idle f (filter_at w.scope ds)) w)
+filter_wrote names may must rest w ds f safe quiet fine names_it =
+    simple names may must rest w _ (or_fine IsQuiet f (filter_at w.scope ds) refl (λ filter e. quiet filter)) (or_fine (λ i. IsActBefore may i rest) f (filter_at w.scope ds) (idle_fine may rest) (λ filter e. fine filter))
+    (λ e. absurd (true≢false (sym (safe e))))
     (λ few. or_fine (NamesWithin (allows names w.scope (length w.texts))) f (filter_at w.scope ds) tt (λ filter e. names_it (allows names w.scope (length w.texts)) filter (filter_there w.scope.filters (string_at 0 ds) (number_with w.scope.filters (string_at 0 ds)) filter (omega (arith, few.filters)) refl e)))
 
 -- ---- a switch
@@ -307,9 +316,10 @@ state_there : (scope : Scope) (name : List ℕ) (o : Option ℕ) (s : StateId) �
 state_there scope name None s e f = absurd cc
 state_there scope name (Some k) s e f = let its : state_id k ≡ s = cc in subst (λ (r : StateId). r.0 ≤ length scope.states) its (state_below scope name k e)
 
-switch_wrote : (names : Declared) (may : Bool) (rest : ℕ) (w : Writer) (ds : Items) → may ≡ true → Wrote names may rest w (with_instr (or_idle instr.Switch (state_at w.scope ds)) w)
-switch_wrote names may rest w ds h =
-    simple names may rest w _ (or_fine IsQuiet instr.Switch (state_at w.scope ds) refl (λ s e. refl)) (or_fine (λ i. IsActBefore may i rest) instr.Switch (state_at w.scope ds) (idle_fine may rest) (λ s e. record { act = refl; switch = λ q. h; parts = tt; jumps = omega arith }))
+switch_wrote : (names : Declared) (may must : Bool) (rest : ℕ) (w : Writer) (ds : Items) → may ≡ true → (must ≡ true → false ≡ true) → Wrote names may must rest w (with_instr (or_idle instr.Switch (state_at w.scope ds)) w)
+switch_wrote names may must rest w ds h safe =
+    simple names may must rest w _ (or_fine IsQuiet instr.Switch (state_at w.scope ds) refl (λ s e. refl)) (or_fine (λ i. IsActBefore may i rest) instr.Switch (state_at w.scope ds) (idle_fine may rest) (λ s e. record { act = refl; switch = λ q. h; parts = tt; jumps = omega arith }))
+    (λ e. absurd (true≢false (sym (safe e))))
     (λ few. or_fine (NamesWithin (allows names w.scope (length w.texts))) instr.Switch (state_at w.scope ds) tt (λ s e. state_there w.scope (string_at 0 ds) (state_number w.scope (string_at 0 ds)) s refl e))
 
 -- ---- a text
@@ -320,23 +330,25 @@ next_text n m e few =
     let its : narrow n ≡ n = omega (arith, e, few) in
     ap (λ k. given_after n (k ∷ [])) its ∙ (given-next n ∙ ap Some (sym e))
 
-text_wrote : (names : Declared) (may : Bool) (rest : ℕ) (w : Writer) (t : List ℕ) (args : Args) (o : Option ℕ) → OnSome (λ k. k < length w.texts) o → is_text t ≡ true → AreArgs args
-    → Wrote names may rest w (with_instr (instr.Log (record { 0 = number_or_next o w.texts }) args) (record w { texts = texts_with o t w.texts }))
+text_wrote : (names : Declared) (may must : Bool) (rest : ℕ) (w : Writer) (t : List ℕ) (args : Args) (o : Option ℕ) → OnSome (λ k. k < length w.texts) o → is_text t ≡ true → AreArgs args
+    → Wrote names may must rest w (with_instr (instr.Log (record { 0 = number_or_next o w.texts }) args) (record w { texts = texts_with o t w.texts }))
 unfolding OnSome
-text_wrote names may rest w t args (Some n) h is are = record {
+text_wrote names may must rest w t args (Some n) h is are = record {
   one = instr.Log (record { 0 = narrow n }) args;
   same = refl;
   fine = record { act = refl; switch = never may; parts = are; jumps = omega arith };
+  safe = λ e. refl;
   grows = omega arith;
   scope = refl;
   named = λ few. omega (arith, h, min-le_left n (2 ^ 32 - 1));
   numbered = λ few. given-old (length w.texts) (narrow n) (omega (arith, h, min-le_left n (2 ^ 32 - 1)));
   texts = λ a. a;
 }
-text_wrote names may rest w t args None h is are = record {
+text_wrote names may must rest w t args None h is are = record {
   one = instr.Log (record { 0 = narrow (length w.texts) }) args;
   same = refl;
   fine = record { act = refl; switch = never may; parts = are; jumps = omega arith };
+  safe = λ e. refl;
   grows = omega (arith, length-append w.texts (t ∷ []));
   scope = refl;
   named = λ few. omega (arith, length-append w.texts (t ∷ []), min-le_left (length w.texts) (2 ^ 32 - 1));
@@ -356,47 +368,65 @@ MaySwitch : Bool → Word → Type 0
 MaySwitch may word.Switch = may ≡ true
 MaySwitch may other = Unit {0}
 
-wrote_word : (names : Declared) (may : Bool) (rest : ℕ) (w : Writer) (wd : Word) (ds : Items) → MaySwitch may wd → Wrote names may rest w (word_written names rest w wd ds)
+-- a switch stands only where it may, and what must be safe is
+record Fits (may must : Bool) (wd : Word) (ds : Items) : Type 0 where
+  switch : MaySwitch may wd
+  safe : must ≡ true → is_safe_act wd ds ≡ true
+
+wrote_word : (names : Declared) (may must : Bool) (rest : ℕ) (w : Writer) (wd : Word) (ds : Items) → Fits may must wd ds → Wrote names may must rest w (word_written names rest w wd ds)
 unfolding MaySwitch
-wrote_word names may rest w word.Set ds h = simple names may rest w _ refl (record { act = refl; switch = never may; parts = (dest_fine 0 ds, operand_fine 1 ds); jumps = omega arith }) (λ few. tt)
-wrote_word names may rest w word.Add ds h = simple names may rest w _ refl (record { act = refl; switch = never may; parts = (dest_fine 0 ds, operand_fine 1 ds, operand_fine 2 ds); jumps = omega arith }) (λ few. tt)
-wrote_word names may rest w word.Sub ds h = simple names may rest w _ refl (record { act = refl; switch = never may; parts = (dest_fine 0 ds, operand_fine 1 ds, operand_fine 2 ds); jumps = omega arith }) (λ few. tt)
-wrote_word names may rest w word.Mul ds h = simple names may rest w _ refl (record { act = refl; switch = never may; parts = (dest_fine 0 ds, operand_fine 1 ds, operand_fine 2 ds); jumps = omega arith }) (λ few. tt)
-wrote_word names may rest w word.If ds h = simple names may rest w _ refl (record { act = refl; switch = never may; parts = (operand_fine 0 ds, operand_fine 2 ds); jumps = count_fine rest 3 ds }) (λ few. tt)
-wrote_word names may rest w word.Skip ds h = simple names may rest w _ refl (record { act = refl; switch = never may; parts = tt; jumps = count_fine rest 0 ds }) (λ few. tt)
-wrote_word names may rest w word.Throw ds h = simple names may rest w _ refl (record { act = refl; switch = never may; parts = operand_fine 0 ds; jumps = omega arith }) (λ few. tt)
-wrote_word names may rest w word.Log ds h = text_wrote names may rest w (text_at 0 ds) (args_from 1 ds) (number_in w.texts (text_at 0 ds)) (number_below w.texts (text_at 0 ds)) (text_at_fine 0 ds) (args_fine 1 ds)
-wrote_word names may rest w word.Send ds h =
-    simple names may rest w _ (send_quiet (number_in (names_in space.Mboxes names) (string_at 0 ds)) (number_in names.messages (string_at 1 ds)) (args_from 2 ds)) (send_fine may rest _ _ (args_from 2 ds) (args_fine 2 ds))
+wrote_word names may must rest w word.Set ds h = simple names may must rest w _ refl (record { act = refl; switch = never may; parts = (dest_fine 0 ds, operand_fine 1 ds); jumps = omega arith }) h.safe (λ few. tt)
+wrote_word names may must rest w word.Add ds h = simple names may must rest w _ refl (record { act = refl; switch = never may; parts = (dest_fine 0 ds, operand_fine 1 ds, operand_fine 2 ds); jumps = omega arith }) h.safe (λ few. tt)
+wrote_word names may must rest w word.Sub ds h = simple names may must rest w _ refl (record { act = refl; switch = never may; parts = (dest_fine 0 ds, operand_fine 1 ds, operand_fine 2 ds); jumps = omega arith }) h.safe (λ few. tt)
+wrote_word names may must rest w word.Mul ds h = simple names may must rest w _ refl (record { act = refl; switch = never may; parts = (dest_fine 0 ds, operand_fine 1 ds, operand_fine 2 ds); jumps = omega arith }) h.safe (λ few. tt)
+wrote_word names may must rest w word.If ds h = simple names may must rest w _ refl (record { act = refl; switch = never may; parts = (operand_fine 0 ds, operand_fine 2 ds); jumps = count_fine rest 3 ds }) (λ e. refl) (λ few. tt)
+wrote_word names may must rest w word.Skip ds h = simple names may must rest w _ refl (record { act = refl; switch = never may; parts = tt; jumps = count_fine rest 0 ds }) (λ e. refl) (λ few. tt)
+wrote_word names may must rest w word.Throw ds h = simple names may must rest w _ refl (record { act = refl; switch = never may; parts = operand_fine 0 ds; jumps = omega arith }) (λ e. refl) (λ few. tt)
+wrote_word names may must rest w word.Log ds h = text_wrote names may must rest w (text_at 0 ds) (args_from 1 ds) (number_in w.texts (text_at 0 ds)) (number_below w.texts (text_at 0 ds)) (text_at_fine 0 ds) (args_fine 1 ds)
+wrote_word names may must rest w word.Send ds h =
+    simple names may must rest w _ (send_quiet (number_in (names_in space.Mboxes names) (string_at 0 ds)) (number_in names.messages (string_at 1 ds)) (args_from 2 ds)) (send_fine may rest _ _ (args_from 2 ds) (args_fine 2 ds)) (λ e. send_safe (number_in (names_in space.Mboxes names) (string_at 0 ds)) (number_in names.messages (string_at 1 ds)) (args_from 2 ds))
     (λ few. send_named (allows names w.scope (length w.texts)) (number_in (names_in space.Mboxes names) (string_at 0 ds)) (number_in names.messages (string_at 1 ds)) (args_from 2 ds) (mbox_below names (string_at 0 ds)) (number_below names.messages (string_at 1 ds)))
-wrote_word names may rest w word.Switch ds h = switch_wrote names may rest w ds h
-wrote_word names may rest w word.Subscribe ds h = row_wrote names may rest w ds instr.Subscribe (λ row. refl) (λ row. record { act = refl; switch = never may; parts = tt; jumps = omega arith }) (λ n row h. h)
-wrote_word names may rest w word.Unsubscribe ds h = row_wrote names may rest w ds instr.Unsubscribe (λ row. refl) (λ row. record { act = refl; switch = never may; parts = tt; jumps = omega arith }) (λ n row h. h)
-wrote_word names may rest w word.SetFilter ds h = filter_wrote names may rest w ds instr.SetFilter (λ filter. refl) (λ filter. record { act = refl; switch = never may; parts = tt; jumps = omega arith }) (λ n filter h. h)
-wrote_word names may rest w word.DropFilter ds h = filter_wrote names may rest w ds instr.DropFilter (λ filter. refl) (λ filter. record { act = refl; switch = never may; parts = tt; jumps = omega arith }) (λ n filter h. h)
-wrote_word names may rest w word.Stop ds h = simple names may rest w _ refl (record { act = refl; switch = never may; parts = tt; jumps = omega arith }) (λ few. tt)
-wrote_word names may rest w other ds h = simple names may rest w _ refl (idle_fine may rest) (λ few. tt)
+wrote_word names may must rest w word.Switch ds h = switch_wrote names may must rest w ds h.switch h.safe
+wrote_word names may must rest w word.Subscribe ds h = row_wrote names may must rest w ds instr.Subscribe h.safe (λ row. refl) (λ row. record { act = refl; switch = never may; parts = tt; jumps = omega arith }) (λ n row h. h)
+wrote_word names may must rest w word.Unsubscribe ds h = row_wrote names may must rest w ds instr.Unsubscribe h.safe (λ row. refl) (λ row. record { act = refl; switch = never may; parts = tt; jumps = omega arith }) (λ n row h. h)
+wrote_word names may must rest w word.SetFilter ds h = filter_wrote names may must rest w ds instr.SetFilter h.safe (λ filter. refl) (λ filter. record { act = refl; switch = never may; parts = tt; jumps = omega arith }) (λ n filter h. h)
+wrote_word names may must rest w word.DropFilter ds h = filter_wrote names may must rest w ds instr.DropFilter h.safe (λ filter. refl) (λ filter. record { act = refl; switch = never may; parts = tt; jumps = omega arith }) (λ n filter h. h)
+wrote_word names may must rest w word.Stop ds h = simple names may must rest w _ refl (record { act = refl; switch = never may; parts = tt; jumps = omega arith }) (λ e. refl) (λ few. tt)
+wrote_word names may must rest w other ds h = simple names may must rest w _ refl (idle_fine may rest) (λ e. refl) (λ few. tt)
 
 -- where switches are allowed
-pub switches : Allowed → Bool
+abbrev pub switches : Allowed → Bool
 switches AnyAct = true
 switches NoSwitch = false
+switches Safe = true
 
-may_stand : (allowed : Allowed) (wd : Word) → is_allowed allowed wd ≡ true → MaySwitch (switches allowed) wd
-unfolding MaySwitch switches
-may_stand AnyAct word.Switch e = refl
-may_stand NoSwitch word.Switch e = absurd (true≢false (sym e))
-may_stand allowed other e = tt
+-- where acts must be safe
+abbrev pub restrains : Allowed → Bool
+restrains AnyAct = false
+restrains NoSwitch = false
+restrains Safe = true
 
-wrote_if : (names : Declared) (allowed : Allowed) (rest : ℕ) (w : Writer) (p : Word × Items) (b : Bool) → is_allowed allowed p.0 ≡ b → Wrote names (switches allowed) rest w (parts_written names rest w (if b then Some p else None))
-wrote_if names allowed rest w p true e = wrote_word names (switches allowed) rest w p.0 p.1 (may_stand allowed p.0 e)
-wrote_if names allowed rest w p false e = simple names (switches allowed) rest w _ refl (idle_fine (switches allowed) rest) (λ few. tt)
+may_stand : (allowed : Allowed) (wd : Word) (ds : Items) → is_allowed allowed wd ds ≡ true → MaySwitch (switches allowed) wd
+unfolding MaySwitch
+may_stand AnyAct word.Switch ds e = refl
+may_stand NoSwitch word.Switch ds e = absurd (true≢false (sym e))
+may_stand Safe word.Switch ds e = refl
+may_stand allowed other ds e = tt
 
-wrote_parts : (names : Declared) (allowed : Allowed) (rest : ℕ) (w : Writer) (o : Option (Word × Items)) → Wrote names (switches allowed) rest w (parts_written names rest w (if_allowed allowed o))
-wrote_parts names allowed rest w None = simple names (switches allowed) rest w _ refl (idle_fine (switches allowed) rest) (λ few. tt)
-wrote_parts names allowed rest w (Some p) = wrote_if names allowed rest w p (is_allowed allowed p.0) refl
+stands_safe : (allowed : Allowed) (wd : Word) (ds : Items) → is_allowed allowed wd ds ≡ true → restrains allowed ≡ true → is_safe_act wd ds ≡ true
+stands_safe AnyAct wd ds e m = absurd (true≢false (sym m))
+stands_safe NoSwitch wd ds e m = absurd (true≢false (sym m))
+stands_safe Safe wd ds e m = e
 
-wrote_act : (names : Declared) (allowed : Allowed) (rest : ℕ) (w : Writer) (d : Data) → Wrote names (switches allowed) rest w (act_written names allowed rest w d)
+wrote_if : (names : Declared) (allowed : Allowed) (rest : ℕ) (w : Writer) (p : Word × Items) (b : Bool) → is_allowed allowed p.0 p.1 ≡ b → Wrote names (switches allowed) (restrains allowed) rest w (parts_written names rest w (if b then Some p else None))
+wrote_if names allowed rest w p true e = wrote_word names (switches allowed) (restrains allowed) rest w p.0 p.1 (record { switch = may_stand allowed p.0 p.1 e; safe = stands_safe allowed p.0 p.1 e })
+wrote_if names allowed rest w p false e = simple names (switches allowed) (restrains allowed) rest w _ refl (idle_fine (switches allowed) rest) (λ m. refl) (λ few. tt)
+
+wrote_parts : (names : Declared) (allowed : Allowed) (rest : ℕ) (w : Writer) (o : Option (Word × Items)) → Wrote names (switches allowed) (restrains allowed) rest w (parts_written names rest w (if_allowed allowed o))
+wrote_parts names allowed rest w None = simple names (switches allowed) (restrains allowed) rest w _ refl (idle_fine (switches allowed) rest) (λ m. refl) (λ few. tt)
+wrote_parts names allowed rest w (Some p) = wrote_if names allowed rest w p (is_allowed allowed p.0 p.1) refl
+
+wrote_act : (names : Declared) (allowed : Allowed) (rest : ℕ) (w : Writer) (d : Data) → Wrote names (switches allowed) (restrains allowed) rest w (act_written names allowed rest w d)
 wrote_act names allowed rest w d = wrote_parts names allowed rest w (act_parts d)
 
 -- ---- a list of acts
@@ -435,11 +465,12 @@ texts_grow names scope other t u e l = record {
   filters = ap (λ (x : Scope). x.filters) (sym e);
 }
 
-pub record WroteActs (names : Declared) (may : Bool) (w v : Writer) (n : ℕ) : Type 0 where
+pub record WroteActs (names : Declared) (may must : Bool) (w v : Writer) (n : ℕ) : Type 0 where
   pub acts : List Instr
   pub same : v.code ≡ w.code ++ acts
   pub long : length acts ≡ n
   pub fine : AreActsBefore may 0 acts
+  pub safe : must ≡ true → AllByRecursion (λ i. may_be_safe i ≡ true) acts
   pub grows : length w.texts ≤ length v.texts
   pub scope : v.scope ≡ w.scope
   pub named : HasFewIds w.scope → AllByRecursion (NamesWithin (allows names w.scope (length v.texts))) acts
@@ -449,12 +480,13 @@ pub record WroteActs (names : Declared) (may : Bool) (w v : Writer) (n : ℕ) : 
 same_few : (s t : Scope) → t ≡ s → HasFewIds s → HasFewIds t
 same_few s t e h = subst HasFewIds (sym e) h
 
-one_more : (names : Declared) (may : Bool) (w u v : Writer) (rest n : ℕ) → rest ≡ n → Wrote names may rest w u → WroteActs names may u v n → WroteActs names may w v (suc n)
-one_more names may w u v rest n e one more = record {
+one_more : (names : Declared) (may must : Bool) (w u v : Writer) (rest n : ℕ) → rest ≡ n → Wrote names may must rest w u → WroteActs names may must u v n → WroteActs names may must w v (suc n)
+one_more names may must w u v rest n e one more = record {
   acts = one.one ∷ more.acts;
   same = more.same ∙ (ap (λ c. c ++ more.acts) one.same ∙ append_assoc w.code (one.one ∷ []) more.acts);
   long = omega (arith, more.long);
   fine = (let ahead : rest ≡ length more.acts + 0 = omega (arith, e, more.long) in subst (IsActBefore may one.one) ahead one.fine, more.fine);
+  safe = λ m. (one.safe m, more.safe m);
   grows = omega (arith, one.grows, more.grows);
   scope = more.scope ∙ one.scope;
   named = λ few. (
@@ -465,10 +497,10 @@ one_more names may w u v rest n e one more = record {
   texts = λ a. more.texts (one.texts a);
 }
 
-pub wrote_acts : (names : Declared) (allowed : Allowed) (w : Writer) (ds : Items) → WroteActs names (switches allowed) w (acts_written names allowed w ds) (items_len ds)
+pub wrote_acts : (names : Declared) (allowed : Allowed) (w : Writer) (ds : Items) → WroteActs names (switches allowed) (restrains allowed) w (acts_written names allowed w ds) (items_len ds)
 unfolding acts_written
-wrote_acts names allowed w no_items = record { acts = []; same = sym (append-nil w.code); long = refl; fine = tt; grows = omega arith; scope = refl; named = λ few. tt; numbered = λ few. refl; texts = λ a. a }
-wrote_acts names allowed w (item d ds) = one_more names (switches allowed) w _ _ _ _ refl (wrote_act names allowed (items_len ds) w d) (wrote_acts names allowed (act_written names allowed (items_len ds) w d) ds)
+wrote_acts names allowed w no_items = record { acts = []; same = sym (append-nil w.code); long = refl; fine = tt; safe = λ m. tt; grows = omega arith; scope = refl; named = λ few. tt; numbered = λ few. refl; texts = λ a. a }
+wrote_acts names allowed w (item d ds) = one_more names (switches allowed) (restrains allowed) w _ _ _ _ refl (wrote_act names allowed (items_len ds) w d) (wrote_acts names allowed (act_written names allowed (items_len ds) w d) ds)
 
 -- ---- bodies
 
@@ -483,8 +515,8 @@ record WroteParts (names : Declared) (w v : Writer) (bodies : List Body) : Type 
   numbered : length v.texts ≤ 4096 → given_after (length w.texts) (text_uses (flatten parts)) ≡ Some (length v.texts)
   texts : AllByRecursion (λ t. is_text t ≡ true) w.texts → AllByRecursion (λ t. is_text t ≡ true) v.texts
 
-ended : (names : Declared) (may : Bool) (b : Body) (w u : Writer) (n : ℕ) → may ≡ may_switch b → WroteActs names may w u n → WroteParts names w (with_instr (instr.End b) u) (b ∷ [])
-ended names may b w u n e wrote = record {
+ended : (names : Declared) (may must : Bool) (b : Body) (w u : Writer) (n : ℕ) → may ≡ may_switch b → WroteActs names may must w u n → WroteParts names w (with_instr (instr.End b) u) (b ∷ [])
+ended names may must b w u n e wrote = record {
   parts = record { body = b; acts = map plain wrote.acts } ∷ [];
   same = ap (λ c. c ++ instr.End b ∷ []) wrote.same ∙ (append_assoc w.code wrote.acts (instr.End b ∷ []) ∙ ap (λ c. w.code ++ (c ++ instr.End b ∷ [])) (sym (plain_code wrote.acts)));
   made = refl;
@@ -498,14 +530,12 @@ ended names may b w u n e wrote = record {
   texts = wrote.texts;
 }
 
-as_allowed : (b : Body) → switches (allowed_in b) ≡ may_switch b
-unfolding switches
-as_allowed (body.Enter s) = refl
-as_allowed (body.Exit s) = refl
-as_allowed other = refl
+-- which bodies hold these acts
+abbrev pub Holds : Allowed → Body → Type 0
+Holds allowed b = switches allowed ≡ may_switch b
 
-wrote_body : (names : Declared) (b : Body) (w : Writer) (found : Option Data) → WroteParts names w (body_written names b w found) (b ∷ [])
-wrote_body names b w found = ended names (switches (allowed_in b)) b w (acts_written names (allowed_in b) w (list_of found)) _ (as_allowed b) (wrote_acts names (allowed_in b) w (list_of found))
+wrote_body : (names : Declared) (allowed : Allowed) (b : Body) (w : Writer) (found : Option Data) → Holds allowed b → WroteParts names w (body_written names allowed b w found) (b ∷ [])
+wrote_body names allowed b w found h = ended names (switches allowed) (restrains allowed) b w (acts_written names allowed w (list_of found)) _ h (wrote_acts names allowed w (list_of found))
 
 flatten-append : (ps qs : List Part) → flatten (ps ++ qs) ≡ flatten ps ++ flatten qs
 flatten-append [] qs = refl
@@ -543,8 +573,8 @@ states_from k (suc n) = body.Enter (state_id k) ∷ body.Exit (state_id k) ∷ s
 wrote_state : (names : Declared) (k : ℕ) (w : Writer) (d : Data) → WroteParts names w (state_written names k w d) (body.Enter (state_id k) ∷ body.Exit (state_id k) ∷ [])
 wrote_state names k w d =
     joined names w _ _ (body.Enter (state_id k) ∷ []) (body.Exit (state_id k) ∷ [])
-    (wrote_body names (body.Enter (state_id k)) w (get (codes "enter") d))
-    (wrote_body names (body.Exit (state_id k)) (body_written names (body.Enter (state_id k)) w (get (codes "enter") d)) (get (codes "exit") d))
+    (wrote_body names NoSwitch (body.Enter (state_id k)) w (get (codes "enter") d) refl)
+    (wrote_body names NoSwitch (body.Exit (state_id k)) (body_written names NoSwitch (body.Enter (state_id k)) w (get (codes "enter") d)) (get (codes "exit") d) refl)
 
 wrote_states : (names : Declared) (k : ℕ) (w : Writer) (ds : Items) → WroteParts names w (states_written names k w ds) (states_from k (items_len ds))
 unfolding states_written states_from
@@ -563,24 +593,28 @@ rows_from : ℕ → Items → List Body
 rows_from k no_items = []
 rows_from k (item d ds) = one_if (row_body k) (get (codes "do") d) ++ rows_from (suc k) ds
 
-wrote_handler : (names : Declared) (b : Body) (w : Writer) (found : Option Data) → WroteParts names w (handler_written names b w found) (one_if b found)
+handler_holds : (b : Bool) (k : ℕ) → Holds (if b then Safe else AnyAct) (row_body k)
+handler_holds true k = refl
+handler_holds false k = refl
+
+wrote_handler : (names : Declared) (allowed : Allowed) (b : Body) (w : Writer) (found : Option Data) → Holds allowed b → WroteParts names w (handler_written names allowed b w found) (one_if b found)
 unfolding one_if
-wrote_handler names b w None = no_bodies names w
-wrote_handler names b w (Some d) = wrote_body names b w (Some d)
+wrote_handler names allowed b w None h = no_bodies names w
+wrote_handler names allowed b w (Some d) h = wrote_body names allowed b w (Some d) h
 
 wrote_rows : (names : Declared) (k : ℕ) (w : Writer) (ds : Items) → WroteParts names w (rows_written names k w ds) (rows_from k ds)
 unfolding rows_written rows_from
 wrote_rows names k w no_items = no_bodies names w
 wrote_rows names k w (item d ds) =
     joined names w _ _ (one_if (row_body k) (get (codes "do") d)) (rows_from (suc k) ds)
-    (wrote_handler names (row_body k) w (get (codes "do") d))
-    (wrote_rows names (suc k) (handler_written names (row_body k) w (get (codes "do") d)) ds)
+    (wrote_handler names (handler_acts d) (row_body k) w (get (codes "do") d) (handler_holds (is_safe d) k))
+    (wrote_rows names (suc k) (handler_written names (handler_acts d) (row_body k) w (get (codes "do") d)) ds)
 
 wrote_start : (names : Declared) (w : Writer) (d : Data) → WroteParts names w (start_written names w d) (body.Start ∷ body.Finish ∷ [])
 wrote_start names w d =
     joined names w _ _ (body.Start ∷ []) (body.Finish ∷ [])
-    (wrote_body names body.Start w (get (codes "start") d))
-    (wrote_body names body.Finish (body_written names body.Start w (get (codes "start") d)) (get (codes "finish") d))
+    (wrote_body names AnyAct body.Start w (get (codes "start") d) refl)
+    (wrote_body names AnyAct body.Finish (body_written names AnyAct body.Start w (get (codes "start") d)) (get (codes "finish") d) refl)
 
 bodies_of : Data → List Body
 bodies_of d = body.Start ∷ body.Finish ∷ (states_from 1 (items_len (state_items d)) ++ rows_from 0 (row_items d))

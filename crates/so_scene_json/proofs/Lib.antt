@@ -3,6 +3,7 @@ pub mod Codes
 pub mod Ends
 pub mod Grouped
 pub mod Joined
+pub mod Marked
 pub mod Numbers
 pub mod Passed
 pub mod Runs

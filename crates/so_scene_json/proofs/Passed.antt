@@ -8,9 +8,9 @@ use Rattle.std.specs.Option.{option_and_then, option_map}
 use Rattle.serde_json.specs.Data.{Data, Items, no_items, item, null, boolean, number, string, array, object as object_data}
 use Rattle.serde_json.specs.Events.{items_len}
 use Rattle.serde_json.specs.Find.{as_str, as_array, get}
-use Rattle.so_scene.specs.Checked.{given, is_built}
+use Rattle.so_scene.specs.Checked.{given}
 use Rattle.so_scene.specs.declared.parts.DispKind.{DispKind}
-use Rattle.so_scene.specs.declared.parts.DispKind.TheVariants.{OneThread, ActiveGroup}
+use Rattle.so_scene.specs.declared.parts.DispKind.TheVariants.{ActiveGroup}
 use Rattle.so_scene.specs.Faults.{spelling}
 use Rattle.so_scene.specs.Names.{has_name}
 use Rattle.so_scene.specs.Words.{is_name}
@@ -34,14 +34,15 @@ use Rattle.so_scene_json.specs.declared.table.Form.{Form}
 use Rattle.so_scene_json.specs.declared.table.Form.TheVariants as form
 use Rattle.so_scene_json.specs.declared.table.Rule.{Rule}
 use Rattle.so_scene_json.specs.declared.values.Trouble.{Trouble}
-use Rattle.so_scene_json.specs.declared.values.Trouble.TheVariants.{WrongShape, UnknownName, OutOfRange, NotBuilt}
+use Rattle.so_scene_json.specs.declared.values.Trouble.TheVariants.{WrongShape, UnknownName, OutOfRange}
 use Rattle.so_scene_json.specs.Table.{rules_of, objects_of, required, optional, later}
-use Rattle.so_scene_json.specs.Values.{checked, trouble, name_of, name_in, text_or_empty, string_in, id_in, group_in, disp_kind_of, disp_kind_in, ok_or, read_or, ◌else◌, ◌or◌}
+use Rattle.so_scene_json.specs.Values.{checked, trouble, name_of, name_in, text_or_empty, string_in, id_in, group_in, is_safe, ◌else◌, ◌or◌}
+use Rattle.so_scene_json.specs.ActTable.{handler_acts}
 use Rattle.so_scene_json.specs.Acts.{act_parts, act_trouble}
 use Rattle.so_scene_json.specs.Defs.{value_in}
 use Rattle.so_scene_json.specs.Numbers.{HasNumbers, EntersNumbers}
 use Rattle.so_scene_json.specs.Visits.{Visit, enters, tries, leaves, Place, visits, fields_of, field_visits, in_objects, items_from, at_item, at_key, list_of, listed, run, ◌>>=◌}
-use Rattle.so_scene_json.specs.Shape.{acts_from, acts_fault, is_initial, is_breach, shape_step, shape_fault, unless_faulty, field_fault, trouble_at, list_trouble, first_of, object_trouble, is_row_breach, is_disp_breach, disp_kind_trouble, state_name_trouble, name_trouble as shape_name_trouble}
+use Rattle.so_scene_json.specs.Shape.{acts_from, acts_fault, is_initial, is_breach, shape_step, shape_fault, unless_faulty, field_fault, trouble_at, list_trouble, first_of, object_trouble, is_row_breach, is_pool_breach, is_quotes_breach, is_disp_breach, state_name_trouble, name_trouble as shape_name_trouble}
 use Rattle.so_scene_json.specs.Scope.{ids_of, names_of, state_items, row_items, filter_items}
 use Rattle.so_scene_json.specs.Twice.{twice_step, disp_number, disp_number_in, names_in, with_name, with_field, with_mbox_read, with_mboxes, declared_name}
 use Rattle.so_scene_json.specs.Known.{known_step, entered, field_unknown, send_trouble, word_unknown, parts_unknown, act_unknown, name_trouble, object_unknown, group_unfit, kind_at}
@@ -87,12 +88,13 @@ IsActKnown names d = ArePartsKnown names (act_parts d)
 abbrev pub AreKnown : Declared → Form → Place → Option Data → Type 0
 AreKnown names (form.NameIn space) place (Some d) = trouble_at place (name_trouble names space (as_str d)) ≡ None
 AreKnown names (form.Acts allowed) place (Some d) = AllByRecursion (IsActKnown names) (listed (list_of (Some d)))
+AreKnown names form.Handler place (Some d) = AllByRecursion (IsActKnown names) (listed (list_of (Some d)))
 AreKnown names other place found = Unit {0}
 
 -- a name that the field uses is declared, and an agent has a group where it should
 abbrev pub IsKnown : Declared → Visit → Type 0
 IsKnown names (enters kind place d) = object_unknown kind names place d ≡ None
-IsKnown names (tries rule place found) = AreKnown names rule.form place found
+IsKnown names (tries rule place d found) = AreKnown names rule.form place found
 IsKnown names (leaves kind place d) = Unit {0}
 
 record Knew (k t : Known) (v : Visit) : Type 0 where
@@ -135,6 +137,8 @@ known_form k (form.NameIn space) place (Some d) e = e
 known_form k (form.NameIn space) place None e = tt
 known_form k (form.Acts allowed) place (Some d) e = acts_known k place 0 (list_of (Some d)) e
 known_form k (form.Acts allowed) place None e = tt
+known_form k form.Handler place (Some d) e = acts_known k place 0 (list_of (Some d)) e
+known_form k form.Handler place None e = tt
 known_form k other place found e = tt
 
 same_names : (kind : ObjectKind) (d : Data) (k : Known) → (entered kind d k).names ≡ k.names
@@ -145,7 +149,7 @@ knew : (k t : Known) (v : Visit) → known_step k v ≡ Ok t → Knew k t v
 knew k t (enters kind place d) e =
     let p = no_fault (entered kind d k) t (object_unknown kind k.names place d) e in
     record { names = ap (λ (x : Known). x.names) (sym p.same) ∙ same_names kind d k; known = p.none }
-knew k t (tries rule place found) e =
+knew k t (tries rule place d found) e =
     let p = no_fault k t (field_unknown k rule.form place found) e in
     record { names = ap (λ (x : Known). x.names) (sym p.same); known = known_form k rule.form place found p.none }
 knew k t (leaves kind place d) e = record { names = ap (λ (x : Known). x.names) (sym (ok_same k t e)); known = tt }
@@ -241,13 +245,13 @@ passed_field names inside (rule ∷ rules) (suc k) default place d l p =
 abbrev found_in : Rule → Data → Option Data
 found_in rule d = get (spelling rule.field) d
 
-passed_try : (names : Declared) (inside : ObjectKind → Place → Data → List Visit) (rule : Rule) (place : Place) (d : Data) → ArePassed names (field_visits inside rule place d) → IsFine names (tries rule (at_key place rule) (found_in rule d))
+passed_try : (names : Declared) (inside : ObjectKind → Place → Data → List Visit) (rule : Rule) (place : Place) (d : Data) → ArePassed names (field_visits inside rule place d) → IsFine names (tries rule (at_key place rule) d (found_in rule d))
 unfolding field_visits
 passed_try names inside rule place d p = p.each.0
 
 passed_inside : (names : Declared) (inside : ObjectKind → Place → Data → List Visit) (rule : Rule) (place : Place) (d : Data) → ArePassed names (field_visits inside rule place d) → ArePassed names (in_objects inside (objects_of rule.form) (at_key place rule) (found_in rule d))
 unfolding field_visits
-passed_inside names inside rule place d p = passed_tail names (tries rule (at_key place rule) (found_in rule d)) (in_objects inside (objects_of rule.form) (at_key place rule) (found_in rule d)) p
+passed_inside names inside rule place d p = passed_tail names (tries rule (at_key place rule) d (found_in rule d)) (in_objects inside (objects_of rule.form) (at_key place rule) (found_in rule d)) p
 
 abbrev inner : ℕ → ObjectKind → Place → Data → List Visit
 inner n kind place d = fields_of (visits n) (rules_of kind) place d
@@ -267,22 +271,22 @@ known_string : (names : Declared) (space : Space) (place : Place) (o : Option (L
 known_string names space place None e h = absurd cc
 known_string names space place (Some text) e h = known_name names space place text (has_name (names_in space names) text) refl h
 
-known_field : (names : Declared) (space : Space) (f : Field) (place : Place) (found : Option Data) → IsFine names (tries (required f (form.NameIn space)) place found) → has_name (names_in space names) (text_or_empty (option_and_then as_str found)) ≡ true
-known_field names space f place None h = absurd cc
-known_field names space f place (Some d) h = known_string names space place (as_str d) h.0 h.1
+known_field : (names : Declared) (space : Space) (f : Field) (place : Place) (o : Data) (found : Option Data) → IsFine names (tries (required f (form.NameIn space)) place o found) → has_name (names_in space names) (text_or_empty (option_and_then as_str found)) ≡ true
+known_field names space f place o None h = absurd cc
+known_field names space f place o (Some d) h = known_string names space place (as_str d) h.0 h.1
 
-known_if_there : (names : Declared) (space : Space) (f : Field) (place : Place) (found : Option Data) → IsFine names (tries (optional f (form.NameIn space)) place found) → is_some found ≡ true → has_name (names_in space names) (text_or_empty (option_and_then as_str found)) ≡ true
-known_if_there names space f place None h there = absurd (true≢false (sym there))
-known_if_there names space f place (Some d) h there = known_string names space place (as_str d) h.0 h.1
+known_if_there : (names : Declared) (space : Space) (f : Field) (place : Place) (o : Data) (found : Option Data) → IsFine names (tries (optional f (form.NameIn space)) place o found) → is_some found ≡ true → has_name (names_in space names) (text_or_empty (option_and_then as_str found)) ≡ true
+known_if_there names space f place o None h there = absurd (true≢false (sym there))
+known_if_there names space f place o (Some d) h there = known_string names space place (as_str d) h.0 h.1
 
 known_disp : (names : Declared) (place : Place) (o : Option (List ℕ)) → trouble_at place (name_trouble names space.Dispatchers o) ≡ None → is_some (disp_number names o) ≡ true
 known_disp names place None h = refl
 known_disp names place (Some text) h = known_name names space.Dispatchers place text (has_name (names_in space.Dispatchers names) text) refl h
 
 -- the dispatcher of an agent is declared
-known_if_given : (names : Declared) (f : Field) (place : Place) (found : Option Data) → IsFine names (tries (optional f (form.NameIn space.Dispatchers)) place found) → is_some (disp_number names (option_and_then as_str found)) ≡ true
-known_if_given names f place None h = refl
-known_if_given names f place (Some d) h = known_disp names place (as_str d) h.1
+known_if_given : (names : Declared) (f : Field) (place : Place) (o : Data) (found : Option Data) → IsFine names (tries (optional f (form.NameIn space.Dispatchers)) place o found) → is_some (disp_number names (option_and_then as_str found)) ≡ true
+known_if_given names f place o None h = refl
+known_if_given names f place o (Some d) h = known_disp names place (as_str d) h.1
 
 -- ---- names that objects declare
 
@@ -295,9 +299,9 @@ named_string place None h = absurd cc
 named_string place (Some s) h = named_if (is_name s) place s refl h
 
 -- a field that must have a name has one
-named_field : (place : Place) (found : Option Data) → field_fault (required field.Name form.Name) place found ≡ None → is_name (text_or_empty (checked is_name (text_or_empty (option_and_then as_str found)))) ≡ true
-named_field place None h = absurd cc
-named_field place (Some d) h = named_string place (as_str d) h
+named_field : (place : Place) (o : Data) (found : Option Data) → field_fault (required field.Name form.Name) place o found ≡ None → is_name (text_or_empty (checked is_name (text_or_empty (option_and_then as_str found)))) ≡ true
+named_field place o None h = absurd cc
+named_field place o (Some d) h = named_string place (as_str d) h
 
 not_default : (b : Bool) (place : Place) → trouble_at place (if b then Some WrongShape else None) ≡ None → not b ≡ true
 not_default true place h = absurd cc
@@ -311,9 +315,9 @@ named_state_string : (place : Place) (o : Option (List ℕ)) → trouble_at plac
 named_state_string place None h = absurd cc
 named_state_string place (Some s) h = named_state_if (is_name s) place s refl h
 
-named_state_field : (place : Place) (found : Option Data) → field_fault (required field.Name form.StateName) place found ≡ None → is_state_name (text_or_empty (checked is_name (text_or_empty (option_and_then as_str found)))) ≡ true
-named_state_field place None h = absurd cc
-named_state_field place (Some d) h = named_state_string place (as_str d) h
+named_state_field : (place : Place) (o : Data) (found : Option Data) → field_fault (required field.Name form.StateName) place o found ≡ None → is_state_name (text_or_empty (checked is_name (text_or_empty (option_and_then as_str found)))) ≡ true
+named_state_field place o None h = absurd cc
+named_state_field place o (Some d) h = named_state_string place (as_str d) h
 
 -- a group is given exactly where its field is
 given_name_if : (b : Bool) (place : Place) (s : List ℕ) → is_name s ≡ b → trouble_at place (trouble ((if b then Some s else None) else WrongShape)) ≡ None → is_some (if b then Some s else None) ≡ true
@@ -324,9 +328,9 @@ given_string : (place : Place) (o : Option (List ℕ)) → trouble_at place (tro
 given_string place None h = absurd cc
 given_string place (Some s) h = given_name_if (is_name s) place s refl h
 
-given_field : (f : Field) (place : Place) (found : Option Data) → field_fault (optional f form.Name) place found ≡ None → is_some (checked is_name (text_or_empty (option_and_then as_str found))) ≡ is_some found
-given_field f place None h = refl
-given_field f place (Some d) h = given_string place (as_str d) h
+given_field : (f : Field) (place : Place) (o : Data) (found : Option Data) → field_fault (optional f form.Name) place o found ≡ None → is_some (checked is_name (text_or_empty (option_and_then as_str found))) ≡ is_some found
+given_field f place o None h = refl
+given_field f place o (Some d) h = given_string place (as_str d) h
 
 -- ---- acts
 
@@ -347,9 +351,13 @@ pub record AreActs (names : Declared) (found : Option Data) : Type 0 where
   pub few : items_len (list_of found) ≤ 256
   pub known : AllByRecursion (IsActKnown names) (listed (list_of found))
 
-fine_acts : (names : Declared) (allowed : Allowed) (f : Field) (place : Place) (found : Option Data) → IsFine names (tries (optional f (form.Acts allowed)) place found) → AreActs names found
-fine_acts names allowed f place None h = record { few = omega arith; known = tt }
-fine_acts names allowed f place (Some d) h = record { few = few_acts allowed place d h.0; known = h.1 }
+fine_acts : (names : Declared) (allowed : Allowed) (f : Field) (place : Place) (o : Data) (found : Option Data) → IsFine names (tries (optional f (form.Acts allowed)) place o found) → AreActs names found
+fine_acts names allowed f place o None h = record { few = omega arith; known = tt }
+fine_acts names allowed f place o (Some d) h = record { few = few_acts allowed place d h.0; known = h.1 }
+
+fine_handler : (names : Declared) (place : Place) (row : Data) (found : Option Data) → IsFine names (tries (optional field.Do form.Handler) place row found) → AreActs names found
+fine_handler names place row None h = record { few = omega arith; known = tt }
+fine_handler names place row (Some d) h = record { few = few_acts (handler_acts row) place d h.0; known = h.1 }
 
 -- ---- states, rows and filters
 
@@ -361,6 +369,7 @@ pub record HasState (names : Declared) (d : Data) : Type 0 where
 
 pub record HasRow (names : Declared) (d : Data) : Type 0 where
   pub stateless : is_some (get (codes "dead") d) ≡ true → is_some (get (codes "state") d) ≡ false
+  pub safe : is_safe d ≡ true → is_some (get (codes "do") d) ≡ true
   pub msg : has_name names.messages (string_in (codes "msg") d) ≡ true
   pub mbox : is_some (get (codes "mbox") d) ≡ true → has_name (names.agents ++ names.mboxes) (string_in (codes "mbox") d) ≡ true
   pub acts : AreActs names (get (codes "do") d)
@@ -374,7 +383,7 @@ no_rule : Rule
 no_rule = later field.Id
 
 fine_try : (names : Declared) (n : ℕ) (kind : ObjectKind) (k : ℕ) (place : Place) (d : Data) → k < length (rules_of kind) → ArePassed names (visits (suc n) kind place d)
-    → IsFine names (tries (get_or (rules_of kind) k no_rule) (at_key place (get_or (rules_of kind) k no_rule)) (found_in (get_or (rules_of kind) k no_rule) d))
+    → IsFine names (tries (get_or (rules_of kind) k no_rule) (at_key place (get_or (rules_of kind) k no_rule)) d (found_in (get_or (rules_of kind) k no_rule) d))
 fine_try names n kind k place d l p = passed_try names (visits n) (get_or (rules_of kind) k no_rule) place d (passed_field names (visits n) (rules_of kind) k no_rule place d l (passed_fields names n kind place d p))
 
 -- what is tried as an object begins
@@ -392,37 +401,42 @@ no_breach : (place : Place) (b : Bool) → (if b then Some (fault.WrongShape pla
 no_breach place true e = absurd cc
 no_breach place false e = refl
 
-neither : (a b c : Bool) → (a || (b || c)) ≡ false → c ≡ false
-neither true b c e = absurd (true≢false e)
-neither false true c e = absurd (true≢false e)
-neither false false c e = e
+no_third : (a b c d : Bool) → (a || ((b || c) || d)) ≡ false → (c ≡ false) × (d ≡ false)
+no_third true b c d e = absurd (true≢false e)
+no_third false true c d e = absurd (true≢false e)
+no_third false false true d e = absurd (true≢false e)
+no_third false false false d e = (refl, e)
 
 not_both : (a b : Bool) → nat_lt 1 ((if a then 1 else 0) + (if b then 1 else 0)) ≡ false → a ≡ true → b ≡ false
 not_both true true e a = absurd cc
 not_both true false e a = refl
 not_both false b e a = absurd (true≢false (sym a))
 
+there_if : (a b : Bool) → (a && ((if b then 1 else 0) == 0)) ≡ false → a ≡ true → b ≡ true
+there_if a true e i = refl
+there_if true false e i = absurd (true≢false e)
+there_if false false e i = absurd (true≢false (sym i))
+
+-- a dead-letter row has no state, and a safe one has do
+fits_row : (names : Declared) (n : ℕ) (place : Place) (d : Data) → ArePassed names (visits (suc n) object.Row place d)
+    → (nat_lt 1 ((if is_some (get (codes "dead") d) then 1 else 0) + (if is_some (get (codes "state") d) then 1 else 0)) ≡ false) × ((is_safe d && ((if is_some (get (codes "do") d) then 1 else 0) == 0)) ≡ false)
+fits_row names n place d p = no_third _ _ _ _ (no_breach place (is_row_breach d) (passed_last names n object.Row place d p).0)
+
 fine_row : (names : Declared) (n : ℕ) (place : Place) (d : Data) → ArePassed names (visits (suc n) object.Row place d) → HasRow names d
 fine_row names n place d p = record {
-  stateless = λ dead.
-      let last : is_row_breach d ≡ false = no_breach place (is_row_breach d) (passed_last names n object.Row place d p).0 in
-      not_both (is_some (get (codes "dead") d)) (is_some (get (codes "state") d)) (neither _ _ _ last) dead;
-  msg = known_field names space.Messages field.Msg _ (get (codes "msg") d) (fine_try names n object.Row 1 place d (omega arith) p);
-  mbox = λ there. known_if_there names space.Mboxes field.Mbox _ (get (codes "mbox") d) (fine_try names n object.Row 2 place d (omega arith) p) there;
-  acts = fine_acts names AnyAct field.Do _ (get (codes "do") d) (fine_try names n object.Row 4 place d (omega arith) p);
+  stateless = λ dead. not_both (is_some (get (codes "dead") d)) (is_some (get (codes "state") d)) (fits_row names n place d p).0 dead;
+  safe = λ safe. there_if (is_safe d) (is_some (get (codes "do") d)) (fits_row names n place d p).1 safe;
+  msg = known_field names space.Messages field.Msg _ d (get (codes "msg") d) (fine_try names n object.Row 1 place d (omega arith) p);
+  mbox = λ there. known_if_there names space.Mboxes field.Mbox _ d (get (codes "mbox") d) (fine_try names n object.Row 2 place d (omega arith) p) there;
+  acts = fine_handler names _ d (get (codes "do") d) (fine_try names n object.Row 4 place d (omega arith) p);
 }
-
-has_parent : (a b : Bool) → (a && ((if b then 1 else 0) == 0)) ≡ false → a ≡ true → b ≡ true
-has_parent a true e i = refl
-has_parent true false e i = absurd (true≢false e)
-has_parent false false e i = absurd (true≢false (sym i))
 
 fine_state : (names : Declared) (n : ℕ) (place : Place) (d : Data) → ArePassed names (visits (suc n) object.State place d) → HasState names d
 fine_state names n place d p = record {
-  named = named_state_field _ (get (codes "name") d) (fine_try names n object.State 0 place d (omega arith) p).0;
-  parent = λ initial. has_parent (is_initial d) (is_some (get (codes "parent") d)) (no_breach place (is_breach object.State d) (passed_last names n object.State place d p).0) initial;
-  enter = fine_acts names NoSwitch field.Enter _ (get (codes "enter") d) (fine_try names n object.State 5 place d (omega arith) p);
-  exit = fine_acts names NoSwitch field.Exit _ (get (codes "exit") d) (fine_try names n object.State 6 place d (omega arith) p);
+  named = named_state_field _ d (get (codes "name") d) (fine_try names n object.State 0 place d (omega arith) p).0;
+  parent = λ initial. there_if (is_initial d) (is_some (get (codes "parent") d)) (no_breach place (is_breach object.State d) (passed_last names n object.State place d p).0) initial;
+  enter = fine_acts names NoSwitch field.Enter _ d (get (codes "enter") d) (fine_try names n object.State 5 place d (omega arith) p);
+  exit = fine_acts names NoSwitch field.Exit _ d (get (codes "exit") d) (fine_try names n object.State 6 place d (omega arith) p);
 }
 
 each_named : (names : Declared) (ds : List Data) → AllByRecursion (HasState names) ds → AllByRecursion (λ name. is_state_name name ≡ true) (map name_in ds)
@@ -433,26 +447,21 @@ each_named names (d ∷ ds) a = (a.0.named, each_named names ds a.1)
 
 pub record IsFineDisp (d : Data) : Type 0 where
   pub named : is_name (name_in d) ≡ true
-  pub kind : is_built (disp_kind_in d) ≡ true
-  pub fits : is_disp_breach d ≡ false
+  pub pool : is_pool_breach d ≡ false
+  pub quotes : is_quotes_breach d ≡ false
 
-built_if : (b : Bool) (place : Place) → trouble_at place (if b then None else Some NotBuilt) ≡ None → b ≡ true
-built_if true place h = refl
-built_if false place h = absurd cc
+neither : (a b : Bool) → (a || b) ≡ false → (a ≡ false) × (b ≡ false)
+neither true b e = absurd (true≢false e)
+neither false b e = (refl, e)
 
-built_kind : (place : Place) (r : Result DispKind Trouble) → trouble_at place (disp_kind_trouble r) ≡ None → is_built (ok_or OneThread r) ≡ true
-built_kind place (Ok kind) h = built_if (is_built kind) place h
-built_kind place (Err t) h = refl
-
-built_field : (place : Place) (found : Option Data) → field_fault (required field.Kind form.DispKind) place found ≡ None → is_built (read_or OneThread disp_kind_of found) ≡ true
-built_field place None h = absurd cc
-built_field place (Some d) h = built_kind place (disp_kind_of d) h
+fits_disp : (names : Declared) (n : ℕ) (place : Place) (d : Data) → ArePassed names (visits (suc n) object.Dispatcher place d) → (is_pool_breach d ≡ false) × (is_quotes_breach d ≡ false)
+fits_disp names n place d p = neither (is_pool_breach d) (is_quotes_breach d) (no_breach place (is_disp_breach d) (passed_last names n object.Dispatcher place d p).0)
 
 fine_disp : (names : Declared) (n : ℕ) (place : Place) (d : Data) → ArePassed names (visits (suc n) object.Dispatcher place d) → IsFineDisp d
 fine_disp names n place d p = record {
-  named = named_field _ (get (codes "name") d) (fine_try names n object.Dispatcher 0 place d (omega arith) p).0;
-  kind = built_field _ (get (codes "kind") d) (fine_try names n object.Dispatcher 1 place d (omega arith) p).0;
-  fits = no_breach place (is_disp_breach d) (passed_last names n object.Dispatcher place d p).0;
+  named = named_field _ d (get (codes "name") d) (fine_try names n object.Dispatcher 0 place d (omega arith) p).0;
+  pool = (fits_disp names n place d p).0;
+  quotes = (fits_disp names n place d p).1;
 }
 
 -- an agent on an active_group dispatcher names a group, and no other does
@@ -489,14 +498,14 @@ has_disp names place d (Some k) e there given h = record { number = k; is = e; g
 fine_on : (names : Declared) (n : ℕ) (place : Place) (d : Data) → ArePassed names (visits (suc n) object.Agent place d) → HasDisp names d
 fine_on names n place d p =
     has_disp names place d (disp_number_in names d) refl
-    (known_if_given names field.Disp _ (get (codes "disp") d) (fine_try names n object.Agent 1 place d (omega arith) p))
-    (given_field field.Group _ (get (codes "group") d) (fine_try names n object.Agent 2 place d (omega arith) p).0)
+    (known_if_given names field.Disp _ d (get (codes "disp") d) (fine_try names n object.Agent 1 place d (omega arith) p))
+    (given_field field.Group _ d (get (codes "group") d) (fine_try names n object.Agent 2 place d (omega arith) p).0)
     (passed_first names n object.Agent place d p).1
 
 fine_filter : (names : Declared) (n : ℕ) (place : Place) (d : Data) → ArePassed names (visits (suc n) object.Filter place d) → HasFilter names d
 fine_filter names n place d p = record {
-  msg = known_field names space.Messages field.Msg _ (get (codes "msg") d) (fine_try names n object.Filter 2 place d (omega arith) p);
-  mbox = known_field names space.Mboxes field.Mbox _ (get (codes "mbox") d) (fine_try names n object.Filter 1 place d (omega arith) p);
+  msg = known_field names space.Messages field.Msg _ d (get (codes "msg") d) (fine_try names n object.Filter 2 place d (omega arith) p);
+  mbox = known_field names space.Mboxes field.Mbox _ d (get (codes "mbox") d) (fine_try names n object.Filter 1 place d (omega arith) p);
   value = number_read (get (codes "value") d) (get_numbers (codes "value") d (passed_first names n object.Filter place d p).2);
 }
 
@@ -542,12 +551,12 @@ form_ids other found s = record { states = refl; rows = refl; filters = refl }
 -- no object is entered
 abbrev IsInside : Visit → Type 0
 IsInside (enters kind place d) = ⊥
-IsInside (tries rule place found) = Unit {0}
+IsInside (tries rule place d found) = Unit {0}
 IsInside (leaves kind place d) = Unit {0}
 
 step_ids : (s t : Declared) (v : Visit) → IsInside v → twice_step s v ≡ Ok t → SameIds s t
 step_ids s t (enters kind place d) h e = absurd h
-step_ids s t (tries rule place found) h e = then_ids s (with_field rule.form found s) t (form_ids rule.form found s) (kept_ids _ t (ok_same (with_field rule.form found s) t e))
+step_ids s t (tries rule place d found) h e = then_ids s (with_field rule.form found s) t (form_ids rule.form found s) (kept_ids _ t (ok_same (with_field rule.form found s) t e))
 step_ids s t (leaves kind place d) h e = kept_ids s t (ok_same s t e)
 
 run_ids : (s t : Declared) (vs : List Visit) → AllByRecursion IsInside vs → run twice_step s vs ≡ Ok t → SameIds s t
@@ -661,13 +670,13 @@ limit_value f limit place (string s) h = absurd cc
 limit_value f limit place (array ds) h = limit_items place limit f ds (nat_le (items_len ds) limit) refl h
 limit_value f limit place (object_data ms) h = absurd cc
 
-limit_objects : (f : Field) (kind : ObjectKind) (limit : ℕ) (place : Place) (found : Option Data) → field_fault (optional f (form.Objects kind (Some limit))) place found ≡ None → items_len (list_of found) ≤ limit
-limit_objects f kind limit place None h = omega arith
-limit_objects f kind limit place (Some d) h = limit_value object_trouble limit place d h
+limit_objects : (f : Field) (kind : ObjectKind) (limit : ℕ) (place : Place) (o : Data) (found : Option Data) → field_fault (optional f (form.Objects kind (Some limit))) place o found ≡ None → items_len (list_of found) ≤ limit
+limit_objects f kind limit place o None h = omega arith
+limit_objects f kind limit place o (Some d) h = limit_value object_trouble limit place d h
 
-limit_mboxes : (f : Field) (limit : ℕ) (place : Place) (found : Option Data) → field_fault (optional f (form.Mboxes limit)) place found ≡ None → items_len (list_of found) ≤ limit
-limit_mboxes f limit place None h = omega arith
-limit_mboxes f limit place (Some d) h = limit_value shape_name_trouble limit place d h
+limit_mboxes : (f : Field) (limit : ℕ) (place : Place) (o : Data) (found : Option Data) → field_fault (optional f (form.Mboxes limit)) place o found ≡ None → items_len (list_of found) ≤ limit
+limit_mboxes f limit place o None h = omega arith
+limit_mboxes f limit place o (Some d) h = limit_value shape_name_trouble limit place d h
 
 -- ---- an agent
 
@@ -711,20 +720,20 @@ fine_agent names n place d p =
     let new_filters = ids_new object.Filter space.Filters id_in filters_declare n (at_key place filters_rule) 0 (filter_items d) in_filters.begins in_filters.ends in_filters.runs in
     let new_rows = ids_new object.Row space.Rows id_in rows_declare n (at_key place on_rule) 0 (row_items d) in_rows.begins in_rows.ends in_rows.runs in
     record {
-      named = named_field _ (get (codes "name") d) (fine_try names (suc n) object.Agent 0 place d (omega arith) p).0;
+      named = named_field _ d (get (codes "name") d) (fine_try names (suc n) object.Agent 0 place d (omega arith) p).0;
       on = fine_on names (suc n) place d p;
       states = each_state;
       states_named = each_named names (listed (state_items d)) each_state;
-      few_rows = limit_objects field.On object.Row 128 _ (get (codes "on") d) (passed_try names (visits (suc n)) on_rule place d rows).0;
-      few_filters = limit_objects field.Filters object.Filter 32 _ (get (codes "filters") d) (passed_try names (visits (suc n)) filters_rule place d filters).0;
+      few_rows = limit_objects field.On object.Row 128 _ d (get (codes "on") d) (passed_try names (visits (suc n)) on_rule place d rows).0;
+      few_filters = limit_objects field.Filters object.Filter 32 _ d (get (codes "filters") d) (passed_try names (visits (suc n)) filters_rule place d filters).0;
       rows = each_item names (HasRow names) (visits (suc n) object.Row) (fine_row names n) (at_key place on_rule) 0 (row_items d) in_rows;
       filters = each_item names (HasFilter names) (visits (suc n) object.Filter) (fine_filter names n) (at_key place filters_rule) 0 (filter_items d) in_filters;
       state_names = subst (IsDistinct bytes_eq) (given_names (listed (state_items d))) new_states.distinct;
       row_ids = new_rows.distinct;
       filter_ids = new_filters.distinct;
       numbers = (passed_first names (suc n) object.Agent place d p).2;
-      start = fine_acts names AnyAct field.Start _ (get (codes "start") d) (fine_try names (suc n) object.Agent 10 place d (omega arith) p);
-      finish = fine_acts names AnyAct field.Finish _ (get (codes "finish") d) (fine_try names (suc n) object.Agent 11 place d (omega arith) p);
+      start = fine_acts names AnyAct field.Start _ d (get (codes "start") d) (fine_try names (suc n) object.Agent 10 place d (omega arith) p);
+      finish = fine_acts names AnyAct field.Finish _ d (get (codes "finish") d) (fine_try names (suc n) object.Agent 11 place d (omega arith) p);
     }
 
 abbrev pub EntersFine : Declared → Visit → Type 0
@@ -733,7 +742,7 @@ EntersFine names (enters object.Dispatcher place d) = IsFineDisp d
 EntersFine names (enters object.Coop place d) = is_name (name_in d) ≡ true
 EntersFine names (enters object.Agent place d) = IsFineAgent names d
 EntersFine names (enters other place d) = Unit {0}
-EntersFine names (tries rule place found) = Unit {0}
+EntersFine names (tries rule place d found) = Unit {0}
 EntersFine names (leaves kind place d) = Unit {0}
 
 -- ---- all visits of a scene
@@ -795,9 +804,9 @@ agent_fine names zero place d l p = absurd (omega arith)
 agent_fine names (suc n) place d l p = fine_agent names n place d p
 
 enter_fine : (names : Declared) (n : ℕ) (kind : ObjectKind) (place : Place) (d : Data) → height kind ≤ suc n → ArePassed names (visits (suc n) kind place d) → EntersFine names (enters kind place d)
-enter_fine names n object.Message place d l p = named_field _ (get (codes "name") d) (fine_try names n object.Message 0 place d (omega arith) p).0
+enter_fine names n object.Message place d l p = named_field _ d (get (codes "name") d) (fine_try names n object.Message 0 place d (omega arith) p).0
 enter_fine names n object.Dispatcher place d l p = fine_disp names n place d p
-enter_fine names n object.Coop place d l p = named_field _ (get (codes "name") d) (fine_try names n object.Coop 0 place d (omega arith) p).0
+enter_fine names n object.Coop place d l p = named_field _ d (get (codes "name") d) (fine_try names n object.Coop 0 place d (omega arith) p).0
 enter_fine names n object.Agent place d l p = agent_fine names n place d l p
 enter_fine names n other place d l p = tt
 
@@ -827,13 +836,13 @@ total-append m (v ∷ vs) us = omega (arith, total-append m vs us)
 abbrev pub is_message : Visit → ℕ
 is_message (enters object.Message place d) = 1
 is_message (enters other place d) = 0
-is_message (tries rule place found) = 0
+is_message (tries rule place d found) = 0
 is_message (leaves kind place d) = 0
 
 abbrev pub is_dispatcher : Visit → ℕ
 is_dispatcher (enters object.Dispatcher place d) = 1
 is_dispatcher (enters other place d) = 0
-is_dispatcher (tries rule place found) = 0
+is_dispatcher (tries rule place d found) = 0
 is_dispatcher (leaves kind place d) = 0
 
 abbrev pub mboxes_in_field : Form → Option Data → ℕ
@@ -842,7 +851,7 @@ mboxes_in_field other found = 0
 
 abbrev pub mboxes_named : Visit → ℕ
 mboxes_named (enters kind place d) = 0
-mboxes_named (tries rule place found) = mboxes_in_field rule.form found
+mboxes_named (tries rule place d found) = mboxes_in_field rule.form found
 mboxes_named (leaves kind place d) = 0
 
 -- a field that names no mboxes, and an object that is no scene, no message and no dispatcher
@@ -864,7 +873,7 @@ AreQuiet (Some kind) = IsQuiet kind
 record Counts (m : Visit → ℕ) : Type 0 where
   entering : (kind : ObjectKind) (place : Place) (d : Data) → IsQuiet kind → m (enters kind place d) ≡ 0
   scene : (place : Place) (d : Data) → m (enters object.Scene place d) ≡ 0
-  trying : (rule : Rule) (place : Place) (found : Option Data) → NamesNone rule.form → m (tries rule place found) ≡ 0
+  trying : (rule : Rule) (place : Place) (d : Data) (found : Option Data) → NamesNone rule.form → m (tries rule place d found) ≡ 0
   leaving : (kind : ObjectKind) (place : Place) (d : Data) → m (leaves kind place d) ≡ 0
 
 abbrev QuietRule : Rule → Type 0
@@ -901,7 +910,7 @@ none_in_objects m n h None q place found = refl
 none_in_objects m n h (Some kind) q place found = none_in_items m (visits n kind) (λ at d. h kind at d q) place 0 (list_of found)
 
 total_field : (m : Visit → ℕ) (inside : ObjectKind → Place → Data → List Visit) (rule : Rule) (place : Place) (d : Data)
-    → total m (field_visits inside rule place d) ≡ m (tries rule (at_key place rule) (found_in rule d)) + total m (in_objects inside (objects_of rule.form) (at_key place rule) (found_in rule d))
+    → total m (field_visits inside rule place d) ≡ m (tries rule (at_key place rule) d (found_in rule d)) + total m (in_objects inside (objects_of rule.form) (at_key place rule) (found_in rule d))
 unfolding field_visits
 total_field m inside rule place d = refl
 
@@ -912,7 +921,7 @@ total_fields m inside rule rules place d = total-append m (field_visits inside r
 
 none_in_field : (m : Visit → ℕ) → Counts m → (n : ℕ) → NoneInside m n → (rule : Rule) → QuietRule rule → (place : Place) (d : Data) → total m (field_visits (visits n) rule place d) ≡ 0
 none_in_field m c n h rule q place d =
-    omega (arith, total_field m (visits n) rule place d, c.trying rule (at_key place rule) (found_in rule d) q.0, none_in_objects m n h (objects_of rule.form) q.1 (at_key place rule) (found_in rule d))
+    omega (arith, total_field m (visits n) rule place d, c.trying rule (at_key place rule) d (found_in rule d) q.0, none_in_objects m n h (objects_of rule.form) q.1 (at_key place rule) (found_in rule d))
 
 none_in_fields : (m : Visit → ℕ) → Counts m → (n : ℕ) → NoneInside m n → (rules : List Rule) → AllByRecursion QuietRule rules → (place : Place) (d : Data) → total m (fields_of (visits n) rules place d) ≡ 0
 unfolding fields_of
@@ -965,7 +974,7 @@ total_rules m inside [] more place d = omega arith
 total_rules m inside (rule ∷ rules) more place d =
     omega (arith, total-append m (field_visits inside rule place d) (fields_of inside (rules ++ more) place d), total-append m (field_visits inside rule place d) (fields_of inside rules place d), total_rules m inside rules more place d)
 
-total_scene : (m : Visit → ℕ) → Counts m → (d : Data) → total m (visits 4 object.Scene [] d) ≡ total m (items_from (visits 3 object.Message) (at_key [] messages_rule) 0 (list_of (get (codes "messages") d))) + m (tries mboxes_rule (at_key [] mboxes_rule) (get (codes "mboxes") d))
+total_scene : (m : Visit → ℕ) → Counts m → (d : Data) → total m (visits 4 object.Scene [] d) ≡ total m (items_from (visits 3 object.Message) (at_key [] messages_rule) 0 (list_of (get (codes "messages") d))) + m (tries mboxes_rule (at_key [] mboxes_rule) d (get (codes "mboxes") d))
     + total m (items_from (visits 3 object.Dispatcher) (at_key [] dispatchers_rule) 0 (list_of (get (codes "dispatchers") d)))
 unfolding first_rules middle_rules last_rules messages_rule mboxes_rule dispatchers_rule
 total_scene m c d =
@@ -978,14 +987,14 @@ total_scene m c d =
       none_in_fields m c 3 quiet first_rules ((tt, tt), ((tt, tt), ((tt, tt), tt))) [] d,
       total_fields m (visits 3) messages_rule (mboxes_rule ∷ (middle_rules ++ dispatchers_rule ∷ last_rules)) [] d,
       total_field m (visits 3) messages_rule [] d,
-      c.trying messages_rule (at_key [] messages_rule) (get (codes "messages") d) tt,
+      c.trying messages_rule (at_key [] messages_rule) d (get (codes "messages") d) tt,
       total_fields m (visits 3) mboxes_rule (middle_rules ++ dispatchers_rule ∷ last_rules) [] d,
       total_field m (visits 3) mboxes_rule [] d,
       total_rules m (visits 3) middle_rules (dispatchers_rule ∷ last_rules) [] d,
       none_in_fields m c 3 quiet middle_rules ((tt, tt), tt) [] d,
       total_fields m (visits 3) dispatchers_rule last_rules [] d,
       total_field m (visits 3) dispatchers_rule [] d,
-      c.trying dispatchers_rule (at_key [] dispatchers_rule) (get (codes "dispatchers") d) tt,
+      c.trying dispatchers_rule (at_key [] dispatchers_rule) d (get (codes "dispatchers") d) tt,
       none_in_fields m c 3 quiet last_rules ((tt, tt), ((tt, tt), tt)) [] d,
     )
 
@@ -1002,22 +1011,22 @@ no_mboxes (form.Mboxes limit) found q = absurd q
 no_mboxes other found q = refl
 
 counts_messages : Counts is_message
-counts_messages = record { entering = message_quiet; scene = λ place d. refl; trying = λ rule place found q. refl; leaving = λ kind place d. refl }
+counts_messages = record { entering = message_quiet; scene = λ place d. refl; trying = λ rule place d found q. refl; leaving = λ kind place d. refl }
 
 counts_mboxes : Counts mboxes_named
-counts_mboxes = record { entering = λ kind place d q. refl; scene = λ place d. refl; trying = λ rule place found q. no_mboxes rule.form found q; leaving = λ kind place d. refl }
+counts_mboxes = record { entering = λ kind place d q. refl; scene = λ place d. refl; trying = λ rule place d found q. no_mboxes rule.form found q; leaving = λ kind place d. refl }
 
 counts_dispatchers : Counts is_dispatcher
-counts_dispatchers = record { entering = dispatcher_quiet; scene = λ place d. refl; trying = λ rule place found q. refl; leaving = λ kind place d. refl }
+counts_dispatchers = record { entering = dispatcher_quiet; scene = λ place d. refl; trying = λ rule place d found q. refl; leaving = λ kind place d. refl }
 
 limited_dispatchers : (names : Declared) (d : Data) → ArePassed names (visits 4 object.Scene [] d) → items_len (list_of (get (codes "dispatchers") d)) ≤ 63
-limited_dispatchers names d p = limit_objects field.Dispatchers object.Dispatcher 63 _ (get (codes "dispatchers") d) (fine_try names 3 object.Scene 6 [] d (omega arith) p).0
+limited_dispatchers names d p = limit_objects field.Dispatchers object.Dispatcher 63 _ d (get (codes "dispatchers") d) (fine_try names 3 object.Scene 6 [] d (omega arith) p).0
 
 limited_messages : (names : Declared) (d : Data) → ArePassed names (visits 4 object.Scene [] d) → items_len (list_of (get (codes "messages") d)) ≤ 256
-limited_messages names d p = limit_objects field.Messages object.Message 256 _ (get (codes "messages") d) (fine_try names 3 object.Scene 3 [] d (omega arith) p).0
+limited_messages names d p = limit_objects field.Messages object.Message 256 _ d (get (codes "messages") d) (fine_try names 3 object.Scene 3 [] d (omega arith) p).0
 
 limited_mboxes : (names : Declared) (d : Data) → ArePassed names (visits 4 object.Scene [] d) → items_len (list_of (get (codes "mboxes") d)) ≤ 256
-limited_mboxes names d p = limit_mboxes field.Mboxes 256 _ (get (codes "mboxes") d) (fine_try names 3 object.Scene 4 [] d (omega arith) p).0
+limited_mboxes names d p = limit_mboxes field.Mboxes 256 _ d (get (codes "mboxes") d) (fine_try names 3 object.Scene 4 [] d (omega arith) p).0
 
 pub few_messages : (names : Declared) (d : Data) → ArePassed names (visits 4 object.Scene [] d) → total is_message (visits 4 object.Scene [] d) ≤ 256
 unfolding messages_rule mboxes_rule dispatchers_rule

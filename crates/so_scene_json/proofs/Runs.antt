@@ -118,17 +118,17 @@ object_ends lack step s t u n kind place d r m rules h e x y f =
     (on lack _ _ r m (run-one step u _) f)
 
 same_visit : (rule : Rule) (place at : Place) (d : Data) (k : List ℕ) (found : Option (Bor Value)) → k ≡ spelling rule.field → option_map (λ v. view v.now) found ≡ get k d → at ≡ at_key place rule
-    → tries rule (at_key place rule) (get (spelling rule.field) d) ≡ tries rule at (option_map (λ v. view v.now) found)
+    → tries rule (at_key place rule) d (get (spelling rule.field) d) ≡ tries rule at d (option_map (λ v. view v.now) found)
 same_visit rule place at d k found a b c = rw (c, b, a)
 
 pub field_fails : {S : Type 0} (lack : Type 0) (step : S → Visit → Result S SceneFault) (s : S) (inside : ObjectKind → Place → Data → List Visit) (rule : Rule) (place at : Place) (d : Data) (k : List ℕ) (found : Option (Bor Value)) (e : SceneRefusal) (n m : S)
-    → k ≡ spelling rule.field → option_map (λ v. view v.now) found ≡ get k d → at ≡ at_key place rule → LeavesIf lack (step s (tries rule at (option_map (λ v. view v.now) found))) (Err e) n → LeavesIf lack (run step s (field_visits inside rule place d)) (Err e) m
+    → k ≡ spelling rule.field → option_map (λ v. view v.now) found ≡ get k d → at ≡ at_key place rule → LeavesIf lack (step s (tries rule at d (option_map (λ v. view v.now) found))) (Err e) n → LeavesIf lack (run step s (field_visits inside rule place d)) (Err e) m
 unfolding field_visits
 field_fails lack step s inside rule place at d k found e n m a b c f =
     fails_at lack step s _ _ e n m (on lack _ _ (Err e) n (ap (step s) (same_visit rule place at d k found a b c)) f)
 
 pub field_ends : {S : Type 0} (lack : Type 0) (step : S → Visit → Result S SceneFault) (s t : S) (inside : ObjectKind → Place → Data → List Visit) (rule : Rule) (place at : Place) (d : Data) (k : List ℕ) (found : Option (Bor Value)) (o : Option ObjectKind) (r : Result (Unit {0}) SceneRefusal) (m : S)
-    → k ≡ spelling rule.field → option_map (λ v. view v.now) found ≡ get k d → at ≡ at_key place rule → o ≡ objects_of rule.form → step s (tries rule at (option_map (λ v. view v.now) found)) ≡ Ok t → LeavesIf lack (run step t (in_objects inside o at (option_map (λ v. view v.now) found))) r m → LeavesIf lack (run step s (field_visits inside rule place d)) r m
+    → k ≡ spelling rule.field → option_map (λ v. view v.now) found ≡ get k d → at ≡ at_key place rule → o ≡ objects_of rule.form → step s (tries rule at d (option_map (λ v. view v.now) found)) ≡ Ok t → LeavesIf lack (run step t (in_objects inside o at (option_map (λ v. view v.now) found))) r m → LeavesIf lack (run step s (field_visits inside rule place d)) r m
 unfolding field_visits
 field_ends lack step s t inside rule place at d k found o r m a b c w x f =
     on lack _ _ r m (goes_on_at step s t _ _ (ap (step s) (same_visit rule place at d k found a b c) ∙ x))

@@ -25,15 +25,16 @@ use Rattle.so_scene.specs.Parts.{no_message}
 use Rattle.so_scene.specs.Words.{is_name}
 use Rattle.so_scene.specs.Written.{IsOperand, is_zero, ArePadded, AreOperands, IsWrittenAmong, are_short}
 use Rattle.so_scene_json.specs.declared.act_table.Allowed.{Allowed}
+use Rattle.so_scene_json.specs.declared.act_table.Allowed.TheVariants.{AnyAct, NoSwitch}
 use Rattle.so_scene_json.specs.declared.act_table.Word.{Word}
 use Rattle.so_scene_json.specs.declared.act_table.Word.TheVariants as word
 use Rattle.so_scene_json.specs.declared.declare.Declared.{Declared}
 use Rattle.so_scene_json.specs.declared.table.Space.TheVariants as space
 use Rattle.so_scene_json.specs.declared.values.Trouble.TheVariants.{OutOfRange}
 use Rattle.so_scene_json.specs.declared.write.Writer.{Writer}
-use Rattle.so_scene_json.specs.ActTable.{word_named, is_allowed}
+use Rattle.so_scene_json.specs.ActTable.{word_named, is_allowed, handler_acts}
 use Rattle.so_scene_json.specs.Acts.{act_parts}
-use Rattle.so_scene_json.specs.Build.{allowed_in, body_written, start_written, state_written, states_written, row_body, handler_written, rows_written, agent_written}
+use Rattle.so_scene_json.specs.Build.{body_written, start_written, state_written, states_written, row_body, handler_written, rows_written, agent_written}
 use Rattle.so_scene_json.specs.Known.{has_signal, signal_at, send_trouble, name_trouble}
 use Rattle.so_scene_json.specs.Numbers.{HasNumbers, HaveNumbers}
 use Rattle.so_scene_json.specs.Scope.{state_items, row_items}
@@ -167,7 +168,7 @@ PartsNumbers o = OnSome (λ p. HaveNumbers p.1) o
 parts_said : (names : Declared) (messages : List MessageDef) → AreMessages names messages → (allowed : Allowed) (rest : ℕ) (w : Writer) (o : Option (Word × Items)) → ArePartsKnown names o → PartsNumbers o → AreWritten messages w.code → AreWritten messages (parts_written names rest w (if_allowed allowed o)).code
 unfolding PartsNumbers
 parts_said names messages m allowed rest w None h n a = pushed messages w idle a tt
-parts_said names messages m allowed rest w (Some p) h n a = if_said names messages m rest w p (is_allowed allowed p.0) h n a
+parts_said names messages m allowed rest w (Some p) h n a = if_said names messages m rest w p (is_allowed allowed p.0 p.1) h n a
 
 with_numbers : (o : Option Word) (ds : Items) → HaveNumbers ds → PartsNumbers (option_map (λ w. (w, ds)) o)
 unfolding PartsNumbers
@@ -212,43 +213,43 @@ pub record AreSaid (messages : List MessageDef) (code : List Instr) : Type 0 whe
   pub written : AllByRecursion (IsWrittenAmong messages) code
   pub short : (more : List Instr) → are_short 0 more ≡ true → are_short 0 (code ++ more) ≡ true
 
-body_said : (names : Declared) (messages : List MessageDef) → AreMessages names messages → (b : Body) (w : Writer) (found : Option Data) → AreActs names found → OnSome HasNumbers found → AreSaid messages w.code → AreSaid messages (body_written names b w found).code
-body_said names messages m b w found h n a =
-    let wrote = wrote_acts names (allowed_in b) w (list_of found) in
+body_said : (names : Declared) (messages : List MessageDef) → AreMessages names messages → (allowed : Allowed) (b : Body) (w : Writer) (found : Option Data) → AreActs names found → OnSome HasNumbers found → AreSaid messages w.code → AreSaid messages (body_written names allowed b w found).code
+body_said names messages m allowed b w found h n a =
+    let wrote = wrote_acts names allowed w (list_of found) in
     record {
-      written = pushed messages (acts_written names (allowed_in b) w (list_of found)) (instr.End b) (acts_said names messages m (allowed_in b) w (list_of found) h.known (list_numbers found n) a.written) tt;
+      written = pushed messages (acts_written names allowed w (list_of found)) (instr.End b) (acts_said names messages m allowed w (list_of found) h.known (list_numbers found n) a.written) tt;
       short = λ more s.
-          let ends : are_short 0 (w.code ++ (wrote.acts ++ instr.End b ∷ more)) ≡ true = a.short (wrote.acts ++ instr.End b ∷ more) (body_short (switches (allowed_in b)) 0 wrote.acts b more wrote.fine (omega (arith, wrote.long, h.few)) s) in
-          let same : ((acts_written names (allowed_in b) w (list_of found)).code ++ instr.End b ∷ []) ++ more ≡ w.code ++ (wrote.acts ++ instr.End b ∷ more) =
+          let ends : are_short 0 (w.code ++ (wrote.acts ++ instr.End b ∷ more)) ≡ true = a.short (wrote.acts ++ instr.End b ∷ more) (body_short (switches allowed) 0 wrote.acts b more wrote.fine (omega (arith, wrote.long, h.few)) s) in
+          let same : ((acts_written names allowed w (list_of found)).code ++ instr.End b ∷ []) ++ more ≡ w.code ++ (wrote.acts ++ instr.End b ∷ more) =
           ap (λ c. (c ++ instr.End b ∷ []) ++ more) wrote.same ∙ (append_assoc (w.code ++ wrote.acts) (instr.End b ∷ []) more ∙ append_assoc w.code wrote.acts (instr.End b ∷ more)) in
           ap (are_short 0) same ∙ ends;
     }
 
 state_said : (names : Declared) (messages : List MessageDef) → AreMessages names messages → (k : ℕ) (w : Writer) (d : Data) → HasState names d → HasNumbers d → AreSaid messages w.code → AreSaid messages (state_written names k w d).code
 state_said names messages m k w d h n a =
-    body_said names messages m (body.Exit (state_id k)) (body_written names (body.Enter (state_id k)) w (get (codes "enter") d)) (get (codes "exit") d) h.exit (get_numbers (codes "exit") d n)
-    (body_said names messages m (body.Enter (state_id k)) w (get (codes "enter") d) h.enter (get_numbers (codes "enter") d n) a)
+    body_said names messages m NoSwitch (body.Exit (state_id k)) (body_written names NoSwitch (body.Enter (state_id k)) w (get (codes "enter") d)) (get (codes "exit") d) h.exit (get_numbers (codes "exit") d n)
+    (body_said names messages m NoSwitch (body.Enter (state_id k)) w (get (codes "enter") d) h.enter (get_numbers (codes "enter") d n) a)
 
 states_said : (names : Declared) (messages : List MessageDef) → AreMessages names messages → (k : ℕ) (w : Writer) (ds : Items) → AllByRecursion (HasState names) (listed ds) → HaveNumbers ds → AreSaid messages w.code → AreSaid messages (states_written names k w ds).code
 unfolding states_written
 states_said names messages m k w no_items h n a = a
 states_said names messages m k w (item d ds) h n a = states_said names messages m (suc k) (state_written names k w d) ds h.1 n.1 (state_said names messages m k w d h.0 n.0 a)
 
-handler_said : (names : Declared) (messages : List MessageDef) → AreMessages names messages → (b : Body) (w : Writer) (found : Option Data) → AreActs names found → OnSome HasNumbers found → AreSaid messages w.code → AreSaid messages (handler_written names b w found).code
-handler_said names messages m b w None h n a = a
-handler_said names messages m b w (Some d) h n a = body_said names messages m b w (Some d) h n a
+handler_said : (names : Declared) (messages : List MessageDef) → AreMessages names messages → (allowed : Allowed) (b : Body) (w : Writer) (found : Option Data) → AreActs names found → OnSome HasNumbers found → AreSaid messages w.code → AreSaid messages (handler_written names allowed b w found).code
+handler_said names messages m allowed b w None h n a = a
+handler_said names messages m allowed b w (Some d) h n a = body_said names messages m allowed b w (Some d) h n a
 
 rows_said : (names : Declared) (messages : List MessageDef) → AreMessages names messages → (i : ℕ) (w : Writer) (ds : Items) → AllByRecursion (HasRow names) (listed ds) → HaveNumbers ds → AreSaid messages w.code → AreSaid messages (rows_written names i w ds).code
 unfolding rows_written
 rows_said names messages m i w no_items h n a = a
 rows_said names messages m i w (item d ds) h n a =
-    rows_said names messages m (suc i) (handler_written names (row_body i) w (get (codes "do") d)) ds h.1 n.1
-    (handler_said names messages m (row_body i) w (get (codes "do") d) h.0.acts (get_numbers (codes "do") d n.0) a)
+    rows_said names messages m (suc i) (handler_written names (handler_acts d) (row_body i) w (get (codes "do") d)) ds h.1 n.1
+    (handler_said names messages m (handler_acts d) (row_body i) w (get (codes "do") d) h.0.acts (get_numbers (codes "do") d n.0) a)
 
 start_said : (names : Declared) (messages : List MessageDef) → AreMessages names messages → (w : Writer) (d : Data) → IsFineAgent names d → AreSaid messages w.code → AreSaid messages (start_written names w d).code
 start_said names messages m w d h a =
-    body_said names messages m body.Finish (body_written names body.Start w (get (codes "start") d)) (get (codes "finish") d) h.finish (get_numbers (codes "finish") d h.numbers)
-    (body_said names messages m body.Start w (get (codes "start") d) h.start (get_numbers (codes "start") d h.numbers) a)
+    body_said names messages m AnyAct body.Finish (body_written names AnyAct body.Start w (get (codes "start") d)) (get (codes "finish") d) h.finish (get_numbers (codes "finish") d h.numbers)
+    (body_said names messages m AnyAct body.Start w (get (codes "start") d) h.start (get_numbers (codes "start") d h.numbers) a)
 
 nothing_said : (messages : List MessageDef) (code : List Instr) → code ≡ [] → AreSaid messages code
 nothing_said messages code e = subst (AreSaid messages) (sym e) (record { written = tt; short = λ more s. s })

@@ -1,7 +1,8 @@
 -- The loops of the first pass.
-use Rattle.std.proofs.Common.{◌≡◌, ℕ, ◌+◌, ◌-◌, ◌<◌, ◌≤◌, suc, List, [], ◌∷◌, length, drop, get_or, Option, Some, None, Bool, true, false, ◌&&◌, refl, sym, ap, ◌∙◌, add-one, drop-cons, arith, length-drop, nat_le, if◌then◌else◌}
+use Rattle.std.proofs.Common.{◌≡◌, ℕ, ◌+◌, ◌-◌, ◌<◌, ◌≤◌, suc, List, [], ◌∷◌, length, drop, get_or, Option, Some, None, Bool, true, false, ◌&&◌, refl, sym, ap, ◌∙◌, add-one, drop-cons, arith, length-drop, nat_le, eq-eqb, if◌then◌else◌}
 use Rattle.std.proofs.Math.ListN.{drop_of_length-le}
-use Rattle.std.proofs.lemmas.Bool.{lt-leb, le-leb}
+use Rattle.std.proofs.lemmas.Bool.{lt-leb, le-leb, ne_eqb}
+use Rattle.std.specs.Prelude.{◌==◌}
 use Rattle.serde_json.proofs.Views.{items_len-items_view}
 use Rattle.serde_json.specs.Data.{Data, no_items}
 use Rattle.serde_json.specs.View.{view, items_view}
@@ -17,7 +18,7 @@ use Rattle.so_scene.specs.declared.fault.SceneFault.{SceneFault}
 use Rattle.so_scene_json.specs.declared.table.Rule.{Rule}
 use Rattle.so_scene.specs.Faults.{spelling}
 use Rattle.so_scene_json.specs.Visits.{Place, at_item}
-use Rattle.so_scene_json.specs.Shape.{is_known, has_unknown, first_of, is_within, list_trouble, acts_from, acts_fault, trouble_at, placed}
+use Rattle.so_scene_json.specs.Shape.{is_known, has_unknown, first_of, is_within, list_trouble, fixed_trouble, acts_from, acts_fault, trouble_at, placed}
 use Rattle.so_scene.specs.declared.fault.SceneFault.TheVariants as fault
 use Rattle.so_scene_json.specs.Acts.{arg_trouble, args_trouble, items_trouble, act_trouble}
 use Rattle.so_scene_json.specs.Values.{◌or◌}
@@ -103,6 +104,15 @@ within limit f vs b r e t h = h ∙ sym (by_len limit f vs ∙ ap (λ (y : Bool)
 
 pub past : (limit : Option ℕ) (f : Data → Option Trouble) (vs : List Value) (b : Bool) → b ≡ is_within limit (length vs) → b ≡ false → Some OutOfRange ≡ list_trouble limit f (Some (items_view vs))
 past limit f vs b e t = sym (by_len limit f vs ∙ ap (λ (y : Bool). if y then first_of f (items_view vs) else Some OutOfRange) (sym e ∙ t))
+
+fixed_by_len : (n : ℕ) (f : Data → Option Trouble) (vs : List Value) → fixed_trouble n f (Some (items_view vs)) ≡ (if length vs == n then first_of f (items_view vs) else Some WrongShape)
+fixed_by_len n f vs = rw (items_len-items_view vs)
+
+pub fixed : (n : ℕ) (f : Data → Option Trouble) (vs : List Value) (r : Option Trouble) → length vs ≡ n → r ≡ first_of f (items_view vs) → r ≡ fixed_trouble n f (Some (items_view vs))
+fixed n f vs r e h = let t : (length vs == n) ≡ true = eq-eqb (length vs) n e in h ∙ sym (fixed_by_len n f vs ∙ rw t)
+
+pub not_fixed : (n : ℕ) (f : Data → Option Trouble) (vs : List Value) → (length vs ≡ n → ⊥) → Some WrongShape ≡ fixed_trouble n f (Some (items_view vs))
+not_fixed n f vs o = let t : (length vs == n) ≡ false = ne_eqb (length vs) n o in sym (fixed_by_len n f vs ∙ rw t)
 
 acts_by_len : (allowed : Allowed) (place : Place) (vs : List Value) → acts_fault allowed place (Some (items_view vs)) ≡ (if nat_le (length vs) 256 then acts_from (act_trouble allowed) place 0 (items_view vs) else Some (fault.OutOfRange place))
 acts_by_len allowed place vs = rw (items_len-items_view vs)

@@ -8,6 +8,7 @@ use Rattle.serde_json.specs.Find.{get}
 use Rattle.serde_json.specs.View.{view, items_view}
 use Rattle.serde_json.specs.declared.value.Value.{Value}
 use Rattle.so_scene.specs.declared.fault.SceneFault.{SceneFault}
+use Rattle.so_scene_json.specs.ActTable.{handler_acts}
 use Rattle.so_scene_json.specs.declared.act_table.Allowed.{Allowed}
 use Rattle.so_scene_json.specs.declared.declare.Declared.{Declared}
 use Rattle.so_scene_json.specs.declared.write.Writer.{Writer}
@@ -62,16 +63,16 @@ unfolding states_written
 states_end all names w vs i h a = ap ok (a ∙ rw (drop_of_length-le vs h))
 
 rows_here : (names : Declared) (w : Writer) (vs : List Value) (i : ℕ) (v : Value) → i < length vs
-    → rows_written names i w (items_view (drop i vs)) ≡ rows_written names (i + 1) (handler_written names (row_body i) w (get (codes "do") (view (get_or vs i v)))) (items_view (drop (i + 1) vs))
+    → rows_written names i w (items_view (drop i vs)) ≡ rows_written names (i + 1) (handler_written names (handler_acts (view (get_or vs i v))) (row_body i) w (get (codes "do") (view (get_or vs i v)))) (items_view (drop (i + 1) vs))
 unfolding rows_written
 rows_here names w vs i v h = rw (add-one, drop-cons vs i v)
 
-pub rows_go : (all : Writer) (names : Declared) (w next : Writer) (vs : List Value) (i k : ℕ) (v x : Value) (found : Option Data) → i < length vs → x ≡ get_or vs i v
-    → all ≡ rows_written names i w (items_view (drop i vs)) → found ≡ get (codes "do") (view x) → k ≡ narrow i → ok (handler_written names (Row (record { 0 = k })) w found) ≡ Ok next → all ≡ rows_written names (i + 1) next (items_view (drop (i + 1) vs))
-rows_go all names w next vs i k v x found h y a f n e =
+pub rows_go : (all : Writer) (names : Declared) (w next : Writer) (vs : List Value) (i k : ℕ) (v x : Value) (allowed : Allowed) (found : Option Data) → i < length vs → x ≡ get_or vs i v
+    → all ≡ rows_written names i w (items_view (drop i vs)) → allowed ≡ handler_acts (view x) → found ≡ get (codes "do") (view x) → k ≡ narrow i → ok (handler_written names allowed (Row (record { 0 = k })) w found) ≡ Ok next → all ≡ rows_written names (i + 1) next (items_view (drop (i + 1) vs))
+rows_go all names w next vs i k v x allowed found h y a m f n e =
     a ∙ rows_here names w vs i v h ∙ ap (λ q. rows_written names (i + 1) q (items_view (drop (i + 1) vs)))
-    (ap (λ q. handler_written names (row_body i) w (get (codes "do") (view q))) (sym y) ∙ ap (handler_written names (row_body i) w) (sym f)
-    ∙ ap (λ q. handler_written names (Row (record { 0 = q })) w found) (sym n) ∙ ok_same _ _ e)
+    (ap (λ q. handler_written names (handler_acts (view q)) (row_body i) w (get (codes "do") (view q))) (sym y) ∙ ap (handler_written names (handler_acts (view x)) (row_body i) w) (sym f)
+    ∙ ap (λ q. handler_written names (handler_acts (view x)) (Row (record { 0 = q })) w found) (sym n) ∙ ap (λ q. handler_written names q (Row (record { 0 = k })) w found) (sym m) ∙ ok_same _ _ e)
 
 pub rows_end : (all : Writer) (names : Declared) (w : Writer) (vs : List Value) (i : ℕ) → length vs ≤ i → all ≡ rows_written names i w (items_view (drop i vs)) → ok all ≡ Ok w
 unfolding rows_written

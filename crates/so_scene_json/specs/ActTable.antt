@@ -1,11 +1,16 @@
 -- The acts, what stands in each behind its word, and which may stand where.
 use Rattle.std.specs.Prelude.{ℕ, List, [], ◌∷◌, codes, if◌then◌else◌, Bool, true, false, Option, Some, None, bytes_eq}
+use Rattle.serde_json.specs.Data.{Data, Items}
+use Rattle.serde_json.specs.Find.{get_item}
+use Rattle.so_code.specs.declared.instr.Dest.TheVariants as dest
+use Rattle.so_scene.specs.Written.{to_temporary}
 use Rattle.so_scene_json.specs.declared.act_table.Word.{Word}
 use Rattle.so_scene_json.specs.declared.act_table.Word.TheVariants as word
 use Rattle.so_scene_json.specs.declared.act_table.Allowed.{Allowed}
-use Rattle.so_scene_json.specs.declared.act_table.Allowed.TheVariants.{AnyAct, NoSwitch}
+use Rattle.so_scene_json.specs.declared.act_table.Allowed.TheVariants.{AnyAct, NoSwitch, Safe}
 use Rattle.so_scene_json.specs.declared.act_table.Arg.{Arg}
 use Rattle.so_scene_json.specs.declared.act_table.Arg.TheVariants.{Text, Name, Dest, Operand, Cmp, Count}
+use Rattle.so_scene_json.specs.Values.{dest_of, is_safe, read_or}
 
 abbrev pub word_named : List ℕ → Option Word
 word_named text =
@@ -79,7 +84,34 @@ needed_of word.SetFilter = 1
 needed_of word.DropFilter = 1
 needed_of other = 0
 
--- a state's enter and exit make no switch
-abbrev pub is_allowed : Allowed → Word → Bool
-is_allowed NoSwitch word.Switch = false
-is_allowed allowed other = true
+-- ---- what may stand where
+
+-- the first item is a temporary
+abbrev pub is_to_temporary : Items → Bool
+is_to_temporary ds = to_temporary (read_or (dest.Var 0) dest_of (get_item 0 ds))
+
+-- an act that changes nothing which its agent keeps: no variable, state, subscription, filter or timer
+abbrev pub is_safe_act : Word → Items → Bool
+is_safe_act word.Set ds = is_to_temporary ds
+is_safe_act word.Add ds = is_to_temporary ds
+is_safe_act word.Sub ds = is_to_temporary ds
+is_safe_act word.Mul ds = is_to_temporary ds
+is_safe_act word.Timer ds = false
+is_safe_act word.Cancel ds = false
+is_safe_act word.Switch ds = false
+is_safe_act word.Subscribe ds = false
+is_safe_act word.Unsubscribe ds = false
+is_safe_act word.SetFilter ds = false
+is_safe_act word.DropFilter ds = false
+is_safe_act other ds = true
+
+-- a state's enter and exit make no switch, and a safe handler holds only such acts
+abbrev pub is_allowed : Allowed → Word → Items → Bool
+is_allowed AnyAct w ds = true
+is_allowed NoSwitch word.Switch ds = false
+is_allowed NoSwitch other ds = true
+is_allowed Safe w ds = is_safe_act w ds
+
+-- which acts the handler of a row may hold
+abbrev pub handler_acts : Data → Allowed
+handler_acts row = if is_safe row then Safe else AnyAct

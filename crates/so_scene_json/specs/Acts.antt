@@ -52,7 +52,7 @@ built_trouble may rest needed ds (Some args) = if may then items_trouble rest ne
 
 abbrev pub parts_trouble : Allowed → ℕ → Option (Word × Items) → Option Trouble
 parts_trouble allowed rest None = Some WrongShape
-parts_trouble allowed rest (Some p) = built_trouble (is_allowed allowed p.0) rest (needed_of p.0) p.1 (args_of p.0)
+parts_trouble allowed rest (Some p) = built_trouble (is_allowed allowed p.0 p.1) rest (needed_of p.0) p.1 (args_of p.0)
 
 -- What is wrong with an act that so many others follow: it is no list that begins with a word, it isn't built, it may not
 -- stand there, it has too few or too many items, or the first item with a trouble.

@@ -29,28 +29,27 @@ use Rattle.so_scene_json.specs.declared.build.Build.{Build}
 use Rattle.so_scene_json.specs.Values.{name_in, group_in}
 use Rattle.so_scene_json.specs.Groups.{with_group, group_number}
 use Rattle.so_scene_json.specs.Scope.{state_items, row_items, filter_items, scope_of}
-use Rattle.so_scene_json.specs.Defs.{message_of, vars_of, disp_of, disp_in, least_priority, states_of, rows_of, filters_of}
+use Rattle.so_scene_json.specs.ActTable.{handler_acts}
+use Rattle.so_scene_json.specs.Defs.{message_of, vars_of, disp_of, disp_in, priority_in, states_of, rows_of, filters_of}
 use Rattle.so_scene_json.specs.Writer.{with_instr, acts_written, state_id}
 use Rattle.so_scene_json.specs.Visits.{Visit, enters, tries, leaves, Place, at_item, narrow, list_of, ◌>>=◌}
 
 -- ---- the code of an agent: start, finish, then enter and exit of each state, then each row with a handler, each of these
 -- a body and its end
 
-abbrev pub allowed_in : Body → Allowed
-allowed_in (body.Enter s) = NoSwitch
-allowed_in (body.Exit s) = NoSwitch
-allowed_in other = AnyAct
-
-abbrev pub body_written : Declared → Body → Writer → Option Data → Writer
-body_written names b w found = with_instr (instr.End b) (acts_written names (allowed_in b) w (list_of found))
+abbrev pub body_written : Declared → Allowed → Body → Writer → Option Data → Writer
+body_written names allowed b w found = with_instr (instr.End b) (acts_written names allowed w (list_of found))
 
 abbrev pub start_written : Declared → Writer → Data → Writer
-start_written names w d = body_written names body.Finish (body_written names body.Start w (get (codes "start") d)) (get (codes "finish") d)
+start_written names w d =
+    body_written names AnyAct body.Finish
+    (body_written names AnyAct body.Start w (get (codes "start") d))
+    (get (codes "finish") d)
 
 abbrev pub state_written : Declared → ℕ → Writer → Data → Writer
 state_written names k w d =
-    body_written names (body.Exit (state_id k))
-    (body_written names (body.Enter (state_id k)) w (get (codes "enter") d))
+    body_written names NoSwitch (body.Exit (state_id k))
+    (body_written names NoSwitch (body.Enter (state_id k)) w (get (codes "enter") d))
     (get (codes "exit") d)
 
 -- the bodies of the states from number k on
@@ -61,14 +60,14 @@ states_written names k w (item d ds) = states_written names (suc k) (state_writt
 abbrev pub row_body : ℕ → Body
 row_body i = body.Row (record { 0 = narrow i })
 
-abbrev pub handler_written : Declared → Body → Writer → Option Data → Writer
-handler_written names b w None = w
-handler_written names b w (Some d) = body_written names b w (Some d)
+abbrev pub handler_written : Declared → Allowed → Body → Writer → Option Data → Writer
+handler_written names allowed b w None = w
+handler_written names allowed b w (Some d) = body_written names allowed b w (Some d)
 
 -- the bodies of the rows from number i on
 unfoldable pub rows_written : Declared → ℕ → Writer → Items → Writer
 rows_written names i w no_items = w
-rows_written names i w (item d ds) = rows_written names (suc i) (handler_written names (row_body i) w (get (codes "do") d)) ds
+rows_written names i w (item d ds) = rows_written names (suc i) (handler_written names (handler_acts d) (row_body i) w (get (codes "do") d)) ds
 
 abbrev pub agent_written : Declared → Writer → Data → Writer
 agent_written names w d = rows_written names 0 (states_written names 1 (start_written names w d) (state_items d)) (row_items d)
@@ -108,7 +107,7 @@ agent_with a names groups d tree scope code = record {
   coop = record { 0 = 0 };
   disp = disp_in names d;
   group = group_number (disp_in names d) (group_in d) groups;
-  priority = least_priority;
+  priority = priority_in d;
   vars = vars_of d;
   state_names = scope.states;
   tree = tree;
@@ -160,5 +159,5 @@ entered other place s d = Ok s
 
 abbrev pub build_step : Build → Visit → Result Build SceneFault
 build_step s (enters kind place d) = entered kind place s d
-build_step s (tries rule place found) = Ok s
+build_step s (tries rule place d found) = Ok s
 build_step s (leaves kind place d) = Ok s

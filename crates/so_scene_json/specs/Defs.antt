@@ -1,6 +1,6 @@
 -- The parts of a scene that one value stands for. A part that an earlier pass refuses stands as 0 here.
-use Rattle.std.specs.Prelude.{ℕ, ℤ, pos, List, map, codes, if◌then◌else◌, Bool, Option, Some, None, option_and_then, is_some, true, false, replicate}
-use Rattle.std.proofs.Common.{arith}
+use Rattle.std.specs.Prelude.{ℕ, ℤ, pos, List, map, codes, if◌then◌else◌, Bool, Option, Some, None, option_and_then, is_some, true, false, min}
+use Rattle.std.proofs.Math.Nat.{min-le_right}
 use Rattle.std.specs.List.{range_with_len}
 use Rattle.serde_json.specs.Data.{Data, Items}
 use Rattle.serde_json.specs.Find.{as_str, get, get_item}
@@ -28,7 +28,7 @@ use Rattle.so_scene_json.specs.declared.table.Space.{Space}
 use Rattle.so_scene_json.specs.declared.table.Space.TheVariants as space
 use Rattle.so_scene_json.specs.declared.declare.Declared.{Declared}
 use Rattle.so_scene_json.specs.declared.scope.Scope.{Scope}
-use Rattle.so_scene_json.specs.Values.{integer_of, number_of, flag_of, cmp_of, history_of, fifo_of, disp_kind_in, read_or, string_in, name_in, id_in}
+use Rattle.so_scene_json.specs.Values.{integer_of, number_of, flag_of, cmp_of, history_of, fifo_of, quote_of, disp_kind_in, is_safe, read_or, string_in, name_in, id_in}
 use Rattle.so_scene_json.specs.Twice.{is_signal, names_in, disp_number_in}
 use Rattle.so_scene_json.specs.Scope.{state_number}
 use Rattle.so_scene_json.specs.Visits.{narrow, list_of, listed}
@@ -71,6 +71,13 @@ threads_in d = read_or 4 (number_of 1 64) (get (codes "threads") d)
 abbrev pub fifo_in : Data → Fifo
 fifo_in d = read_or Cooperation fifo_of (get (codes "fifo") d)
 
+-- the quotes of the eight priorities, p0 first
+abbrev pub quote_at : ℕ → Items → ℕ
+quote_at k ds = read_or 20 quote_of (get_item k ds)
+
+abbrev pub quotes_in : Items → List ℕ
+quotes_in ds = map (λ k. quote_at k ds) (range_with_len 0 8)
+
 abbrev pub disp_of : Data → DispDef
 disp_of d = record {
   name = name_in d;
@@ -78,15 +85,20 @@ disp_of d = record {
   slots = 4096;
   threads = threads_in d;
   fifo = fifo_in d;
-  quotes = replicate 8 20;
+  quotes = quotes_in (list_of (get (codes "quotes") d));
 }
 
 -- the dispatcher of an agent
 abbrev pub disp_in : Declared → Data → DispId
 disp_in names d = record { 0 = narrow_or_zero (disp_number_in names d) }
 
-abbrev pub least_priority : Priority
-least_priority = record { level = 0; in_range = omega arith }
+-- the priority of an agent, 0 where none is given
+abbrev pub level_in : Data → ℕ
+level_in d = read_or 0 (number_of 0 7) (get (codes "priority") d)
+
+-- a level above 7 counts as 7
+abbrev pub priority_in : Data → Priority
+priority_in d = record { level = min (level_in d) 7; in_range = min-le_right (level_in d) 7 }
 
 -- ---- states
 
@@ -141,7 +153,7 @@ row_of a names scope d = record {
   msg = msg_in names d;
   state = state_in scope (codes "state") d;
   kind = kind_of scope d;
-  safe = false;
+  safe = is_safe d;
   active = read_or true flag_of (get (codes "active") d);
 }
 

@@ -1,5 +1,5 @@
 -- The groups of agents, each of one dispatcher, in the order in which agents name them.
-use Rattle.std.specs.Prelude.{ℕ, List, [], ◌∷◌, ◌++◌, length, map, Bool, ◌==◌, if◌then◌else◌, Option, Some, None}
+use Rattle.std.specs.Prelude.{ℕ, List, [], ◌∷◌, ◌++◌, map, Bool, ◌==◌, if◌then◌else◌, Option, Some, None}
 use Rattle.std.specs.List.{filter}
 use Rattle.so_ids.specs.declared.DispId.{DispId}
 use Rattle.so_lists.specs.Lists.{each_below}

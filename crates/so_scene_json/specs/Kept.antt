@@ -16,9 +16,9 @@ use Rattle.so_scene.specs.Definition.{definition_fault}
 use Rattle.so_scene.specs.Lanes.{AreBound}
 use Rattle.so_scene.specs.declared.parts.FilterDef.{FilterDef}
 use Rattle.so_scene.specs.Parts.{message_name, agent_name, disp_name, default_disp}
-use Rattle.so_scene.specs.Checked.{Named, NamesWithin, IsKind, IsDisp, IsGroup, HasNoLimit, handlers, filter_ids, given, text_uses, IsScene}
+use Rattle.so_scene.specs.Checked.{Named, NamesWithin, IsKind, IsDisp, IsGroup, HasNoLimit, has_handler, handlers, filter_ids, given, text_uses, IsScene}
 use Rattle.so_scene.specs.Words.{is_name, is_text}
-use Rattle.so_scene.specs.Written.{IsNumber, HasParent, IsWrittenAmong, is_state_name, are_short}
+use Rattle.so_scene.specs.Written.{IsNumber, HasParent, IsWrittenAmong, is_state_name, are_short, AreSafe}
 use Rattle.so_state.specs.declared.choice.Row.{Row}
 use Rattle.so_state.specs.Fault.{IsTree}
 use Rattle.so_scene_json.specs.declared.build.Build.{Build}
@@ -33,7 +33,7 @@ pub record IsBuiltRow (mboxes messages states : ℕ) (row : Row) : Type 0 where
   pub msg : row.msg.0 < messages
   pub state : row.state.0 ≤ states
   pub kind : IsKind states row.state row.kind
-  pub not_safe : row.safe ≡ false
+  pub safe : row.safe ≡ true → has_handler row.kind ≡ true
 
 pub record IsBuiltFilter (mboxes messages : ℕ) (f : FilterDef) : Type 0 where
   pub mbox : f.mbox.0 < mboxes
@@ -51,7 +51,6 @@ pub record IsBuiltAgent (mboxes : ℕ) (messages : List MessageDef) (texts : ℕ
   pub coop : a.coop.0 ≡ 0
   pub disp : a.disp.0 < length kinds
   pub group : IsGroup (slice_index_or kinds a.disp.0 OneThread) (length (names_for a.disp groups)) a.group
-  pub priority : a.priority.level ≡ 0
   pub vars : length a.vars.0 ≡ 16
   pub numbers : All IsNumber a.vars.0
   pub tree : IsTree a.tree
@@ -74,6 +73,7 @@ pub record IsBuiltAgent (mboxes : ℕ) (messages : List MessageDef) (texts : ℕ
   pub parts : All (NamesWithin (named_among mboxes (length messages) texts (length a.tree) a.row_ids (filter_ids a))) a.code
   pub written : All (IsWrittenAmong messages) a.code
   pub short : are_short 0 a.code ≡ true
+  pub safe : AreSafe a.rows a.code
 
 abbrev pub mboxes_in : Build → ℕ
 mboxes_in s = length s.agents + length s.names.mboxes

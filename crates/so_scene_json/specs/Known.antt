@@ -95,6 +95,7 @@ form_unknown s (form.NameIn space) place d = trouble_at place (name_trouble s.na
 form_unknown s form.DeclaredState place d = trouble_at place (absent_from s.scope.states (as_str d))
 form_unknown s form.AnyState place d = trouble_at place (absent_from (all_states s.scope) (as_str d))
 form_unknown s (form.Acts allowed) place d = acts_from (λ rest x. act_unknown s x) place 0 (list_of (Some d))
+form_unknown s form.Handler place d = acts_from (λ rest x. act_unknown s x) place 0 (list_of (Some d))
 form_unknown s other place d = None
 
 abbrev pub field_unknown : Known → Form → Place → Option Data → Option SceneFault
@@ -134,5 +135,5 @@ knows names = record { names = names; scope = no_scope }
 
 abbrev pub known_step : Known → Visit → Result Known SceneFault
 known_step s (enters kind place d) = unless_faulty (entered kind d s) (object_unknown kind s.names place d)
-known_step s (tries rule place found) = unless_faulty s (field_unknown s rule.form place found)
+known_step s (tries rule place d found) = unless_faulty s (field_unknown s rule.form place found)
 known_step s (leaves kind place d) = Ok s

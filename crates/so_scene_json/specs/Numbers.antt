@@ -28,5 +28,5 @@ abbrev mutual
 -- an object that a walk enters
 abbrev pub EntersNumbers : Visit → Type 0
 EntersNumbers (enters kind place d) = HasNumbers d
-EntersNumbers (tries rule place found) = Unit {0}
+EntersNumbers (tries rule place d found) = Unit {0}
 EntersNumbers (leaves kind place d) = Unit {0}

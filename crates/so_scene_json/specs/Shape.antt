@@ -8,8 +8,7 @@ use Rattle.so_scene.specs.declared.place.Field.{Field}
 use Rattle.so_scene.specs.declared.place.Field.TheVariants as field
 use Rattle.so_scene.specs.declared.fault.SceneFault.{SceneFault}
 use Rattle.so_scene.specs.declared.fault.SceneFault.TheVariants as fault
-use Rattle.so_scene.specs.declared.parts.DispKind.{DispKind}
-use Rattle.so_scene.specs.Checked.{is_built, is_pool}
+use Rattle.so_scene.specs.Checked.{is_pool, has_quotes}
 use Rattle.so_scene_json.specs.declared.act_table.Allowed.{Allowed}
 use Rattle.so_scene_json.specs.declared.table.ObjectKind.{ObjectKind}
 use Rattle.so_scene_json.specs.declared.table.ObjectKind.TheVariants as object
@@ -18,8 +17,9 @@ use Rattle.so_scene_json.specs.declared.table.Form.TheVariants as form
 use Rattle.so_scene_json.specs.declared.table.Rule.{Rule}
 use Rattle.so_scene_json.specs.declared.values.Trouble.{Trouble}
 use Rattle.so_scene_json.specs.declared.values.Trouble.TheVariants.{WrongShape, OutOfRange, UnknownName, NotBuilt}
+use Rattle.so_scene_json.specs.ActTable.{handler_acts}
 use Rattle.so_scene_json.specs.Table.{rules_of}
-use Rattle.so_scene_json.specs.Values.{◌or◌, trouble, name_of, integer_of, number_of, flag_of, only_true, cmp_of, history_of, disp_kind_of, disp_kind_in, fifo_of, read_or}
+use Rattle.so_scene_json.specs.Values.{◌or◌, trouble, name_of, integer_of, number_of, flag_of, only_true, cmp_of, history_of, disp_kind_of, disp_kind_in, fifo_of, quote_of, is_safe, read_or}
 use Rattle.so_scene_json.specs.Acts.{act_trouble}
 use Rattle.so_scene_json.specs.Visits.{Visit, enters, tries, leaves, Place, at_item}
 
@@ -68,11 +68,6 @@ abbrev pub kind_trouble : Option (List ℕ) → Option Trouble
 kind_trouble None = Some WrongShape
 kind_trouble (Some text) = if is_message_kind text then None else Some WrongShape
 
--- a kind of dispatcher that isn't built
-abbrev pub disp_kind_trouble : Result DispKind Trouble → Option Trouble
-disp_kind_trouble (Ok kind) = if is_built kind then None else Some NotBuilt
-disp_kind_trouble (Err t) = Some t
-
 -- a state isn't named `default`
 abbrev pub state_name_trouble : Result (List ℕ) Trouble → Option Trouble
 state_name_trouble (Ok name) = if bytes_eq name (codes "default") then Some WrongShape else None
@@ -92,8 +87,16 @@ abbrev pub list_trouble : Option ℕ → (Data → Option Trouble) → Option It
 list_trouble limit f None = Some WrongShape
 list_trouble limit f (Some ds) = if is_within limit (items_len ds) then first_of f ds else Some OutOfRange
 
+-- a list of a fixed length: that it is one, its length, then its items in order
+abbrev pub fixed_trouble : ℕ → (Data → Option Trouble) → Option Items → Option Trouble
+fixed_trouble count f None = Some WrongShape
+fixed_trouble count f (Some ds) = if items_len ds == count then first_of f ds else Some WrongShape
+
 abbrev pub number_trouble : Data → Option Trouble
 number_trouble d = trouble (integer_of d)
+
+abbrev pub quote_trouble : Data → Option Trouble
+quote_trouble d = trouble (quote_of d)
 
 abbrev pub name_trouble : Data → Option Trouble
 name_trouble d = trouble (name_of d)
@@ -110,31 +113,34 @@ abbrev pub acts_fault : Allowed → Place → Option Items → Option SceneFault
 acts_fault allowed place None = Some (fault.WrongShape place)
 acts_fault allowed place (Some ds) = if nat_le (items_len ds) 256 then acts_from (act_trouble allowed) place 0 ds else Some (fault.OutOfRange place)
 
-abbrev pub form_fault : Form → Place → Data → Option SceneFault
-form_fault form.One place d = version_fault place (as_number d)
-form_fault form.Name place d = trouble_at place (trouble (name_of d))
-form_fault (form.NameIn s) place d = trouble_at place (trouble (name_of d))
-form_fault form.StateName place d = trouble_at place (state_name_trouble (name_of d))
-form_fault form.DeclaredState place d = trouble_at place (trouble (name_of d))
-form_fault form.AnyState place d = trouble_at place (trouble (name_of d))
-form_fault form.History place d = trouble_at place (trouble (history_of d))
-form_fault (form.Mboxes limit) place d = trouble_at place (list_trouble (Some limit) name_trouble (as_array d))
-form_fault form.MessageKind place d = trouble_at place (kind_trouble (as_str d))
-form_fault form.DispKind place d = trouble_at place (disp_kind_trouble (disp_kind_of d))
-form_fault form.Fifo place d = trouble_at place (trouble (fifo_of d))
-form_fault form.Flag place d = trouble_at place (trouble (flag_of d))
-form_fault form.OnlyTrue place d = trouble_at place (trouble (only_true d))
-form_fault form.Cmp place d = trouble_at place (trouble (cmp_of d))
-form_fault form.AnyNumber place d = trouble_at place (number_trouble d)
-form_fault (form.Number low high) place d = trouble_at place (trouble (number_of low high d))
-form_fault (form.Numbers limit) place d = trouble_at place (list_trouble (Some limit) number_trouble (as_array d))
-form_fault (form.Objects kind limit) place d = trouble_at place (list_trouble limit object_trouble (as_array d))
-form_fault (form.Acts allowed) place d = acts_fault allowed place (as_array d)
-form_fault form.Later place d = Some (fault.NotBuilt place)
+-- of a field of this object
+abbrev pub form_fault : Form → Place → Data → Data → Option SceneFault
+form_fault form.One place object d = version_fault place (as_number d)
+form_fault form.Name place object d = trouble_at place (trouble (name_of d))
+form_fault (form.NameIn s) place object d = trouble_at place (trouble (name_of d))
+form_fault form.StateName place object d = trouble_at place (state_name_trouble (name_of d))
+form_fault form.DeclaredState place object d = trouble_at place (trouble (name_of d))
+form_fault form.AnyState place object d = trouble_at place (trouble (name_of d))
+form_fault form.History place object d = trouble_at place (trouble (history_of d))
+form_fault (form.Mboxes limit) place object d = trouble_at place (list_trouble (Some limit) name_trouble (as_array d))
+form_fault form.MessageKind place object d = trouble_at place (kind_trouble (as_str d))
+form_fault form.DispKind place object d = trouble_at place (trouble (disp_kind_of d))
+form_fault form.Fifo place object d = trouble_at place (trouble (fifo_of d))
+form_fault form.Quotes place object d = trouble_at place (fixed_trouble 8 quote_trouble (as_array d))
+form_fault form.Flag place object d = trouble_at place (trouble (flag_of d))
+form_fault form.OnlyTrue place object d = trouble_at place (trouble (only_true d))
+form_fault form.Cmp place object d = trouble_at place (trouble (cmp_of d))
+form_fault form.AnyNumber place object d = trouble_at place (number_trouble d)
+form_fault (form.Number low high) place object d = trouble_at place (trouble (number_of low high d))
+form_fault (form.Numbers limit) place object d = trouble_at place (list_trouble (Some limit) number_trouble (as_array d))
+form_fault (form.Objects kind limit) place object d = trouble_at place (list_trouble limit object_trouble (as_array d))
+form_fault (form.Acts allowed) place object d = acts_fault allowed place (as_array d)
+form_fault form.Handler place row d = acts_fault (handler_acts row) place (as_array d)
+form_fault form.Later place object d = Some (fault.NotBuilt place)
 
-abbrev pub field_fault : Rule → Place → Option Data → Option SceneFault
-field_fault rule place None = if rule.required then Some (fault.Missing place) else None
-field_fault rule place (Some d) = form_fault rule.form place d
+abbrev pub field_fault : Rule → Place → Data → Option Data → Option SceneFault
+field_fault rule place object None = if rule.required then Some (fault.Missing place) else None
+field_fault rule place object (Some d) = form_fault rule.form place object d
 
 -- ---- what the fields of an object need of each other
 
@@ -145,16 +151,31 @@ has f d = if is_some (get (spelling f) d) then 1 else 0
 abbrev pub effects : Data → ℕ
 effects d = has field.Do d + has field.Switch d + has field.Transfer d + has field.Suppress d
 
--- a row has exactly one effect; a dead-letter row has do, and no state
+-- a dead-letter row has do, and no state
+abbrev pub is_dead_breach : Data → Bool
+is_dead_breach d = nat_lt (has field.Do d) (has field.Dead d) || nat_lt 1 (has field.Dead d + has field.State d)
+
+-- a safe row has do
+abbrev pub is_safe_breach : Data → Bool
+is_safe_breach d = is_safe d && (has field.Do d == 0)
+
+-- a row has exactly one effect
 abbrev pub is_row_breach : Data → Bool
-is_row_breach d = not (effects d == 1) || (nat_lt (has field.Do d) (has field.Dead d) || nat_lt 1 (has field.Dead d + has field.State d))
+is_row_breach d = not (effects d == 1) || (is_dead_breach d || is_safe_breach d)
 
 abbrev pub is_initial : Data → Bool
 is_initial d = read_or false flag_of (get (codes "initial") d)
 
 -- threads and fifo are a pool's
+abbrev pub is_pool_breach : Data → Bool
+is_pool_breach d = not (is_pool (disp_kind_in d)) && nat_lt 0 (has field.Threads d + has field.Fifo d)
+
+-- quotes are those of quoted_round_robin
+abbrev pub is_quotes_breach : Data → Bool
+is_quotes_breach d = not (has_quotes (disp_kind_in d)) && (has field.Quotes d == 1)
+
 abbrev pub is_disp_breach : Data → Bool
-is_disp_breach d = not (is_pool (disp_kind_in d)) && nat_lt 0 (has field.Threads d + has field.Fifo d)
+is_disp_breach d = is_pool_breach d || is_quotes_breach d
 
 -- an initial state has a parent
 abbrev pub is_breach : ObjectKind → Data → Bool
@@ -167,7 +188,7 @@ is_breach other d = false
 
 abbrev pub shape_fault : Visit → Option SceneFault
 shape_fault (enters kind place d) = if unknown_in (rules_of kind) (as_object d) then Some (fault.WrongShape place) else None
-shape_fault (tries rule place found) = field_fault rule place found
+shape_fault (tries rule place d found) = field_fault rule place d found
 shape_fault (leaves kind place d) = if is_breach kind d then Some (fault.WrongShape place) else None
 
 abbrev pub unless_faulty : {S : Type 0} → S → Option SceneFault → Result S SceneFault

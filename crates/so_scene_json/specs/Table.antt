@@ -1,7 +1,8 @@
 -- The fields of each kind of object, in their order. A field that is `later` isn't built: it is known, and refused where
 -- it is given. Where an optional field is absent, a list is empty, a message's kind is `message`, a row's mbox is the agent's
--- own and its state `default`, a state lies at the top, is not initial and has no history, what may be active is, a pool has
--- four threads and a queue for each cooperation, and an agent is bound to the dispatcher `default`.
+-- own and its state `default`, a state lies at the top, is not initial and has no history, what may be active is, a handler isn't
+-- safe, a pool has four threads and a queue for each cooperation, each quote is 20, and an agent is bound to the dispatcher
+-- `default` with priority 0.
 use Rattle.std.specs.Prelude.{Option, Some, None, List, [], ◌∷◌, true, false}
 use Rattle.so_scene.specs.declared.place.Field.{Field}
 use Rattle.so_scene.specs.declared.place.Field.TheVariants as field
@@ -51,7 +52,7 @@ rules_of object.Dispatcher =
     ∷ later field.Slots
     ∷ optional field.Threads (form.Number 1 64)
     ∷ optional field.Fifo form.Fifo
-    ∷ later field.Quotes
+    ∷ optional field.Quotes form.Quotes
     ∷ []
 rules_of object.Coop =
     required field.Name form.Name
@@ -64,7 +65,7 @@ rules_of object.Agent =
     required field.Name form.Name
     ∷ optional field.Disp (form.NameIn space.Dispatchers)
     ∷ optional field.Group form.Name
-    ∷ later field.Priority
+    ∷ optional field.Priority (form.Number 0 7)
     ∷ later field.Reaction
     ∷ later field.Native
     ∷ optional field.Vars (form.Numbers 16)
@@ -103,12 +104,12 @@ rules_of object.Row =
     ∷ required field.Msg (form.NameIn space.Messages)
     ∷ optional field.Mbox (form.NameIn space.Mboxes)
     ∷ optional field.State form.AnyState
-    ∷ optional field.Do (form.Acts AnyAct)
+    ∷ optional field.Do form.Handler
     ∷ optional field.Switch form.AnyState
     ∷ optional field.Transfer form.AnyState
     ∷ optional field.Suppress form.OnlyTrue
     ∷ optional field.Dead form.OnlyTrue
-    ∷ later field.Safe
+    ∷ optional field.Safe form.Flag
     ∷ optional field.Active form.Flag
     ∷ []
 rules_of object.Thread =

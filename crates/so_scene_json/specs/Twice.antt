@@ -113,5 +113,5 @@ declared place (Some space) d s = declared_name place space (name_for space d) s
 
 abbrev pub twice_step : Declared → Visit → Result Declared SceneFault
 twice_step s (enters kind place d) = declared place (space_of kind) d (entering kind d s)
-twice_step s (tries rule place found) = Ok (with_field rule.form found s)
+twice_step s (tries rule place d found) = Ok (with_field rule.form found s)
 twice_step s (leaves kind place d) = Ok s

@@ -1,5 +1,5 @@
 -- What a value stands for, or what is wrong with it.
-use Rattle.std.specs.Prelude.{◌≡◌, ℕ, ◌-◌, ℤ, pos, negsuc, List, [], ◌∷◌, codes, Bool, ◌==◌, ◌&&◌, nat_lt, nat_le, if◌then◌else◌, Option, Some, None, option_map, option_and_then, Result, Ok, Err, bytes_eq}
+use Rattle.std.specs.Prelude.{◌≡◌, ℕ, ◌-◌, ℤ, pos, negsuc, List, [], ◌∷◌, codes, Bool, false, ◌==◌, ◌&&◌, nat_lt, nat_le, if◌then◌else◌, Option, Some, None, option_map, option_and_then, Result, Ok, Err, bytes_eq}
 use denote.Bor.{Bor}
 use Rattle.serde_json.specs.Data.{Num, Data}
 use Rattle.serde_json.specs.Find.{as_bool, as_number, as_i64, as_str, get}
@@ -85,6 +85,10 @@ if_true b = if b then Ok b else Err WrongShape
 -- true alone
 abbrev pub only_true : Data → Result Bool Trouble
 only_true d = flag_of d then if_true
+
+-- the handler of a row is marked as thread-safe
+abbrev pub is_safe : Data → Bool
+is_safe d = read_or false flag_of (get (codes "safe") d)
 
 -- ---- words
 
@@ -190,6 +194,10 @@ fifo_of = named fifo_named
 -- the kind of a dispatcher
 abbrev pub disp_kind_in : Data → DispKind
 disp_kind_in d = read_or disp.OneThread disp_kind_of (get (codes "kind") d)
+
+-- how many events of a priority are taken in its turn
+abbrev pub quote_of : Data → Result ℕ Trouble
+quote_of = number_of 1 1000
 
 -- ---- strings of an object
 

@@ -15,10 +15,10 @@ use Rattle.so_scene_json.specs.Table.{rules_of, objects_of}
 abbrev pub Place : Type 0
 Place = List PlaceStep
 
--- An object begins, a field of it is tried, the object ends.
+-- An object begins, a field of the object is tried, the object ends.
 pub data Visit : Type 0 where
   enters : ObjectKind → Place → Data → Visit
-  tries : Rule → Place → Option Data → Visit
+  tries : Rule → Place → Data → Option Data → Visit
   leaves : ObjectKind → Place → Data → Visit
 
 abbrev pub at_key : Place → Rule → Place
@@ -57,7 +57,7 @@ in_objects inside (Some kind) place found = items_from (inside kind) place 0 (li
 
 unfoldable pub field_visits : (ObjectKind → Place → Data → List Visit) → Rule → Place → Data → List Visit
 field_visits inside rule place d =
-    tries rule (at_key place rule) (get (spelling rule.field) d)
+    tries rule (at_key place rule) d (get (spelling rule.field) d)
     ∷ in_objects inside (objects_of rule.form) (at_key place rule) (get (spelling rule.field) d)
 
 unfoldable pub fields_of : (ObjectKind → Place → Data → List Visit) → List Rule → Place → Data → List Visit

@@ -154,7 +154,7 @@ parts_written names rest w (Some p) = word_written names rest w p.0 p.1
 -- an act that may stand there
 abbrev pub if_allowed : Allowed → Option (Word × Items) → Option (Word × Items)
 if_allowed allowed None = None
-if_allowed allowed (Some p) = if is_allowed allowed p.0 then Some p else None
+if_allowed allowed (Some p) = if is_allowed allowed p.0 p.1 then Some p else None
 
 abbrev pub act_written : Declared → Allowed → ℕ → Writer → Data → Writer
 act_written names allowed rest w d = parts_written names rest w (if_allowed allowed (act_parts d))

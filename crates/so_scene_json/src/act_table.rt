@@ -1,7 +1,12 @@
 //! The words of acts, what stands behind each, and which may stand where.
 
 ghost use Rattle.std.specs.Prelude.{◌≡◌, option_map};
-ghost use Rattle.so_scene_json.specs.ActTable.{word_named, args_of, needed_of, is_allowed};
+ghost use Rattle.serde_json.specs.View.{view, items_view};
+ghost use Rattle.so_scene_json.specs.ActTable.{word_named, args_of, needed_of, is_to_temporary, is_safe_act, is_allowed, handler_acts};
+
+use crate::values::{dest, is_safe};
+use serde_json::Value;
+use so_code::Dest;
 
 /// The word of an act.
 #[derive(Clone, Copy, Debug, PartialEq, Eq)]
@@ -54,6 +59,8 @@ pub enum Allowed {
     AnyAct,
     /// All but a switch: those of a state's enter and exit.
     NoSwitch,
+    /// Those that change nothing which their agent keeps: those of a handler that is safe.
+    Safe,
 }
 
 static SET: [Arg; 2] = [Arg::Dest, Arg::Operand];
@@ -163,12 +170,52 @@ pub(crate) fn needed(word: Word) -> usize
     }
 }
 
-/// Tells whether an act of this word may stand in such a list.
-pub(crate) fn is_allowed(allowed: Allowed, word: Word) -> bool
-    ensures { result ≡ is_allowed allowed word }
+/// Tells whether the first item behind a word is a temporary.
+fn is_to_temporary(list: &[Value]) -> bool
+    ensures { result ≡ is_to_temporary (items_view list.now) }
+{
+    match list {
+        [first, ..] => match dest(first) {
+            Ok(Dest::Temp(_)) => true,
+            Ok(Dest::Var(_)) => false,
+            Err(_) => false,
+        },
+        [] => false,
+    }
+}
+
+/// Tells whether an act of this word and these items changes nothing that its agent keeps: no variable, state,
+/// subscription, filter or timer.
+fn is_safe_act(word: Word, list: &[Value]) -> bool
+    ensures { result ≡ is_safe_act word (items_view list.now) }
+{
+    match word {
+        Word::Set | Word::Add | Word::Sub | Word::Mul => is_to_temporary(list),
+        Word::Timer | Word::Cancel | Word::Switch => false,
+        Word::Subscribe | Word::Unsubscribe => false,
+        Word::SetFilter | Word::DropFilter => false,
+        _ => true,
+    }
+}
+
+/// Tells whether an act of this word and these items may stand in such a list.
+pub(crate) fn is_allowed(allowed: Allowed, word: Word, list: &[Value]) -> bool
+    ensures { result ≡ is_allowed allowed word (items_view list.now) }
 {
     match allowed {
         Allowed::AnyAct => true,
         Allowed::NoSwitch => word != Word::Switch,
+        Allowed::Safe => is_safe_act(word, list),
+    }
+}
+
+/// Which acts the handler of a row may hold.
+pub(crate) fn handler_acts(row: &Value) -> Allowed
+    ensures { result ≡ handler_acts (view row.now) }
+{
+    if is_safe(row) {
+        Allowed::Safe
+    } else {
+        Allowed::AnyAct
     }
 }

@@ -61,10 +61,10 @@ fn items_fault(forms: &[Arg], needed: usize, rest: usize, list: &[Value]) -> Opt
 }
 
 fn parts_fault(allowed: Allowed, rest: usize, word: Word, list: &[Value]) -> Option<Trouble>
-    ensures { result ≡ built_trouble (is_allowed allowed word) rest (needed_of word) (items_view list.now) (args_of word) }
+    ensures { result ≡ built_trouble (is_allowed allowed word (items_view list.now)) rest (needed_of word) (items_view list.now) (args_of word) }
 {
     match args(word) {
-        Some(forms) => if is_allowed(allowed, word) {
+        Some(forms) => if is_allowed(allowed, word, list) {
             items_fault(forms, needed(word), rest, list)
         } else {
             Some(Trouble::WrongShape)

@@ -4,18 +4,19 @@ ghost use Rattle.std.specs.Prelude.{◌≡◌, ◌<◌, ◌≤◌, ◌-◌, ◌+
 ghost use Rattle.serde_json.specs.Events.{items_len};
 ghost use Rattle.serde_json.specs.View.{view, items_view};
 ghost use Rattle.so_code.specs.Shape.{IsCode};
-ghost use Rattle.so_scene_json.specs.Build.{agent_added, with_disp, allowed_in, body_written, start_written, state_written, states_written, row_body, handler_written, rows_written, agent_written, state_place, tree_of, is_long, no_parts, with_message, with_coop, agent_with, with_code, with_tree, with_agent, build_step};
-ghost use Rattle.so_scene_json.specs.Defs.{disp_in, least_priority};
+ghost use Rattle.so_scene_json.specs.Build.{agent_added, with_disp, body_written, start_written, state_written, states_written, row_body, handler_written, rows_written, agent_written, state_place, tree_of, is_long, no_parts, with_message, with_coop, agent_with, with_code, with_tree, with_agent, build_step};
+ghost use Rattle.so_scene_json.specs.Defs.{disp_in};
 ghost use Rattle.so_scene_json.specs.Groups.{with_group};
 ghost use Rattle.so_scene_json.specs.Values.{group_in};
 ghost use Rattle.so_scene_json.specs.Reads.{Reads, Returns};
 ghost use Rattle.so_scene_json.specs.Visits.{list_of, Leaves};
 ghost use Rattle.so_state.specs.Fault.{named};
 
-use crate::act_table::Allowed;
+use crate::act_table::{Allowed, handler_acts};
 use crate::declare::Declared;
 use crate::defs::{
-    default_disp, disp_in, disp_of, filters_in, message_of, name_of, rows_in, states_in, vars_of,
+    default_disp, disp_in, disp_of, filters_in, message_of, name_of, priority_in, rows_in,
+    states_in, vars_of,
 };
 use crate::groups::{Group, add_group, group_number};
 use crate::scope::Scope;
@@ -25,7 +26,7 @@ use crate::walk::{Pass, list, position};
 use crate::write::Writer;
 use serde_json::Value;
 use so_code::{Body, Code, Instr};
-use so_ids::{CoopId, Priority, RowId, StateId};
+use so_ids::{CoopId, RowId, StateId};
 use so_scene::{
     AgentDef, DispDef, Field, Items, MessageDef, Name, Names, PlaceStep, SceneFault, ScenePlace,
     SceneRefusal,
@@ -34,27 +35,18 @@ use so_state::{State, Tree, TreeFault};
 use std::alloc::Global;
 use std::mem;
 
-/// Which acts a body may hold.
-fn allowed_in(body: Body) -> Allowed
-    ensures { result ≡ allowed_in body }
-{
-    match body {
-        Body::Enter(_) | Body::Exit(_) => Allowed::NoSwitch,
-        Body::Start | Body::Finish | Body::Row(_) | Body::Thread => Allowed::AnyAct,
-    }
-}
-
 impl Writer {
-    /// A body and its end.
+    /// A body, of acts that are allowed there, and its end.
     fn body(
         &mut self,
         names: &Declared,
+        allowed: Allowed,
         body: Body,
         found: Option<&Value>,
     ) -> Result<(), SceneRefusal>
-        ensures { Leaves (Ok (body_written names.now body self.old (option_map (λ v. view v.now) found.entry))) result self.new }
+        ensures { Leaves (Ok (body_written names.now allowed body self.old (option_map (λ v. view v.now) found.entry))) result self.new }
     {
-        self.acts(names, allowed_in(body), list(found))?;
+        self.acts(names, allowed, list(found))?;
         self.push(Instr::End { body })
     }
 
@@ -62,8 +54,8 @@ impl Writer {
     fn start(&mut self, names: &Declared, value: &Value) -> Result<(), SceneRefusal>
         ensures { Leaves (Ok (start_written names.now self.old (view value.now))) result self.new }
     {
-        self.body(names, Body::Start, value.get("start"))?;
-        self.body(names, Body::Finish, value.get("finish"))
+        self.body(names, Allowed::AnyAct, Body::Start, value.get("start"))?;
+        self.body(names, Allowed::AnyAct, Body::Finish, value.get("finish"))
     }
 
     /// The enter and the exit of the state of this number.
@@ -71,8 +63,9 @@ impl Writer {
         ensures { Leaves (Ok (state_written names.now k self.old (view value.now))) result self.new }
     {
         let state = StateId(position(k));
-        self.body(names, Body::Enter(state), value.get("enter"))?;
-        self.body(names, Body::Exit(state), value.get("exit"))
+        let allowed = Allowed::NoSwitch;
+        self.body(names, allowed, Body::Enter(state), value.get("enter"))?;
+        self.body(names, allowed, Body::Exit(state), value.get("exit"))
     }
 
     /// The bodies of states.
@@ -89,13 +82,14 @@ impl Writer {
     fn handler(
         &mut self,
         names: &Declared,
+        allowed: Allowed,
         body: Body,
         found: Option<&Value>,
     ) -> Result<(), SceneRefusal>
-        ensures { Leaves (Ok (handler_written names.now body self.old (option_map (λ v. view v.now) found.entry))) result self.new }
+        ensures { Leaves (Ok (handler_written names.now allowed body self.old (option_map (λ v. view v.now) found.entry))) result self.new }
     {
         match found {
-            Some(value) => self.body(names, body, Some(value)),
+            Some(value) => self.body(names, allowed, body, Some(value)),
             None => Ok(()),
         }
     }
@@ -105,7 +99,8 @@ impl Writer {
         ensures { Leaves (Ok (rows_written names.now 0 self.old (items_view list.now))) result self.new }
     {
         for (i, value) in list.iter().enumerate() {
-            self.handler(names, Body::Row(RowId(position(i))), value.get("do"))?;
+            let body = Body::Row(RowId(position(i)));
+            self.handler(names, handler_acts(value), body, value.get("do"))?;
         }
         Ok(())
     }
@@ -192,13 +187,6 @@ fn written(
     Ok(writer)
 }
 
-/// The priority of an agent, so far.
-fn least_priority() -> Priority
-    ensures { result ≡ least_priority }
-{
-    Priority { level: 0 }
-}
-
 /// The agent of a number, with its states, its names and ids, and its code, where there are these groups.
 fn agent_with(
     alloc: Global,
@@ -221,7 +209,7 @@ fn agent_with(
         coop: CoopId(0),
         disp,
         group,
-        priority: least_priority(),
+        priority: priority_in(value),
         vars: vars_of(value),
         state_names: scope.states,
         tree,
@@ -397,6 +385,7 @@ impl Pass for Build {
         &mut self,
         _rule: Rule,
         _place: &ScenePlace,
+        _object: &Value,
         _found: Option<&Value>,
     ) -> Result<(), SceneRefusal> {
         Ok(())

@@ -294,6 +294,7 @@ impl Pass for Declared {
         &mut self,
         rule: Rule,
         _place: &ScenePlace,
+        _object: &Value,
         found: Option<&Value>,
     ) -> Result<(), SceneRefusal> {
         match rule.form {

@@ -4,7 +4,7 @@
 ghost use Rattle.std.specs.Prelude.{◌≡◌, ◌++◌, ◌∷◌, [], ℤ, Some, map, length, codes};
 ghost use Rattle.std.specs.List.{range_with_len};
 ghost use Rattle.serde_json.specs.View.{view, items_view};
-ghost use Rattle.so_scene_json.specs.Defs.{message_of, threads_in, fifo_in, disp_of, disp_in, var_at, vars_in, vars_of, number_named, msg_in, mbox_in, state_named, state_in, parent_in, history_in, state_of, states_of, row_mbox, handler_kind, kind_of, row_of, rows_of, field_in, cmp_in, value_in, filter_of, filters_of};
+ghost use Rattle.so_scene_json.specs.Defs.{message_of, threads_in, fifo_in, quote_at, quotes_in, disp_of, level_in, priority_in, disp_in, var_at, vars_in, vars_of, number_named, msg_in, mbox_in, state_named, state_in, parent_in, history_in, state_of, states_of, row_mbox, handler_kind, kind_of, row_of, rows_of, field_in, cmp_in, value_in, filter_of, filters_of};
 ghost use Rattle.so_scene.specs.Parts.{default_disp};
 ghost use Rattle.so_scene_json.specs.Reads.{Returns};
 ghost use Rattle.so_scene_json.specs.Values.{name_in};
@@ -13,13 +13,14 @@ use crate::declare::{Declared, is_signal};
 use crate::scope::Scope;
 use crate::table::Space;
 use crate::values::{
-    comparison, disp_kind_in, fifo, flag_or, history, id_in, integer, name_in, number, string_in,
+    comparison, disp_kind_in, fifo, flag_or, history, id_in, integer, is_safe, name_in, number,
+    quote, string_in,
 };
 use crate::walk::{list, position};
 use crate::write::item;
 use serde_json::Value;
 use so_code::Cmp;
-use so_ids::{DispId, MboxId, MsgId, StateId, Vars};
+use so_ids::{DispId, MboxId, MsgId, Priority, StateId, Vars};
 use so_scene::{DispDef, DispKind, Fifo, FilterDef, Items, MessageDef, Name, SceneRefusal};
 use so_state::{History, Row, RowKind, State};
 use std::alloc::Global;
@@ -131,6 +132,29 @@ fn fifo_in(value: &Value) -> Fifo
     }
 }
 
+/// The quote of priority `k`, which is 20 where the list has none.
+fn quote_at(list: &[Value], k: usize) -> u32
+    ensures { result ≡ quote_at k (items_view list.now) }
+{
+    match item(list, k) {
+        Some(value) => match quote(value) {
+            Ok(n) => n as u32,
+            Err(_) => 20,
+        },
+        None => 20,
+    }
+}
+
+fn quotes_in(list: &[Value]) -> [u32; 8]
+    ensures { result ≡ quotes_in (items_view list.now) }
+{
+    let mut quotes = [0u32; 8];
+    for k in 0..8 {
+        quotes[k] = quote_at(list, k);
+    }
+    quotes
+}
+
 pub(crate) fn disp_of(value: &Value) -> DispDef
     ensures { result ≡ disp_of (view value.now) }
 {
@@ -140,7 +164,7 @@ pub(crate) fn disp_of(value: &Value) -> DispDef
         slots: 4096,
         threads: threads_in(value),
         fifo: fifo_in(value),
-        quotes: [20; 8],
+        quotes: quotes_in(list(value.get("quotes"))),
     }
 }
 
@@ -174,6 +198,28 @@ pub(crate) fn disp_in(names: &Declared, value: &Value) -> DispId
     match names.disp_of(value) {
         Some(n) => DispId(position(n)),
         None => DispId(0),
+    }
+}
+
+/// The level of the priority of an agent, 0 where it has none.
+fn level_in(value: &Value) -> usize
+    ensures { result ≡ level_in (view value.now) }
+{
+    match value.get("priority") {
+        Some(value) => match number(0, 7, value) {
+            Ok(n) => n,
+            Err(_) => 0,
+        },
+        None => 0,
+    }
+}
+
+/// The priority of an agent.
+pub(crate) fn priority_in(value: &Value) -> Priority
+    ensures { result ≡ priority_in (view value.now) }
+{
+    Priority {
+        level: level_in(value).min(7) as u8,
     }
 }
 
@@ -280,7 +326,7 @@ fn row_of(agent: usize, names: &Declared, scope: &Scope, value: &Value) -> Row
         msg: msg_in(names, value),
         state: state_in(scope, "state", value),
         kind: kind_of(scope, value),
-        safe: false,
+        safe: is_safe(value),
         active: flag_or(true, value.get("active")),
     }
 }

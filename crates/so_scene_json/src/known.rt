@@ -256,7 +256,7 @@ impl Known {
             Form::NameIn(space) => at(place, self.names.name(space, value)),
             Form::DeclaredState => at(place, declared_state(self.scope.states.as_slice(), value)),
             Form::AnyState => at(place, self.scope.any_state(value)),
-            Form::Acts(_) => self.acts(place, list(Some(value))),
+            Form::Acts(_) | Form::Handler => self.acts(place, list(Some(value))),
             _ => None,
         }
     }
@@ -309,6 +309,7 @@ impl Pass for Known {
         &mut self,
         rule: Rule,
         place: &ScenePlace,
+        _object: &Value,
         found: Option<&Value>,
     ) -> Result<(), SceneRefusal> {
         match self.tried(rule.form, place, found) {

@@ -23,6 +23,3 @@ mod walk;
 pub mod write;
 
 pub use read::read_scene;
-
-#[cfg(test)]
-mod tests;

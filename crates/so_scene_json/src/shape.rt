@@ -5,16 +5,16 @@ ghost use Rattle.serde_json.specs.Find.{as_array, as_number, as_object, as_str};
 ghost use Rattle.serde_json.specs.View.{view, items_view, members_view};
 ghost use Rattle.so_scene_json.specs.Table.{rules_of};
 ghost use Rattle.so_scene_json.specs.Acts.{act_trouble};
-ghost use Rattle.so_scene.specs.Checked.{is_built, is_pool};
-ghost use Rattle.so_scene_json.specs.Values.{name_of, disp_kind_of};
-ghost use Rattle.so_scene_json.specs.Shape.{placed, trouble_at, is_known, has_unknown, unknown_in, version_fault, kind_trouble, disp_kind_trouble, state_name_trouble, first_of, is_within, list_trouble, number_trouble, name_trouble, object_trouble, acts_from, acts_fault, form_fault, field_fault, has, effects, is_row_breach, is_disp_breach, is_initial, is_breach, shape_step};
+ghost use Rattle.so_scene.specs.Checked.{is_pool, has_quotes};
+ghost use Rattle.so_scene_json.specs.Values.{name_of};
+ghost use Rattle.so_scene_json.specs.Shape.{placed, trouble_at, is_known, has_unknown, unknown_in, version_fault, kind_trouble, state_name_trouble, first_of, is_within, list_trouble, fixed_trouble, number_trouble, quote_trouble, name_trouble, object_trouble, acts_from, acts_fault, form_fault, field_fault, has, effects, is_dead_breach, is_safe_breach, is_row_breach, is_pool_breach, is_quotes_breach, is_disp_breach, is_initial, is_breach, shape_step};
 
-use crate::act_table::Allowed;
+use crate::act_table::{Allowed, handler_acts};
 use crate::acts::act_fault;
 use crate::table::{Form, ObjectKind, Rule, rules};
 use crate::values::{
-    Trouble, comparison, disp_kind, disp_kind_in, fifo, flag, flag_or, history, integer, name,
-    number, only_true,
+    Trouble, comparison, disp_kind, disp_kind_in, fifo, flag, flag_or, history, integer, is_safe,
+    name, number, only_true, quote,
 };
 use crate::walk::{Pass, position};
 use serde_json::{Map, Value};
@@ -86,20 +86,6 @@ fn message_kind(value: &Value) -> Option<Trouble>
     }
 }
 
-/// Tells whether a kind of dispatcher is built.
-fn is_built(kind: DispKind) -> bool
-    ensures { result ≡ is_built kind }
-{
-    match kind {
-        DispKind::OneThread | DispKind::ActiveObj | DispKind::ActiveGroup | DispKind::ThreadPool =>
-            true,
-        DispKind::AdvThreadPool
-        | DispKind::StrictlyOrdered
-        | DispKind::QuotedRoundRobin
-        | DispKind::OnePerPrio => false,
-    }
-}
-
 /// Tells whether a dispatcher of this kind is a pool.
 fn is_pool(kind: DispKind) -> bool
     ensures { result ≡ is_pool kind }
@@ -110,18 +96,11 @@ fn is_pool(kind: DispKind) -> bool
     }
 }
 
-/// What is wrong with the kind of a dispatcher.
-fn disp_kind_fault(value: &Value) -> Option<Trouble>
-    ensures { result ≡ disp_kind_trouble (disp_kind_of (view value.now)) }
+/// Tells whether a dispatcher of this kind has quotes.
+fn has_quotes(kind: DispKind) -> bool
+    ensures { result ≡ has_quotes kind }
 {
-    match disp_kind(value) {
-        Ok(kind) => if is_built(kind) {
-            None
-        } else {
-            Some(Trouble::NotBuilt)
-        },
-        Err(trouble) => Some(trouble),
-    }
+    kind == DispKind::QuotedRoundRobin
 }
 
 /// What is wrong with the name of a state.
@@ -201,6 +180,37 @@ fn numbers(limit: usize, value: &Value) -> Option<Trouble>
     }
 }
 
+fn all_quotes(list: &[Value]) -> Option<Trouble>
+    ensures { result ≡ first_of quote_trouble (items_view list.now) }
+{
+    for value in list {
+        match quote(value) {
+            Ok(_) => {}
+            Err(trouble) => return Some(trouble),
+        }
+    }
+    None
+}
+
+fn quote_list(list: &[Value]) -> Option<Trouble>
+    ensures { result ≡ fixed_trouble 8 quote_trouble (Some (items_view list.now)) }
+{
+    if list.len() == 8 {
+        all_quotes(list)
+    } else {
+        Some(Trouble::WrongShape)
+    }
+}
+
+fn quotes(value: &Value) -> Option<Trouble>
+    ensures { result ≡ fixed_trouble 8 quote_trouble (as_array (view value.now)) }
+{
+    match value.as_array() {
+        Some(list) => quote_list(list),
+        None => Some(Trouble::WrongShape),
+    }
+}
+
 fn name_list(limit: usize, list: &[Value]) -> Option<Trouble>
     ensures { result ≡ list_trouble (Some limit) name_trouble (Some (items_view list.now)) }
 {
@@ -275,9 +285,10 @@ fn acts(allowed: Allowed, place: &ScenePlace, value: &Value) -> Option<SceneFaul
     }
 }
 
-fn form(form: Form, place: &ScenePlace, value: &Value) -> Option<SceneFault>
+/// What is wrong with the value of a field of this object.
+fn form(form: Form, place: &ScenePlace, object: &Value, value: &Value) -> Option<SceneFault>
     requires { length place.now < 16 }
-    ensures { result ≡ form_fault form place.now (view value.now) }
+    ensures { result ≡ form_fault form place.now (view object.now) (view value.now) }
 {
     match form {
         Form::One => version(place, value),
@@ -287,8 +298,9 @@ fn form(form: Form, place: &ScenePlace, value: &Value) -> Option<SceneFault>
         Form::History => at(place, history(value).err()),
         Form::Mboxes(limit) => at(place, names(limit, value)),
         Form::MessageKind => at(place, message_kind(value)),
-        Form::DispKind => at(place, disp_kind_fault(value)),
+        Form::DispKind => at(place, disp_kind(value).err()),
         Form::Fifo => at(place, fifo(value).err()),
+        Form::Quotes => at(place, quotes(value)),
         Form::Flag => at(place, flag(value).err()),
         Form::OnlyTrue => at(place, only_true(value).err()),
         Form::Cmp => at(place, comparison(value).err()),
@@ -297,16 +309,22 @@ fn form(form: Form, place: &ScenePlace, value: &Value) -> Option<SceneFault>
         Form::Numbers(limit) => at(place, numbers(limit, value)),
         Form::Objects(_, limit) => at(place, objects(limit, value)),
         Form::Acts(allowed) => acts(allowed, place, value),
+        Form::Handler => acts(handler_acts(object), place, value),
         Form::Later => Some(SceneFault::NotBuilt(place.copy())),
     }
 }
 
-fn field(rule: Rule, place: &ScenePlace, found: Option<&Value>) -> Option<SceneFault>
+fn field(
+    rule: Rule,
+    place: &ScenePlace,
+    object: &Value,
+    found: Option<&Value>,
+) -> Option<SceneFault>
     requires { length place.now < 16 }
-    ensures { result ≡ field_fault rule place.now (option_map (λ v. view v.now) found.entry) }
+    ensures { result ≡ field_fault rule place.now (view object.now) (option_map (λ v. view v.now) found.entry) }
 {
     match found {
-        Some(value) => form(rule.form, place, value),
+        Some(value) => form(rule.form, place, object, value),
         None => if rule.required {
             Some(SceneFault::Missing(place.copy()))
         } else {
@@ -344,22 +362,51 @@ fn effects(value: &Value) -> u8
         + has(Field::Suppress, value)
 }
 
-fn row_breach(value: &Value) -> bool
-    ensures { result ≡ is_row_breach (view value.now) }
+/// A dead-letter row without a handler, or with a state.
+fn dead_breach(value: &Value) -> bool
+    ensures { result ≡ is_dead_breach (view value.now) }
 {
-    effects(value) != 1
-        || has(Field::Dead, value) > has(Field::Do, value)
+    has(Field::Dead, value) > has(Field::Do, value)
         || has(Field::Dead, value) + has(Field::State, value) > 1
 }
 
-/// A dispatcher that isn't a pool has no threads and no parameter of its queues.
-fn disp_breach(value: &Value) -> bool
-    ensures { result ≡ is_disp_breach (view value.now) }
+/// A safe row without a handler.
+fn safe_breach(value: &Value) -> bool
+    ensures { result ≡ is_safe_breach (view value.now) }
+{
+    is_safe(value) && has(Field::Do, value) == 0
+}
+
+fn row_breach(value: &Value) -> bool
+    ensures { result ≡ is_row_breach (view value.now) }
+{
+    effects(value) != 1 || dead_breach(value) || safe_breach(value)
+}
+
+/// Threads or a parameter of its queues, of a dispatcher that isn't a pool.
+fn pool_breach(value: &Value) -> bool
+    ensures { result ≡ is_pool_breach (view value.now) }
 {
     if is_pool(disp_kind_in(value)) {
         return false;
     }
     has(Field::Threads, value) + has(Field::Fifo, value) > 0
+}
+
+/// Quotes of another kind of dispatcher.
+fn quotes_breach(value: &Value) -> bool
+    ensures { result ≡ is_quotes_breach (view value.now) }
+{
+    if has_quotes(disp_kind_in(value)) {
+        return false;
+    }
+    has(Field::Quotes, value) == 1
+}
+
+fn disp_breach(value: &Value) -> bool
+    ensures { result ≡ is_disp_breach (view value.now) }
+{
+    pool_breach(value) || quotes_breach(value)
 }
 
 fn breach(kind: ObjectKind, value: &Value) -> bool
@@ -398,9 +445,10 @@ impl Pass for Shape {
         &mut self,
         rule: Rule,
         place: &ScenePlace,
+        object: &Value,
         found: Option<&Value>,
     ) -> Result<(), SceneRefusal> {
-        match field(rule, place, found) {
+        match field(rule, place, object, found) {
             Some(fault) => Err(SceneRefusal::Fault(fault)),
             None => Ok(()),
         }

@@ -57,10 +57,12 @@ pub enum Form {
     Mboxes(usize),
     /// `message` or `signal`.
     MessageKind,
-    /// A kind of dispatcher that is built.
+    /// A kind of dispatcher.
     DispKind,
     /// `cooperation` or `individual`.
     Fifo,
+    /// A list of eight numbers from 1 to 1,000, that of priority 0 first.
+    Quotes,
     /// `true` or `false`.
     Flag,
     /// `true`.
@@ -77,6 +79,8 @@ pub enum Form {
     Objects(ObjectKind, Option<usize>),
     /// A list of at most 256 acts, of those that are allowed there.
     Acts(Allowed),
+    /// The same, of those that the handler of the row may hold.
+    Handler,
     /// What isn't built.
     Later,
 }
@@ -202,7 +206,7 @@ static DISPATCHER: [Rule; 6] = [
     Rule {
         field: Field::Quotes,
         required: false,
-        form: Form::Later,
+        form: Form::Quotes,
     },
 ];
 
@@ -253,7 +257,7 @@ static AGENT: [Rule; 13] = [
     Rule {
         field: Field::Priority,
         required: false,
-        form: Form::Later,
+        form: Form::Number(0, 7),
     },
     Rule {
         field: Field::Reaction,
@@ -420,7 +424,7 @@ static ROW: [Rule; 11] = [
     Rule {
         field: Field::Do,
         required: false,
-        form: Form::Acts(Allowed::AnyAct),
+        form: Form::Handler,
     },
     Rule {
         field: Field::Switch,
@@ -445,7 +449,7 @@ static ROW: [Rule; 11] = [
     Rule {
         field: Field::Safe,
         required: false,
-        form: Form::Later,
+        form: Form::Flag,
     },
     Rule {
         field: Field::Active,

@@ -2,7 +2,7 @@
 
 ghost use Rattle.std.specs.Prelude.{◌≡◌, ◌≤◌, IfOk, option_map};
 ghost use Rattle.serde_json.specs.View.{view};
-ghost use Rattle.so_scene_json.specs.Values.{integer_of, small_number, numbered, disp_kind_named, disp_kind_of, disp_kind_in, fifo_named, fifo_of, group_in, operand_named, operand_of, dest_named, dest_of, cmp_named, cmp_of, name_of, text_of, count_of, number_of, flag_of, only_true, read_or, history_named, history_of, string_in, name_in, id_in, Views};
+ghost use Rattle.so_scene_json.specs.Values.{integer_of, small_number, numbered, disp_kind_named, disp_kind_of, disp_kind_in, fifo_named, fifo_of, group_in, operand_named, operand_of, dest_named, dest_of, cmp_named, cmp_of, name_of, text_of, count_of, number_of, quote_of, is_safe, flag_of, only_true, read_or, history_named, history_of, string_in, name_in, id_in, Views};
 
 use serde_json::Value;
 use so_code::{Cmp, Dest, Operand};
@@ -196,6 +196,14 @@ pub(crate) fn number(low: usize, high: usize, value: &Value) -> Result<usize, Tr
     }
 }
 
+/// How many events of a priority are taken in its turn.
+pub(crate) fn quote(value: &Value) -> Result<usize, Trouble>
+    ensures value { result ≡ quote_of (view value.now) }
+    ensures range { IfOk result (λ n. n ≤ 1000) }
+{
+    number(1, 1000, value)
+}
+
 /// `true` or `false`.
 pub(crate) fn flag(value: &Value) -> Result<bool, Trouble>
     ensures { result ≡ flag_of (view value.now) }
@@ -214,6 +222,13 @@ pub(crate) fn flag_or(default: bool, found: Option<&Value>) -> bool
         },
         None => default,
     }
+}
+
+/// Tells whether the handler of a row is marked as thread-safe.
+pub(crate) fn is_safe(row: &Value) -> bool
+    ensures { result ≡ is_safe (view row.now) }
+{
+    flag_or(false, row.get("safe"))
 }
 
 /// `true`.

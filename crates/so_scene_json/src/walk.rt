@@ -46,10 +46,11 @@ pub(crate) trait Pass {
         &mut self,
         rule: Rule,
         place: &ScenePlace,
+        object: &Value,
         found: Option<&Value>,
     ) -> Result<(), SceneRefusal>
         requires { length place.now < 16 }
-        ensures { LeavesIf lack (step self.old (tries rule place.now (option_map (λ v. view v.now) found.entry))) result self.new };
+        ensures { LeavesIf lack (step self.old (tries rule place.now (view object.now) (option_map (λ v. view v.now) found.entry))) result self.new };
 
     fn leave(
         &mut self,
@@ -110,7 +111,7 @@ fn one_field<P: Pass>(
 {
     let at = place.step(PlaceStep::Key(rule.field));
     let found = value.get(rule.field.key());
-    pass.field(rule, &at, found)?;
+    pass.field(rule, &at, value, found)?;
     inside(pass, levels, objects(rule.form), &at, found)
 }
 

@@ -364,7 +364,7 @@ impl Writer {
         ensures { Leaves (Ok (act_written names.now allowed rest self.old (view value.now))) result self.new }
     {
         match parts(value) {
-            Some((word, list)) => if is_allowed(allowed, word) {
+            Some((word, list)) => if is_allowed(allowed, word, list) {
                 self.word(names, rest, word, list)
             } else {
                 self.push(Instr::Skip { count: 0 })

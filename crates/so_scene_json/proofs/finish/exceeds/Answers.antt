@@ -1,8 +1,7 @@
-use Rattle.std.proofs.Common.{◌≡◌, Bool, sym, ◌∙◌, subst, length, nat_lt}
+use Rattle.std.proofs.Common.{◌≡◌, Bool, sym, ◌∙◌, subst, length}
 use Rattle.std.proofs.lemmas.Bool.{ltb-false}
 use Rattle.std.specs.Prelude.{Result}
 use Rattle.so_scene.specs.declared.fault.SceneRefusal.{SceneRefusal}
-use Rattle.so_scene.specs.Lanes.{lanes}
 use Rattle.so_scene_json.specs.Reads.{Returns}
 use Rattle.so_scene_json.proofs.Built.{first_or, second_or, third_or}
 use Rattle.so_scene_json.proofs.finish.exceeds.Goals as goal

@@ -14,7 +14,7 @@ use Rattle.so_scene_json.specs.declared.groups.Group.{Group}
 use Rattle.so_scene_json.specs.Values.{group_in}
 use Rattle.so_scene_json.specs.Groups.{with_group}
 use Rattle.so_scene_json.specs.Defs.{disp_in}
-use Rattle.so_scene_json.specs.Build.{agent_written, agent_with, agent_of, agent_added, with_code}
+use Rattle.so_scene_json.specs.Build.{agent_written, agent_with, agent_added, with_code}
 use Rattle.so_scene_json.proofs.build.Build.with_code.Goals as goal
 
 abbrev ok : Build → Result Build SceneFault
