@@ -1,7 +1,7 @@
 //! The scenes of `examples`, word for word. The gate compares them with the files.
 
 /// Each scene.
-pub const EXAMPLES: [&str; 15] = [
+pub const EXAMPLES: [&str; 16] = [
     r#"{
   "version": 1,
   "messages": [{"name": "reading"}, {"name": "relax", "kind": "signal"}, {"name": "again", "kind": "signal"}],
@@ -361,6 +361,18 @@ pub const EXAMPLES: [&str; 15] = [
     }
   ]
 }"#,
+    r#"{"version": 1,
+ "messages": [{"name": "patient"}],
+ "dispatchers": [{"name": "ward", "kind": "quoted_round_robin", "quotes": [1, 1, 1, 1, 1, 1, 1, 2]}],
+ "coops": [{"name": "hospital", "agents": [
+   {"name": "urgent", "disp": "ward", "priority": 7,
+    "on": [{"msg": "patient", "do": [["log", "sees", "m0"]]}]},
+   {"name": "routine", "disp": "ward", "priority": 0,
+    "on": [{"msg": "patient", "do": [["log", "sees", "m0"]]}]},
+   {"name": "desk", "start": [
+     ["send", "routine", "patient", 1], ["send", "routine", "patient", 2], ["send", "routine", "patient", 3],
+     ["send", "urgent", "patient", 4], ["send", "urgent", "patient", 5], ["send", "urgent", "patient", 6],
+     ["send", "urgent", "patient", 7]]}]}]}"#,
     r#"{
   "version": 1,
   "messages": [{"name": "news"}, {"name": "quit", "kind": "signal"}],
