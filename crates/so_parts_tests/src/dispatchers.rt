@@ -144,17 +144,12 @@ fn groups_are_numbered_as_agents_name_them(rt: HostRuntime) {
     let scene = scene(&rt, rt.alloc(), KINDS);
     match scene.parts().groups.as_slice() {
         [_, _, _, some, _, more, _] => {
-            assert!(rt;
-                some.as_slice()
-                    .iter()
-                    .map(|name| name.bytes())
-                    .eq(["y".as_bytes(), "x".as_bytes()])
-            );
-            assert!(rt;
-                more.as_slice()
-                    .iter()
-                    .all(|name| name.bytes() == "x".as_bytes())
-            );
+            for (name, want) in some.as_slice().iter().zip(["y", "x"].iter()) {
+                assert!(rt; name.bytes() == want.as_bytes());
+            }
+            for name in more.as_slice() {
+                assert!(rt; name.bytes() == b"x".as_slice());
+            }
         }
         _ => assert!(rt; false),
     }
