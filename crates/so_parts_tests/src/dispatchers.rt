@@ -108,7 +108,7 @@ fn dispatchers_are_what_they_were_declared(rt: HostRuntime) {
         assert!(rt; disp.kind == want.1 && disp.threads == want.2);
         assert!(rt; disp.fifo == want.3 && disp.slots == 4096);
         assert!(rt; disp.quotes.iter().all(|quote| *quote == 20));
-        assert!(rt; groups.len() as u32 == want.4);
+        assert!(rt; groups.len() == want.4 as usize);
     }
     // one of `default` and of `one`, one of `each`, two of `some`, three of `pool`, one of `more` and four of `plain`
     assert_eq!(rt; scene.lanes(), 13);
