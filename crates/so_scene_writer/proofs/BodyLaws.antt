@@ -376,9 +376,9 @@ row_step : (s : SceneParts) (a : AgentDef) (names : Declared) (last : ℕ) (tota
 row_step s a names last total i left more id row w c st l here h g =
     let x : RowSource = row_source id row left in
     let allowed : Allowed = allowed_in a (body.Row (record { 0 = i })) in
-    let Wrote_with : Allowed → Option Data → Type 0 = λ q o. WroteStates s a last total (behind_row row left) (map body.Row more) (handler_written names q (row_body i) w o) in
-    subst (λ q. Wrote_with q (get (codes "do") (row_data s a x))) (sym (handler_found s a x i here))
-    (subst (λ o. Wrote_with allowed o) (sym (do_found s a x)) (row_step_at s a names last total i left more row.kind w c st l h g))
+    subst (λ (q : Allowed). WroteStates s a last total (behind_row row left) (map body.Row more) (handler_written names q (row_body i) w (get (codes "do") (row_data s a x)))) (sym (handler_found s a x i here))
+    (subst (λ (o : Option Data). WroteStates s a last total (behind_row row left) (map body.Row more) (handler_written names allowed (row_body i) w o)) (sym (do_found s a x))
+    (row_step_at s a names last total i left more row.kind w c st l h g))
 
 rows_step : (s : SceneParts) (a : AgentDef) (names : Declared) (last : ℕ) (total : List Instr) (i : ℕ) (ids : List (Option (List ℕ))) (rows : List Row) (left : List Instr) (w : Writer) → Told s a → Stands s names → length ids ≡ length rows → i + length rows < 2 ^ 32 → AreFrom i rows a.rows
     → AreLaid s a (map body.Row (handlers_from i rows)) left → Wrote s a last total left w
