@@ -346,7 +346,7 @@ pub from_next : (i : ℕ) (row : Row) (rows all : List Row) → AreFrom i (row �
 from_next i row rows all from = λ j. let same : i + suc j ≡ suc i + j = omega arith in from (suc j) ∙ ap (slice_get all) same
 
 pub from_start : (rows : List Row) → AreFrom 0 rows rows
-from_start rows = λ j. refl
+from_start rows = λ j. let same : j ≡ 0 + j = omega arith in ap (slice_get rows) same
 
 -- what the handler of a row may hold is what the row is read with
 pub row_allowed : (a : AgentDef) (i : ℕ) (row : Row) → slice_get a.rows i ≡ Some row → allowed_in a (body.Row (record { 0 = i })) ≡ handler_of row.safe
