@@ -1,6 +1,6 @@
 //! Dispatchers as values.
 
-ghost use Rattle.std.specs.Prelude.{◌≡◌, drop, Some, None, option_map, IfOk};
+ghost use Rattle.std.specs.Prelude.{◌≡◌, ◌<◌, drop, length, slice_index_or, Some, None, option_map, IfOk};
 ghost use Rattle.serde_json.specs.View.{view};
 ghost use Rattle.so_scene.specs.Checked.{is_pool, has_quotes};
 ghost use Rattle.so_scene_writer.specs.ActData.{count_data};
@@ -69,13 +69,20 @@ fn threads_value(disp: &DispDef) -> Option<Value>
     Some(count_value(disp.threads))
 }
 
+fn count_at(counts: &[u32], k: usize) -> Value
+    requires { k < length counts.now }
+    ensures { view result ≡ count_data (slice_index_or counts.now k 0) }
+{
+    let count = counts[k];
+    count_value(count)
+}
+
 fn counts_value(alloc: Global, counts: &[u32]) -> Result<Value, AllocError>
     ensures { IfOk result (λ v. view v ≡ list_data count_data counts.now) }
 {
     let mut list = Vec::new(alloc);
     for k in 0..counts.len() {
-        let count = counts[k];
-        list.push(count_value(count))?;
+        list.push(count_at(counts, k))?;
     }
     Ok(Value::Array(list))
 }

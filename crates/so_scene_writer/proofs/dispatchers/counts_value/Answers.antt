@@ -7,7 +7,7 @@ use Rattle.so_scene_writer.proofs.Listed.{shown_more, shown_all}
 use Rattle.so_scene_writer.proofs.dispatchers.counts_value.Goals as goal
 
 pub loop-k-preserved : goal.loop-k-preserved
-loop-k-preserved c = shown_more count_data [] _ _ _ _ 0 _ _ c.loop-k-test.true refl c.loop-k.invariant c.count_value.ensures c.in_ok-push.ensures.items
+loop-k-preserved c = shown_more count_data [] _ _ _ _ 0 _ _ c.loop-k-test.true refl c.loop-k.invariant c.count_at.ensures c.in_ok-push.ensures.items
 
 pub returns : goal.returns
 returns c = view-Array c.loop-k.list ∙ ap (λ ds. array (items_of ds)) (shown_all count_data [] c.loop-k.list.items c.args.counts.now c.loop-k.k c.loop-k-test.false c.loop-k.invariant)
