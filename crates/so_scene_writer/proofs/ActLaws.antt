@@ -1,17 +1,15 @@
 -- An act that is written passes the reader, and is read as the instruction that it was.
-use Rattle.std.proofs.Common.{◌≡◌, ℕ, ◌+◌, ◌-◌, ◌<◌, ◌≤◌, ◌^◌, suc, zero, List, [], ◌∷◌, ◌++◌, length, get_or, take, map, min, codes, bytes_eq, Bool, true, false, ◌==◌, nat_le, not, Option, Some, None, option_map, is_some, Result, Ok, refl, sym, ap, ◌∙◌, subst, arith, length-append, replicate, if◌then◌else◌}
+use Rattle.std.proofs.Common.{◌≡◌, ℕ, ◌<◌, ◌≤◌, ◌^◌, suc, zero, List, [], ◌∷◌, ◌++◌, length, get_or, take, map, codes, bytes_eq, Bool, true, false, ◌==◌, Option, Some, None, option_map, Result, Ok, refl, sym, ap, ◌∙◌, subst, arith, length-append, replicate, if◌then◌else◌}
 use Rattle.std.specs.List.{AllByRecursion, IsDistinct}
 use Rattle.std.proofs.lemmas.Bool.{le-leb, true≢false, eqb-true, eq-eqb}
 use Rattle.std.specs.Str.{is_utf8}
-use Rattle.serde_json.specs.Data.{Data, string, array, item, no_items, Items}
+use Rattle.serde_json.specs.Data.{Data, string, item, no_items, Items}
 use Rattle.serde_json.specs.Events.{items_len}
-use Rattle.serde_json.specs.Find.{as_str}
 use Rattle.serde_json.specs.View.{items_of}
 use Rattle.so_ids.specs.declared.MboxId.{MboxId}
 use Rattle.so_ids.specs.declared.MsgId.{MsgId}
 use Rattle.so_ids.specs.declared.StateId.{StateId}
 use Rattle.so_ids.specs.declared.TextId.{TextId}
-use Rattle.so_ids.specs.declared.Target.{Target}
 use Rattle.so_ids.specs.declared.Target.TheVariants.{Mbox, Chain}
 use Rattle.so_code.specs.declared.instr.Args.{Args}
 use Rattle.so_code.specs.declared.instr.Dest.{Dest}
@@ -25,8 +23,8 @@ use Rattle.so_lists.proofs.Filters.{each-append, each-weaker}
 use Rattle.so_scene.specs.declared.parts.AgentDef.{AgentDef}
 use Rattle.so_scene.specs.declared.parts.MessageDef.{MessageDef}
 use Rattle.so_scene.specs.declared.parts.SceneParts.{SceneParts}
-use Rattle.so_scene.specs.Checked.{IsScene, IsAgent, NamesParts, HasId, given, filter_ids, filter_id}
-use Rattle.so_scene.specs.Names.{number_in, has_name}
+use Rattle.so_scene.specs.Checked.{IsScene, IsAgent, NamesParts, HasId, filter_ids, filter_id}
+use Rattle.so_scene.specs.Names.{number_in}
 use Rattle.so_scene.specs.declared.parts.DispKind.TheVariants.{OneThread}
 use Rattle.so_scene.specs.Parts.{message_of, message_name, agent_name, disp_name, mbox_names, mboxes, mbox_name, no_message, text_of}
 use Rattle.so_scene.specs.Words.{is_name, is_text}
@@ -43,19 +41,19 @@ use Rattle.so_scene_json.specs.declared.table.Space.TheVariants as space
 use Rattle.so_scene_json.specs.declared.values.Trouble.{Trouble}
 use Rattle.so_scene_json.specs.declared.write.Writer.{Writer}
 use Rattle.so_scene_json.specs.ActTable.{is_allowed, is_safe_act, is_to_temporary, args_of, needed_of, four_operands}
-use Rattle.so_scene_json.specs.Acts.{act_trouble, args_trouble, fits, parts_trouble}
+use Rattle.so_scene_json.specs.Acts.{act_trouble, args_trouble, parts_trouble}
 use Rattle.so_scene_json.specs.Kept.{disp_kind}
 use Rattle.so_scene_json.specs.Known.{act_unknown, absent_from, has_signal, signal_trouble}
-use Rattle.so_scene_json.specs.Scope.{all_states, state_number, number_with}
+use Rattle.so_scene_json.specs.Scope.{state_number, number_with}
 use Rattle.so_scene_json.specs.Twice.{names_in}
-use Rattle.so_scene_json.specs.Values.{name_of, ok_or, text_of as text_read, text_or_empty}
+use Rattle.so_scene_json.specs.Values.{name_of, ok_or, text_of as text_read}
 use Rattle.so_scene_json.specs.Visits.{narrow}
 use Rattle.so_scene_json.proofs.Codes.{switches, restrains}
 use Rattle.so_scene_json.specs.Writer.{act_written, with_instr, or_idle, state_id}
-use Rattle.so_scene_writer.specs.ActData.{text_data, message_text, state_text, id_text, act_data, act_of, act_one, args_data, operand_data, dest_data, cmp_data, count_data, target_text}
-use Rattle.so_scene.specs.Written.{AreOperands, IsOperand as Fits, ArePadded, may_be_safe, to_temporary}
+use Rattle.so_scene_writer.specs.ActData.{text_data, message_text, state_text, id_text, act_data, act_of, act_one, args_data, operand_data, dest_data, cmp_data, count_data}
+use Rattle.so_scene.specs.Written.{AreOperands, ArePadded, may_be_safe, to_temporary}
 use Rattle.so_scene_writer.proofs.Writable.{IsName, IsText, IsStateName, IsWritable, IsWritableAgent, IsWrittenInstr, next_text, IsNumbered}
-use Rattle.so_scene_writer.proofs.Named.{each_of, each_at, name_utf8, text_utf8, swap, number_at, number_take, new_take, id_number, id_legal, HasIdAt, within}
+use Rattle.so_scene_writer.proofs.Named.{each_at, name_utf8, text_utf8, swap, number_at, number_take, new_take, id_number, id_legal, within}
 use Rattle.so_scene_writer.proofs.Shown.{operand_again, dest_again, cmp_again, count_again, args_len, args_one, args_two, operands_of}
 
 -- ---- which act may stand where

@@ -1,22 +1,17 @@
 -- An agent that is written passes the reader, and is read as it was.
-use Rattle.std.proofs.Common.{◌≡◌, ℕ, ◌+◌, ◌-◌, ◌<◌, ◌≤◌, ◌^◌, suc, zero, ℤ, pos, List, [], ◌∷◌, ◌++◌, length, get_or, take, map, codes, bytes_eq, Bool, true, false, not, ◌||◌, ◌&&◌, ◌==◌, nat_le, nat_lt, Option, Some, None, option_map, option_and_then, is_some, Result, Ok, refl, sym, ap, ◌∙◌, subst, arith, append_assoc, if◌then◌else◌}
-use Rattle.std.specs.List.{AllByRecursion, IsDistinct, range_with_len}
-use Rattle.std.proofs.lemmas.Bool.{true≢false, le-leb, le-ltb, lt-ltb}
+use Rattle.std.proofs.Common.{◌≡◌, ℕ, ◌<◌, ◌≤◌, ◌^◌, suc, zero, ℤ, pos, List, [], ◌∷◌, ◌++◌, length, get_or, take, map, codes, bytes_eq, true, false, Option, Some, None, option_map, option_and_then, is_some, Result, Ok, refl, sym, ap, ◌∙◌, subst, arith, append_assoc}
+use Rattle.std.specs.List.{AllByRecursion, IsDistinct}
+use Rattle.std.proofs.lemmas.Bool.{le-leb, le-ltb, lt-ltb}
 use Rattle.std.specs.Prelude.{min, unwrap_or}
 use Rattle.std.proofs.Math.Bridge.{le_prop}
 use Rattle.std.proofs.lemmas.List.{append-nil}
 use Rattle.std.proofs.lemmas.Option.{none-some}
 use Rattle.std.proofs.lemmas.List.FromFn.{fill_by_all}
-use Rattle.serde_json.specs.Data.{Data, string, array, object, Items, member, no_members}
-use Rattle.serde_json.specs.Events.{items_len}
-use Rattle.serde_json.specs.Find.{as_array, as_str, get}
+use Rattle.serde_json.specs.Data.{Data, object, Items, member, no_members}
+use Rattle.serde_json.specs.Find.{as_str, get}
 use Rattle.serde_json.specs.View.{items_of}
-use Rattle.so_ids.specs.declared.CoopId.{CoopId}
 use Rattle.so_ids.specs.declared.DispId.{DispId}
 use Rattle.so_ids.specs.declared.Priority.{Priority}
-use Rattle.so_ids.specs.declared.StateId.{StateId}
-use Rattle.so_ids.specs.declared.Vars.{Vars}
-use Rattle.so_code.specs.declared.instr.Instr.{Instr}
 use Rattle.so_code.specs.Values.{fits}
 use Rattle.so_state.specs.declared.choice.Row.{Row}
 use Rattle.so_state.specs.declared.states.State.{State}
@@ -31,7 +26,7 @@ use Rattle.so_scene.specs.declared.parts.SceneParts.{SceneParts}
 use Rattle.so_scene.specs.declared.place.Field.{Field}
 use Rattle.so_scene.specs.declared.place.Field.TheVariants as field
 use Rattle.so_scene.specs.Checked.{given, filter_id, filter_ids, IsGroup, IsScene}
-use Rattle.so_scene.specs.Names.{number_in, has_name}
+use Rattle.so_scene.specs.Names.{number_in}
 use Rattle.so_scene.specs.Parts.{disp_of as scene_disp, groups_of}
 use Rattle.so_scene.specs.Words.{is_name}
 use Rattle.so_scene_json.specs.declared.act_table.Allowed.TheVariants.{AnyAct}
@@ -49,26 +44,25 @@ use Rattle.so_scene_json.specs.declared.table.Space.TheVariants as space
 use Rattle.so_scene_json.specs.declared.values.Trouble.{Trouble}
 use Rattle.so_scene_json.specs.declared.write.Writer.{Writer}
 use Rattle.so_scene_json.specs.Table.{required, optional, later}
-use Rattle.so_scene_json.specs.Build.{build_step, agent_added, agent_written, agent_with, agent_of, with_agent, with_tree, with_code, tree_of, is_long, written, fresh}
-use Rattle.so_scene_json.specs.Defs.{disp_in, level_in, priority_in, narrow_or_zero, state_of, row_of, filter_of, states_of as states_read, rows_of as rows_read, filters_of as filters_read, vars_of, vars_in, var_at}
+use Rattle.so_scene_json.specs.Build.{build_step, agent_added, agent_written, agent_with, with_agent, with_code, tree_of, is_long, written, fresh}
+use Rattle.so_scene_json.specs.Defs.{disp_in, level_in, priority_in, narrow_or_zero, state_of, row_of, filter_of, states_of as states_read, rows_of as rows_read, filters_of as filters_read, vars_in, var_at}
 use Rattle.so_scene_json.specs.Groups.{with_group, group_number}
 use Rattle.so_scene_json.specs.Known.{known_step, group_fault, group_unfit, kind_at}
 use Rattle.so_scene_json.specs.Scope.{scope_of, names_of, ids_of, state_items, row_items, filter_items}
-use Rattle.so_scene_json.specs.Shape.{shape_step, has_unknown, is_known, list_trouble, number_trouble, object_trouble, first_of, trouble_at, unless_faulty}
+use Rattle.so_scene_json.specs.Shape.{shape_step, has_unknown, is_known, list_trouble, number_trouble, object_trouble, trouble_at, unless_faulty}
 use Rattle.so_scene_json.specs.Twice.{twice_step, disp_number, disp_number_in, names_in}
 use Rattle.so_scene_json.specs.Values.{name_in, number_of, id_in, group_in, ok_or, read_or, checked, text_or_empty}
-use Rattle.so_scene_json.specs.Visits.{Visit, enters, tries, leaves, list_of, listed, narrow, at_key, Place, visits, fields_of, field_visits, items_from, run, at_item, ◌>>=◌}
-use Rattle.so_scene_json.proofs.Runs.{goes_on}
-use Rattle.so_scene_writer.specs.Sources.{acts_in, behind, StateSource, RowSource, states_of, rows_of, states_in, behind_states, start_acts, finish_acts}
+use Rattle.so_scene_json.specs.Visits.{Visit, enters, tries, leaves, list_of, narrow, at_key, Place, visits, fields_of, field_visits, items_from, run, at_item, ◌>>=◌}
+use Rattle.so_scene_writer.specs.Sources.{behind, StateSource, RowSource, states_of, rows_of, behind_states, start_acts, finish_acts}
 use Rattle.so_scene_writer.specs.ActData.{text_data, count_data, acts_data, disp_text, group_at, group_text}
 use Rattle.so_scene_writer.specs.Canonical.{given as given_field, agent_data, state_data, row_data, filter_data, number_data, list_data}
 use Rattle.so_scene_writer.proofs.Writable.{IsWritable, AreNumbered, texts_behind}
 use Rattle.so_scene_writer.proofs.Named.{name_utf8, next_new, next_distinct}
 use Rattle.so_scene_writer.proofs.Shown.{number_again}
-use Rattle.so_scene_writer.proofs.Walks.{ok, object_run, field_run, fields_none, plain_field, plain_found, list_field, list_found, shown_len, shown_listed, map_again, first_fine, every, run_same, items_go, items_done}
-use Rattle.so_scene_writer.proofs.ActLaws.{Stands, Told, at, scope_for, knows_at, is_there, name_read, shown_name, map_len, narrow_small}
+use Rattle.so_scene_writer.proofs.Walks.{ok, object_run, field_run, fields_none, plain_field, plain_found, list_field, list_found, shown_len, map_again, first_fine, every, run_same, items_go, items_done}
+use Rattle.so_scene_writer.proofs.ActLaws.{Stands, Told, at, scope_for, knows_at, is_there, name_read, shown_name, narrow_small}
 use Rattle.so_scene_writer.proofs.DispLaws.{disp_legal, disp_number_again, disp_kind_again}
-use Rattle.so_scene_writer.proofs.Found.{agent_plain, got, got_group}
+use Rattle.so_scene_writer.proofs.Found.{got, got_group}
 use Rattle.so_scene_writer.proofs.BodyLaws.{agent_again}
 use Rattle.so_scene_writer.proofs.ObjectLaws.{IsStateOf, IsRowOf, IsFilterOf, IsId, IsNew, with_id, with_state, with_row, with_filter, acts_shape, acts_known, state_shape, state_twice, state_known, state_read, state_name_read, filter_shape, filter_twice, filter_known, filter_read, filter_id_read, row_shape, row_twice, row_known, row_read, row_id_read}
 use Rattle.so_scene_writer.proofs.Kept.{agent_states, agent_rows, agent_filters, agent_start, agent_finish, states_named, states_stated, rows_ids, rows_rows, states_len, rows_len}

@@ -1,10 +1,9 @@
 -- The bodies of an agent's code, one after the other, are read as they were.
-use Rattle.std.proofs.Common.{◌≡◌, ℕ, ◌+◌, ◌-◌, ◌<◌, ◌≤◌, ◌^◌, suc, zero, List, [], ◌∷◌, ◌++◌, length, take, map, codes, Bool, true, false, ◌==◌, ◌&&◌, nat_lt, Option, Some, None, Ok, refl, sym, ap, slice_get, ◌∙◌, subst, arith, length-append, append_assoc, if◌then◌else◌}
+use Rattle.std.proofs.Common.{◌≡◌, ℕ, ◌+◌, ◌<◌, ◌≤◌, ◌^◌, suc, zero, List, [], ◌∷◌, ◌++◌, length, take, map, codes, Bool, true, false, ◌==◌, ◌&&◌, nat_lt, Option, Some, None, refl, sym, ap, slice_get, ◌∙◌, subst, arith, length-append, append_assoc, if◌then◌else◌}
 use Rattle.std.specs.List.{AllByRecursion}
 use Rattle.std.proofs.lemmas.Bool.{true≢false, eqb-true, ltb-true}
 use Rattle.std.proofs.lemmas.List.{append-nil}
-use Rattle.serde_json.specs.Data.{Data, array, Items}
-use Rattle.serde_json.specs.Events.{items_len}
+use Rattle.serde_json.specs.Data.{Data}
 use Rattle.serde_json.specs.Find.{get}
 use Rattle.serde_json.specs.View.{items_of}
 use Rattle.so_ids.specs.declared.RowId.{RowId}
@@ -31,18 +30,17 @@ use Rattle.so_scene_json.specs.declared.act_table.Allowed.{Allowed}
 use Rattle.so_scene_json.specs.declared.act_table.Allowed.TheVariants.{AnyAct, NoSwitch, Safe}
 use Rattle.so_scene_json.specs.ActTable.{handler_acts}
 use Rattle.so_scene_json.specs.Values.{is_safe}
-use Rattle.so_scene_json.specs.Build.{body_written, start_written, state_written, states_written, row_body, handler_written, rows_written, agent_written}
-use Rattle.so_scene_json.specs.Visits.{narrow}
-use Rattle.so_scene_json.specs.Writer.{with_instr, act_written, acts_written, state_id}
-use Rattle.so_scene_writer.specs.Sources.{acts_in, behind, StateSource, RowSource, state_source, row_source, states_in, behind_states, behind_row, rows_in, states_of, rows_of}
+use Rattle.so_scene_json.specs.Build.{body_written, state_written, states_written, row_body, handler_written, rows_written, agent_written}
+use Rattle.so_scene_json.specs.Writer.{with_instr, act_written, acts_written}
+use Rattle.so_scene_writer.specs.Sources.{acts_in, behind, RowSource, state_source, row_source, states_in, behind_states, behind_row, rows_in}
 use Rattle.so_scene_writer.specs.ActData.{act_data, acts_data}
 use Rattle.so_scene_writer.specs.Canonical.{state_data, row_data, do_data, agent_data}
 use Rattle.so_scene.specs.Written.{are_short, AreSafe, is_marked, is_marked_next, is_safe_row, may_be_safe}
 use Rattle.so_scene_writer.proofs.Found.{agent_plain, got}
-use Rattle.so_scene_writer.proofs.Writable.{IsWrittenInstr, next_text, texts_behind, IsNumbered, AreNumbered}
+use Rattle.so_scene_writer.proofs.Writable.{IsWrittenInstr, next_text, texts_behind, AreNumbered}
 use Rattle.so_scene_writer.proofs.Named.{and_true, each_of}
 use Rattle.so_scene_writer.proofs.Walks.{shown_len}
-use Rattle.so_scene_writer.proofs.ActLaws.{Stands, Told, IsTold, at, scope_for, act_again, narrow_small}
+use Rattle.so_scene_writer.proofs.ActLaws.{Stands, Told, IsTold, at, act_again, narrow_small}
 
 -- ---- a code is its bodies
 

@@ -1,6 +1,6 @@
 -- How deep the data of a scene is.
-use Rattle.std.proofs.Common.{◌≡◌, ℕ, ◌≤◌, suc, zero, max, List, [], ◌∷◌, codes, map, take, Bool, true, false, Option, Some, None, option_map, refl, arith, if◌then◌else◌}
-use Rattle.serde_json.specs.Data.{Data, array, object, string, boolean, Items, Members, no_members, member, depth, items_depth, members_depth}
+use Rattle.std.proofs.Common.{◌≡◌, ℕ, ◌≤◌, suc, max, List, [], ◌∷◌, codes, map, take, Bool, true, false, Option, Some, None, option_map, refl, arith, if◌then◌else◌}
+use Rattle.serde_json.specs.Data.{Data, array, object, string, boolean, Members, no_members, member, depth, items_depth, members_depth}
 use Rattle.serde_json.specs.View.{items_of}
 use Rattle.so_code.specs.declared.instr.Args.{Args}
 use Rattle.so_code.specs.declared.instr.Dest.{Dest}

@@ -1,9 +1,8 @@
 -- Dispatchers that are written pass the reader, and are read as they were.
-use Rattle.std.proofs.Common.{◌≡◌, ℕ, ◌+◌, ◌<◌, ◌≤◌, ◌^◌, suc, zero, List, [], ◌∷◌, ◌++◌, length, get_or, map, drop, replicate, codes, bytes_eq, Bool, true, false, not, ◌||◌, ◌&&◌, ◌==◌, nat_le, nat_lt, Option, Some, None, is_some, Ok, Err, refl, sym, ap, ◌∙◌, subst, arith, append_assoc, if◌then◌else◌}
+use Rattle.std.proofs.Common.{◌≡◌, ℕ, ◌<◌, ◌≤◌, ◌^◌, suc, zero, List, [], ◌∷◌, ◌++◌, length, get_or, map, drop, replicate, codes, bytes_eq, Bool, true, false, ◌==◌, Option, Some, None, is_some, Ok, Err, refl, sym, ap, ◌∙◌, subst, arith, append_assoc, if◌then◌else◌}
 use Rattle.std.specs.Prelude.{unwrap_or}
 use Rattle.std.specs.List.{AllByRecursion, IsDistinct}
-use Rattle.std.specs.Str.{is_utf8}
-use Rattle.std.proofs.lemmas.Bool.{eq-eqb, le-leb, lt-ltb, true≢false}
+use Rattle.std.proofs.lemmas.Bool.{eq-eqb, le-leb, lt-ltb}
 use Rattle.std.proofs.lemmas.List.{append-nil}
 use Rattle.std.proofs.lemmas.List.FromFn.{fill_by_all}
 use Rattle.std.proofs.lemmas.Option.{none-some}
@@ -39,8 +38,8 @@ use Rattle.so_scene_json.specs.Shape.{shape_step, has_unknown, is_known, fixed_t
 use Rattle.so_scene_json.specs.Table.{key_of, rules_of}
 use Rattle.so_scene_json.specs.Twice.{twice_step, declared_name, entering, names_in, with_name}
 use Rattle.so_scene_json.specs.Values.{disp_kind_in, disp_kind_of, fifo_of, name_in, number_of, ok_or, quote_of, trouble}
-use Rattle.so_scene_json.specs.Visits.{Visit, enters, list_of, Place, visits, fields_of, field_visits, items_from, run, at_item}
-use Rattle.so_scene_writer.specs.ActData.{text_data, count_data, disp_text}
+use Rattle.so_scene_json.specs.Visits.{enters, list_of, Place, visits, fields_of, field_visits, items_from, run, at_item}
+use Rattle.so_scene_writer.specs.ActData.{count_data, disp_text}
 use Rattle.so_scene_writer.specs.Canonical.{given, declared, disp_data, disp_kind_word, fifo_word}
 use Rattle.so_scene_writer.proofs.Named.{each_of, name_utf8, next_distinct, next_new, number_at}
 use Rattle.so_scene_writer.proofs.Walks.{ok, object_run, items_go, items_done, shown_len, first_fine}

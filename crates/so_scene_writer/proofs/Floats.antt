@@ -1,6 +1,6 @@
 -- No number of a scene's data is a float.
-use Rattle.std.proofs.Common.{◌≡◌, ℕ, ℤ, pos, negsuc, List, [], ◌∷◌, codes, map, take, Bool, true, false, ◌||◌, Option, Some, None, option_map, refl, ap, ◌∙◌, if◌then◌else◌}
-use Rattle.serde_json.specs.Data.{Data, array, object, string, Items, Members, no_members, member}
+use Rattle.std.proofs.Common.{◌≡◌, ℕ, ℤ, pos, negsuc, List, [], ◌∷◌, codes, map, take, Bool, true, false, Option, Some, None, option_map, refl, ◌∙◌, if◌then◌else◌}
+use Rattle.serde_json.specs.Data.{Data, Members, no_members}
 use Rattle.serde_json.specs.View.{items_of}
 use Rattle.serde_json.specs.Written.{has_float, items_have_float, members_have_float}
 use Rattle.so_ids.specs.declared.StateId.{StateId}
@@ -22,7 +22,7 @@ use Rattle.so_scene.specs.declared.parts.SceneParts.{SceneParts}
 use Rattle.so_scene.specs.Checked.{is_pool, has_quotes}
 use Rattle.so_scene_writer.specs.Sources.{StateSource, RowSource, states_of, rows_of, start_acts, finish_acts}
 use Rattle.so_scene_writer.specs.ActData.{text_data, count_data, state_text, group_text, operand_data, dest_data, args_data, act_data, acts_data}
-use Rattle.so_scene_writer.specs.Canonical.{given, list_data, number_data, message_data, declared, disp_data, state_data, filter_data, row_data, agent_data, coop_data, scene_data, dead_data, do_data, row_state_data, suppress_data, switch_data, transfer_data}
+use Rattle.so_scene_writer.specs.Canonical.{given, number_data, message_data, declared, disp_data, state_data, filter_data, row_data, agent_data, coop_data, scene_data, dead_data, do_data, row_state_data, suppress_data, switch_data, transfer_data}
 
 list_exact : {X : Type 0} (shown : X → Data) (xs : List X) → ((x : X) → has_float (shown x) ≡ false) → items_have_float (items_of (map shown xs)) ≡ false
 list_exact shown [] f = refl

@@ -1,7 +1,7 @@
 -- The groups of each dispatcher get their numbers again.
-use Rattle.std.proofs.Common.{◌≡◌, ℕ, suc, ◌+◌, ◌<◌, ◌≤◌, ◌^◌, ◌==◌, List, [], ◌∷◌, ◌++◌, length, get_or, take, Bool, true, false, cond, nat_lt, Option, Some, None, option_map, is_some, refl, sym, ap, ◌∙◌, subst, arith, bytes_eq, eq-eqb}
+use Rattle.std.proofs.Common.{◌≡◌, ℕ, suc, ◌+◌, ◌<◌, ◌≤◌, ◌==◌, List, [], ◌∷◌, ◌++◌, length, get_or, take, Bool, true, false, cond, nat_lt, Option, Some, None, option_map, is_some, refl, sym, ap, ◌∙◌, subst, arith, bytes_eq, eq-eqb}
 use Rattle.std.specs.Prelude.{unwrap_or}
-use Rattle.std.specs.List.{IsDistinct, cons_option, filter, filter_map}
+use Rattle.std.specs.List.{IsDistinct, cons_option}
 use Rattle.std.proofs.lemmas.Bool.{ltb-true, eqb-true}
 use Rattle.std.proofs.lemmas.List.{take_all}
 use Rattle.std.proofs.lemmas.Option.{none-some}
@@ -11,12 +11,12 @@ use Rattle.so_lists.proofs.EachBelow.{each_below-elements, each_below-same}
 use Rattle.so_scene.specs.declared.parts.AgentDef.{AgentDef}
 use Rattle.so_scene.specs.declared.parts.SceneParts.{SceneParts}
 use Rattle.so_scene.specs.Checked.{IsScene}
-use Rattle.so_scene.specs.Names.{number_in, has_name}
+use Rattle.so_scene.specs.Names.{number_in}
 use Rattle.so_scene.specs.Parts.{groups_of}
 use Rattle.so_scene.proofs.LaneLaws.{few_groups}
 use Rattle.so_scene_json.specs.declared.groups.Group.{Group}
 use Rattle.so_scene_json.specs.Groups.{names_for, names_at, group_lists, with_group, number_for, group_number}
-use Rattle.so_scene_json.specs.Kept.{agent_group, is_on, uses_on}
+use Rattle.so_scene_json.specs.Kept.{uses_on}
 use Rattle.so_scene_json.specs.Visits.{narrow}
 use Rattle.so_scene_json.specs.Writer.{number_or_next}
 use Rattle.so_scene_json.proofs.Grouped.{names_start, other_same, same_disp, same_with_old, more_with_new}

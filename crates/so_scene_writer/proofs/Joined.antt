@@ -1,12 +1,11 @@
 -- Objects whose optional fields come one after the other.
-use Rattle.std.proofs.Common.{◌≡◌, ℕ, ℤ, List, [], ◌∷◌, codes, map, Bool, true, false, Option, Some, None, option_map, Result, Ok, Err, refl, sym, ap, ◌∙◌, if◌then◌else◌}
+use Rattle.std.proofs.Common.{◌≡◌, ℕ, List, codes, Bool, true, false, Option, Some, None, option_map, Result, Ok, Err, refl, sym, ap, ◌∙◌, if◌then◌else◌}
 use Rattle.std.specs.Prelude.{IfOk}
 use Rattle.serde_json.specs.Data.{Data, member, no_members, object, string}
 use Rattle.so_ids.specs.declared.MboxId.{MboxId}
 use Rattle.so_ids.specs.declared.MsgId.{MsgId}
 use Rattle.so_ids.specs.declared.StateId.{StateId}
 use Rattle.so_code.specs.declared.instr.Instr.{Instr}
-use Rattle.so_state.specs.declared.choice.Row.{Row}
 use Rattle.so_state.specs.declared.choice.RowKind.{RowKind}
 use Rattle.so_state.specs.declared.choice.RowKind.TheVariants.{Run, Switch, Transfer, Suppress, Dead}
 use Rattle.so_state.specs.declared.states.State.{State}
@@ -17,7 +16,7 @@ use Rattle.so_scene.specs.declared.parts.FilterDef.{FilterDef}
 use Rattle.so_scene.specs.declared.parts.SceneParts.{SceneParts}
 use Rattle.so_scene.specs.Checked.{is_pool, has_quotes}
 use Rattle.so_scene.specs.Parts.{mbox_name}
-use Rattle.so_scene_writer.specs.Sources.{acts_in, behind, RowSource, row_source, state_source}
+use Rattle.so_scene_writer.specs.Sources.{acts_in, behind, RowSource, state_source}
 use Rattle.so_scene_writer.specs.ActData.{text_data, count_data, disp_text, group_text, state_text, message_text, acts_data}
 use Rattle.so_scene_writer.specs.Canonical.{agent_data, disp_data, disp_kind_word, fifo_word, given, list_data, of_pool, of_quoted, state_data, filter_data, row_data, dead_data, do_data, row_state_data, suppress_data, switch_data, transfer_data}
 use Rattle.so_scene_writer.specs.Fields.{with_field, agent_base, disp_base, state_base, filter_base, row_base}

@@ -1,6 +1,6 @@
 -- What an agent's states, filters and rows keep.
-use Rattle.std.proofs.Common.{◌≡◌, ℕ, ◌+◌, ◌<◌, ◌≤◌, ◌^◌, suc, zero, List, [], ◌∷◌, ◌++◌, length, get_or, map, bytes_eq, Bool, true, false, if◌then◌else◌, Option, Some, None, refl, sym, ap, ◌∙◌, subst, arith, slice_get}
-use Rattle.std.specs.List.{All, AllByRecursion}
+use Rattle.std.proofs.Common.{◌≡◌, ℕ, ◌+◌, ◌<◌, ◌≤◌, suc, zero, List, [], ◌∷◌, ◌++◌, length, get_or, map, true, if◌then◌else◌, Option, Some, None, refl, sym, ap, ◌∙◌, subst, arith, slice_get}
+use Rattle.std.specs.List.{AllByRecursion}
 use Rattle.std.proofs.lemmas.Bool.{true≢false}
 use Rattle.so_ids.specs.declared.RowId.{RowId}
 use Rattle.so_ids.specs.declared.StateId.{StateId}
@@ -18,10 +18,10 @@ use Rattle.so_state.proofs.TreeFacts.{parent_declared}
 use Rattle.so_scene.specs.declared.parts.AgentDef.{AgentDef}
 use Rattle.so_scene.specs.declared.parts.FilterDef.{FilterDef}
 use Rattle.so_scene.specs.declared.parts.SceneParts.{SceneParts}
-use Rattle.so_scene.specs.Checked.{has_handler, handlers, handlers_from, row_number, given, filter_id, filter_ids, IsFilter, IsRow, HasNoLimit}
+use Rattle.so_scene.specs.Checked.{has_handler, handlers, handlers_from, row_number, given, filter_id, IsFilter, IsRow, HasNoLimit}
 use Rattle.so_scene_json.specs.declared.act_table.Allowed.{Allowed}
 use Rattle.so_scene_json.specs.declared.act_table.Allowed.TheVariants.{AnyAct}
-use Rattle.so_scene_writer.specs.Sources.{acts_in, behind, StateSource, RowSource, state_source, row_source, states_in, behind_states, behind_row, rows_in, states_of, rows_of}
+use Rattle.so_scene_writer.specs.Sources.{acts_in, behind, states_in, behind_states, behind_row, rows_in, states_of, rows_of}
 use Rattle.so_scene.specs.Written.{HasParent}
 use Rattle.so_scene_writer.proofs.Writable.{IsName, IsStateName, FitsValue}
 use Rattle.so_scene_writer.proofs.Named.{each_of}

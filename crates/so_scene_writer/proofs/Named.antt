@@ -1,6 +1,6 @@
 -- Names and texts: what is legal is UTF-8, and each has its number.
-use Rattle.std.proofs.Common.{◌≡◌, ℕ, ◌+◌, ◌<◌, ◌≤◌, suc, zero, List, [], ◌∷◌, ◌++◌, length, get_or, take, map, Bool, true, false, cond, ◌&&◌, ◌||◌, nat_le, ◌==◌, not, Option, Some, None, is_some, refl, sym, ap, ◌∙◌, subst, append_assoc, arith, bytes_eq, if◌then◌else◌}
-use Rattle.std.specs.List.{All, AllByRecursion, IsDistinct, position, position_from, list_all}
+use Rattle.std.proofs.Common.{◌≡◌, ℕ, ◌+◌, ◌<◌, ◌≤◌, suc, zero, List, [], ◌∷◌, ◌++◌, length, get_or, take, Bool, true, false, ◌&&◌, ◌||◌, nat_le, not, Option, Some, None, is_some, refl, sym, ap, ◌∙◌, subst, append_assoc, arith, bytes_eq, if◌then◌else◌}
+use Rattle.std.specs.List.{All, AllByRecursion, IsDistinct, position_from, list_all}
 use Rattle.std.specs.Str.{is_utf8, IsUtf8}
 use Rattle.std.proofs.lemmas.Bool.{leb-true, eqb-true, true≢false}
 use Rattle.std.proofs.lemmas.Str.{IsUtf8-from_ascii, is_utf8-from_IsUtf8, IsUtf8-from_is_utf8}
@@ -10,7 +10,7 @@ use Rattle.std.proofs.lemmas.Slice.Eq.{bytes_eq-Decides}
 use Rattle.std.proofs.lemmas.List.{take_all}
 use Rattle.so_lists.specs.Lists.{is_empty}
 use Rattle.so_scene.specs.Words.{is_name, is_text, is_between, is_name_byte, is_text_byte}
-use Rattle.so_scene.specs.Names.{number_in, has_name}
+use Rattle.so_scene.specs.Names.{number_in}
 use Rattle.so_scene_json.specs.Scope.{is_id, number_with}
 use Rattle.so_scene_json.specs.Values.{text_or_empty}
 use Rattle.so_scene.specs.Checked.{given}

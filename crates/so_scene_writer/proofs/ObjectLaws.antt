@@ -1,18 +1,16 @@
 -- Messages, states, filters and rows that are written pass the reader, and are read as they were.
-use Rattle.std.proofs.Common.{◌≡◌, ℕ, ◌+◌, ◌-◌, ◌<◌, ◌≤◌, ◌^◌, suc, zero, ℤ, List, [], ◌∷◌, ◌++◌, length, get_or, map, codes, bytes_eq, Bool, true, false, not, ◌||◌, ◌&&◌, ◌==◌, nat_le, nat_lt, Option, Some, None, option_map, is_some, Ok, refl, sym, ap, ◌∙◌, subst, arith}
-use Rattle.std.specs.List.{AllByRecursion, IsDistinct}
+use Rattle.std.proofs.Common.{◌≡◌, ℕ, ◌-◌, ◌<◌, ◌≤◌, ◌^◌, suc, zero, ℤ, List, [], ◌∷◌, ◌++◌, length, get_or, map, codes, bytes_eq, Bool, true, false, ◌&&◌, Option, Some, None, option_map, is_some, Ok, refl, sym, ap, ◌∙◌, subst, arith}
+use Rattle.std.specs.List.{IsDistinct}
 use Rattle.std.specs.Str.{is_utf8}
 use Rattle.std.proofs.lemmas.Bool.{true≢false, le-leb, lt-ltb}
-use Rattle.serde_json.specs.Data.{Data, boolean, string, array, object, item, no_items, Items, no_members, member}
-use Rattle.serde_json.specs.Events.{items_len}
-use Rattle.serde_json.specs.Find.{as_str, as_array, get}
+use Rattle.serde_json.specs.Data.{Data, boolean, string, array, object, Items, no_members, member}
+use Rattle.serde_json.specs.Find.{as_array}
 use Rattle.serde_json.specs.View.{items_of}
 use Rattle.so_ids.specs.declared.MboxId.{MboxId}
 use Rattle.so_ids.specs.declared.MsgId.{MsgId}
 use Rattle.so_ids.specs.declared.StateId.{StateId}
 use Rattle.so_code.specs.declared.instr.Cmp.{Cmp}
 use Rattle.so_code.specs.declared.instr.Instr.{Instr}
-use Rattle.so_state.specs.declared.choice.Row.{Row}
 use Rattle.so_state.specs.declared.choice.RowKind.{RowKind}
 use Rattle.so_state.specs.declared.choice.RowKind.TheVariants.{Run, Switch, Transfer, Suppress, Dead}
 use Rattle.so_state.specs.declared.states.History.{History}
@@ -23,15 +21,14 @@ use Rattle.so_scene.specs.declared.parts.AgentDef.{AgentDef}
 use Rattle.so_scene.specs.declared.parts.FilterDef.{FilterDef}
 use Rattle.so_scene.specs.declared.parts.MessageDef.{MessageDef}
 use Rattle.so_scene.specs.declared.parts.SceneParts.{SceneParts}
-use Rattle.so_scene.specs.declared.fault.SceneFault.{SceneFault}
 use Rattle.so_scene.specs.declared.place.PlaceStep.TheVariants.{Key}
 use Rattle.so_scene.specs.declared.place.Field.TheVariants as field
 use Rattle.so_scene.specs.Checked.{has_handler, IsKind, IsScene, IsFilter, IsRow as IsSceneRow}
 use Rattle.so_scene.specs.Names.{number_in}
-use Rattle.so_scene.specs.Parts.{message_name, mbox_name, mboxes}
+use Rattle.so_scene.specs.Parts.{mbox_name, mboxes}
 use Rattle.so_scene.specs.Words.{is_name}
 use Rattle.so_scene_json.specs.declared.act_table.Allowed.{Allowed}
-use Rattle.so_scene_json.specs.declared.act_table.Allowed.TheVariants.{AnyAct, NoSwitch, Safe}
+use Rattle.so_scene_json.specs.declared.act_table.Allowed.TheVariants.{NoSwitch}
 use Rattle.so_scene_json.specs.declared.build.Build.{Build}
 use Rattle.so_scene_json.specs.declared.declare.Declared.{Declared}
 use Rattle.so_scene_json.specs.declared.known.Known.{Known}
@@ -46,17 +43,17 @@ use Rattle.so_scene_json.specs.Known.{known_step, act_unknown, absent_from}
 use Rattle.so_scene_json.specs.Scope.{all_states}
 use Rattle.so_scene_json.specs.Shape.{shape_step, has_unknown, is_known, acts_fault, acts_from}
 use Rattle.so_scene_json.specs.Twice.{twice_step, names_in}
-use Rattle.so_scene_json.specs.Values.{name_of, number_of, history_of, id_in, name_in}
-use Rattle.so_scene_json.specs.Visits.{Visit, Place, visits, fields_of, field_visits, items_from, run, narrow, at_item}
+use Rattle.so_scene_json.specs.Values.{number_of, history_of, id_in, name_in}
+use Rattle.so_scene_json.specs.Visits.{Place, visits, fields_of, field_visits, run, narrow}
 use Rattle.so_scene_writer.specs.Sources.{StateSource, RowSource}
 use Rattle.so_scene_writer.specs.ActData.{text_data, message_text, state_text, act_data, acts_data, cmp_data, count_data}
 use Rattle.so_scene_writer.specs.Canonical.{message_data, state_data, filter_data, row_data, given, number_data, history_word}
-use Rattle.so_scene_writer.proofs.Writable.{IsName, IsStateName, IsWritable, IsWritableAgent}
-use Rattle.so_scene_writer.proofs.Named.{name_utf8, swap, number_at}
-use Rattle.so_scene_writer.proofs.Shown.{number_again, cmp_again, count_again}
+use Rattle.so_scene_writer.proofs.Writable.{IsStateName, IsWritable}
+use Rattle.so_scene_writer.proofs.Named.{name_utf8, number_at}
+use Rattle.so_scene_writer.proofs.Shown.{number_again, cmp_again}
 use Rattle.so_scene_writer.proofs.Walks.{ok, AllFine, acts_fine, shown_len}
 use Rattle.so_code.specs.Values.{fits}
-use Rattle.so_scene_writer.proofs.ActLaws.{narrow_small, Stands, Told, IsTold, scope_for, knows_at, is_there, act_fine, act_known, name_read, shown_name, message_legal, message_number, mbox_legal, mbox_number, state_legal, state_number_again}
+use Rattle.so_scene_writer.proofs.ActLaws.{narrow_small, Stands, Told, scope_for, knows_at, is_there, act_fine, act_known, shown_name, message_legal, message_number, mbox_legal, mbox_number, state_legal, state_number_again}
 use Rattle.so_scene_writer.proofs.BodyLaws.{AreTold, handler_of}
 
 -- ---- messages

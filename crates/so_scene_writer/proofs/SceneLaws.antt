@@ -1,15 +1,13 @@
 -- A scene that is written is read again.
-use Rattle.std.proofs.Common.{◌≡◌, ℕ, ◌+◌, ◌<◌, ◌≤◌, ◌^◌, suc, zero, pos, List, [], ◌∷◌, ◌++◌, length, get_or, take, map, min, codes, bytes_eq, Bool, true, false, ◌||◌, ◌==◌, nat_lt, Option, Some, None, is_some, Result, Ok, refl, sym, ap, ◌∙◌, subst, arith, append_assoc, if◌then◌else◌}
-use Rattle.std.specs.List.{All, AllByRecursion, IsDistinct}
-use Rattle.std.proofs.lemmas.Bool.{le-leb, le-ltb, eqb-true}
+use Rattle.std.proofs.Common.{◌≡◌, ℕ, ◌<◌, ◌≤◌, suc, List, [], ◌∷◌, ◌++◌, length, take, map, codes, bytes_eq, Bool, true, false, ◌==◌, Some, None, Result, Ok, refl, sym, ap, ◌∙◌, arith, append_assoc}
+use Rattle.std.specs.List.{AllByRecursion, IsDistinct}
+use Rattle.std.proofs.lemmas.Bool.{le-ltb}
 use Rattle.std.proofs.lemmas.List.{append-nil, take_all}
-use Rattle.serde_json.specs.Data.{Data, string, array, object, Items, no_members, member}
-use Rattle.serde_json.specs.Find.{get}
+use Rattle.serde_json.specs.Data.{Data, array, object, Items, no_members, member}
 use Rattle.serde_json.specs.View.{items_of}
-use Rattle.so_ids.specs.declared.DefFault.{DefFault}
 use Rattle.so_code.specs.declared.instr.Instr.{Instr}
 use Rattle.so_code.specs.declared.instr.Instr.TheVariants as instr
-use Rattle.so_lists.specs.Lists.{is_empty, first_below}
+use Rattle.so_lists.specs.Lists.{is_empty}
 use Rattle.so_lists.proofs.First.{first_below-none}
 use Rattle.so_lists.proofs.Filters.{each-append, each-weaker}
 use Rattle.so_scene.specs.declared.fault.SceneFault.{SceneFault}
@@ -24,8 +22,8 @@ use Rattle.so_scene.specs.declared.place.Field.{Field}
 use Rattle.so_scene.specs.declared.place.Field.TheVariants as field
 use Rattle.so_scene.specs.Checked.{IsScene, IsAgent, IsCoop, IsDisp, NamesParts}
 use Rattle.so_scene.specs.Lanes.{agent_number, lanes}
-use Rattle.so_scene.specs.Names.{number_in, has_name}
-use Rattle.so_scene.specs.Parts.{message_name, agent_name, disp_name, default_disp, mbox_names}
+use Rattle.so_scene.specs.Names.{number_in}
+use Rattle.so_scene.specs.Parts.{message_name, agent_name, disp_name, default_disp}
 use Rattle.so_scene.specs.Words.{is_name}
 use Rattle.so_scene_json.specs.declared.build.Build.{Build}
 use Rattle.so_scene_json.specs.declared.declare.Declared.{Declared}
@@ -42,18 +40,17 @@ use Rattle.so_scene_json.specs.Table.{required, optional, later}
 use Rattle.so_scene_json.specs.Build.{build_step, no_parts}
 use Rattle.so_scene_json.specs.Kept.{disp_kind}
 use Rattle.so_scene_json.specs.Known.{known_step, knows}
-use Rattle.so_scene_json.specs.Scene.{fields, passes, of_data, finished, checked, exceeds, admitted, is_refused, first_fault, fault_of, parts_of, coops_of, no_state}
+use Rattle.so_scene_json.specs.Scene.{fields, passes, of_data, finished, checked, exceeds, admitted, first_fault, fault_of, parts_of, no_state}
 use Rattle.so_scene_json.specs.Scope.{no_scope}
-use Rattle.so_scene_json.specs.Shape.{shape_step, has_unknown, is_known, name_trouble, object_trouble, list_trouble, first_of}
+use Rattle.so_scene_json.specs.Shape.{shape_step, has_unknown, is_known, name_trouble, object_trouble, first_of}
 use Rattle.so_scene_json.specs.Twice.{twice_step, no_names, with_mbox, with_mbox_read, with_mboxes}
-use Rattle.so_scene_json.specs.Values.{name_in}
 use Rattle.so_scene_json.specs.Visits.{Visit, enters, tries, leaves, at_key, Place, visits, items_from, run, at_item, narrow}
 use Rattle.so_scene_writer.specs.ActData.{text_data, count_data}
 use Rattle.so_scene_writer.specs.Canonical.{scene_data, declared, disp_data, coop_data, agent_data, message_data, list_data}
-use Rattle.so_scene_writer.proofs.Writable.{writable, IsName, IsWritable, IsWritableAgent, AreNumbered, AreNumberedIn, texts_behind, texts_of_agents, next_text}
+use Rattle.so_scene_writer.proofs.Writable.{writable, IsName, IsWritable, IsWritableAgent, AreNumberedIn, texts_behind, texts_of_agents, next_text}
 use Rattle.so_scene_writer.proofs.Named.{absent, each_back, each_of, front_new, name_utf8, next_distinct, next_new}
-use Rattle.so_scene_writer.proofs.Walks.{ok, object_run, field_run, fields_none, plain_field, list_field, shown_len, first_fine, every, run_same, items_go, items_done}
-use Rattle.so_scene_writer.proofs.ActLaws.{Stands, Told, knows_at, name_read, narrow_small, map_len, message_signal}
+use Rattle.so_scene_writer.proofs.Walks.{ok, object_run, field_run, fields_none, plain_field, list_field, first_fine, every, run_same, items_go, items_done}
+use Rattle.so_scene_writer.proofs.ActLaws.{Stands, Told, knows_at, name_read, narrow_small}
 use Rattle.so_scene_writer.proofs.BodyLaws.{next_log}
 use Rattle.so_scene_writer.proofs.ObjectLaws.{with_message, message_shape, message_twice, message_known, message_build, build_message}
 use Rattle.so_scene_writer.proofs.AgentLaws.{list_fine, with_agent_names, agent_shape, agent_twice, agent_known, agent_build, built, regrouped, all_unit, Tries, Passes}

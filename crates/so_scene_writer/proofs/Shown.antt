@@ -1,10 +1,9 @@
 -- Parts of acts that are written are read again.
-use Rattle.std.proofs.Common.{◌≡◌, ℕ, ◌+◌, ◌-◌, ◌<◌, ◌≤◌, ◌^◌, suc, zero, ℤ, pos, negsuc, List, [], ◌∷◌, length, get_or, take, map, min, Bool, true, false, nat_lt, nat_le, Option, Some, None, Ok, refl, sym, ap, ◌∙◌, arith, slice_get}
+use Rattle.std.proofs.Common.{◌≡◌, ℕ, ◌<◌, ◌≤◌, ◌^◌, suc, zero, ℤ, pos, negsuc, List, [], ◌∷◌, length, get_or, take, map, true, Some, Ok, refl, sym, ap, arith, slice_get}
 use Rattle.std.specs.List.{AllByRecursion}
 use Rattle.std.proofs.lemmas.Bool.{le-leb, lt-ltb, true≢false, eqb-true}
-use Rattle.serde_json.specs.Data.{Data, number, string, item, Items}
+use Rattle.serde_json.specs.Data.{Data, item, Items}
 use Rattle.serde_json.specs.Events.{items_len}
-use Rattle.serde_json.specs.Find.{of_integer, get_item}
 use Rattle.serde_json.specs.View.{items_of}
 use Rattle.so_code.specs.declared.instr.Args.{Args}
 use Rattle.so_code.specs.declared.instr.Cmp.{Cmp}
@@ -15,7 +14,7 @@ use Rattle.so_code.specs.declared.instr.Operand.{Operand}
 use Rattle.so_code.specs.declared.instr.Operand.TheVariants as operand
 use Rattle.so_code.specs.Values.{fits}
 use Rattle.so_code.specs.Valid.{IsOperand, IsDest, AreArgs}
-use Rattle.so_scene_json.specs.Values.{integer_of, operand_of, dest_of, cmp_of, count_of, numbered, read_or, ok_or}
+use Rattle.so_scene_json.specs.Values.{integer_of, operand_of, dest_of, cmp_of, count_of, numbered, ok_or}
 use Rattle.so_scene_json.specs.Writer.{args_from, operand_at}
 use Rattle.so_scene_writer.specs.ActData.{operand_data, dest_data, cmp_data, count_data, args_data}
 use Rattle.so_scene_writer.specs.Canonical.{number_data}

@@ -1,14 +1,11 @@
 -- Acts as data: a list of a word and what stands behind it, with names in place of numbers.
-use Rattle.std.specs.Prelude.{ℕ, pos, List, [], ◌∷◌, map, take, codes, slice_index_or, ◌==◌, Bool, Option, None, option_map, if◌then◌else◌}
+use Rattle.std.specs.Prelude.{ℕ, pos, List, [], ◌∷◌, map, take, codes, slice_index_or, ◌==◌, Option, None, option_map, if◌then◌else◌}
 use Rattle.std.specs.Str.{is_utf8}
 use Rattle.serde_json.specs.Data.{Data, number, string, array, Items, no_items, item}
 use Rattle.serde_json.specs.Find.{of_integer}
 use Rattle.serde_json.specs.View.{items_of}
 use Rattle.so_ids.specs.declared.DispId.{DispId}
-use Rattle.so_ids.specs.declared.FilterId.{FilterId}
-use Rattle.so_ids.specs.declared.MboxId.{MboxId}
 use Rattle.so_ids.specs.declared.MsgId.{MsgId}
-use Rattle.so_ids.specs.declared.RowId.{RowId}
 use Rattle.so_ids.specs.declared.StateId.{StateId}
 use Rattle.so_ids.specs.declared.Target.{Target}
 use Rattle.so_ids.specs.declared.Target.TheVariants.{Mbox, Chain}

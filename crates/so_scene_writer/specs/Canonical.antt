@@ -1,6 +1,6 @@
 -- A scene as data: each field of the table that is built, its keys in order, an optional one without a value left out.
-use Rattle.std.specs.Prelude.{ℕ, ℤ, pos, List, [], ◌∷◌, map, drop, codes, Bool, true, false, Option, Some, None, option_map, if◌then◌else◌}
-use Rattle.serde_json.specs.Data.{Data, boolean, number, string, array, object, Items, Members, no_members, member}
+use Rattle.std.specs.Prelude.{ℕ, ℤ, List, map, drop, codes, Bool, true, false, Option, Some, None, option_map, if◌then◌else◌}
+use Rattle.serde_json.specs.Data.{Data, boolean, number, string, array, object, Members, no_members, member}
 use Rattle.serde_json.specs.Find.{of_integer}
 use Rattle.serde_json.specs.View.{items_of}
 use Rattle.so_ids.specs.declared.StateId.{StateId}

@@ -1,6 +1,6 @@
 -- Fields that an object gets where they have a value.
 use Rattle.std.specs.Prelude.{ℕ, ℤ, List, codes, Bool, Option, Some, None}
-use Rattle.serde_json.specs.Data.{Data, null, boolean, number, string, array, object, Items, Members, no_members, member, put}
+use Rattle.serde_json.specs.Data.{Data, null, boolean, number, string, array, object, no_members, member, put}
 use Rattle.so_code.specs.declared.instr.Cmp.{Cmp}
 use Rattle.so_state.specs.declared.states.History.{History}
 use Rattle.so_scene.specs.declared.parts.DispKind.{DispKind}

@@ -1,5 +1,5 @@
 -- The bodies of an agent's code, each with the state or the row that it belongs to.
-use Rattle.std.specs.Prelude.{ℕ, zero, suc, ◌+◌, ◌*◌, List, [], ◌∷◌, length, Option, if◌then◌else◌}
+use Rattle.std.specs.Prelude.{ℕ, zero, suc, List, [], ◌∷◌, length, Option, if◌then◌else◌}
 use Rattle.so_code.specs.declared.instr.Instr.{Instr}
 use Rattle.so_code.specs.Bodies.{is_end}
 use Rattle.so_state.specs.declared.choice.Row.{Row}

@@ -1,9 +1,8 @@
-use Rattle.std.proofs.Common.{ap, refl, [], ◌∙◌}
-use Rattle.serde_json.specs.Data.{array, string}
+use Rattle.std.proofs.Common.{ap, [], ◌∙◌}
+use Rattle.serde_json.specs.Data.{array}
 use Rattle.serde_json.specs.View.{items_of}
 use Rattle.serde_json.proofs.Views.{view-Array}
 use Rattle.so_scene_writer.specs.Canonical.{coop_data}
-use Rattle.so_scene_writer.specs.ActData.{shown}
 use Rattle.so_scene_writer.proofs.Listed.{shown_more, shown_all}
 use Rattle.so_scene_writer.proofs.agents.coops_value.Goals as goal
 

@@ -1,4 +1,4 @@
-use Rattle.std.proofs.Common.{sym, ap, ◌∙◌}
+use Rattle.std.proofs.Common.{sym, ◌∙◌}
 use Rattle.so_scene_writer.proofs.Named.{shown_same, shown_none}
 use Rattle.so_scene_writer.proofs.words.text.Goals as goal
 
