@@ -1,5 +1,5 @@
 -- An act that is written passes the reader, and is read as the instruction that it was.
-use Rattle.std.proofs.Common.{◌≡◌, ℕ, ◌<◌, ◌≤◌, ◌^◌, suc, zero, List, [], ◌∷◌, ◌++◌, length, get_or, take, map, codes, bytes_eq, Bool, true, false, ◌==◌, Option, Some, None, option_map, Ok, refl, sym, ap, ◌∙◌, subst, arith, length-append, replicate, if◌then◌else◌}
+use Rattle.std.proofs.Common.{◌≡◌, ℕ, ◌<◌, ◌≤◌, ◌^◌, suc, zero, List, [], ◌∷◌, ◌++◌, length, get_or, take, map, codes, bytes_eq, Bool, true, false, ◌==◌, Option, Some, None, option_map, Result, Ok, refl, sym, ap, ◌∙◌, subst, arith, length-append, replicate, if◌then◌else◌}
 use Rattle.std.specs.List.{AllByRecursion, IsDistinct}
 use Rattle.std.proofs.lemmas.Bool.{le-leb, true≢false, eqb-true, eq-eqb}
 use Rattle.std.specs.Str.{is_utf8}
@@ -12,13 +12,13 @@ use Rattle.so_ids.specs.declared.StateId.{StateId}
 use Rattle.so_ids.specs.declared.TextId.{TextId}
 use Rattle.so_ids.specs.declared.Target.TheVariants.{Mbox, Chain}
 use Rattle.so_code.specs.declared.instr.Args.{Args}
-use Rattle.so_code.specs.declared.instr.Body.{Body}
-use Rattle.so_code.specs.declared.instr.Body.TheVariants as body
+use Rattle.so_code.specs.declared.instr.Dest.{Dest}
+use Rattle.so_code.specs.declared.instr.Dest.TheVariants as dest
 use Rattle.so_code.specs.declared.instr.Instr.{Instr}
 use Rattle.so_code.specs.declared.instr.Instr.TheVariants as instr
 use Rattle.so_code.specs.declared.instr.Operand.{Operand}
-use Rattle.so_code.specs.Valid.{AreArgs, IsOperand}
-use Rattle.so_code.specs.Shape.{IsActBefore, may_switch}
+use Rattle.so_code.specs.Valid.{AreArgs, IsDest, IsOperand}
+use Rattle.so_code.specs.Shape.{IsActBefore}
 use Rattle.so_lists.proofs.Filters.{each-append, each-weaker}
 use Rattle.so_scene.specs.declared.parts.AgentDef.{AgentDef}
 use Rattle.so_scene.specs.declared.parts.MessageDef.{MessageDef}
@@ -29,7 +29,7 @@ use Rattle.so_scene.specs.declared.parts.DispKind.TheVariants.{OneThread}
 use Rattle.so_scene.specs.Parts.{message_of, message_name, agent_name, disp_name, mbox_names, mboxes, mbox_name, no_message, text_of}
 use Rattle.so_scene.specs.Words.{is_name, is_text}
 use Rattle.so_scene_json.specs.declared.act_table.Allowed.{Allowed}
-use Rattle.so_scene_json.specs.declared.act_table.Allowed.TheVariants.{AnyAct, NoSwitch}
+use Rattle.so_scene_json.specs.declared.act_table.Allowed.TheVariants.{AnyAct, NoSwitch, Safe}
 use Rattle.so_scene_json.specs.declared.act_table.Arg.{Arg}
 use Rattle.so_scene_json.specs.declared.act_table.Arg.TheVariants as arg
 use Rattle.so_scene_json.specs.declared.act_table.Word.{Word}
@@ -38,19 +38,20 @@ use Rattle.so_scene_json.specs.declared.declare.Declared.{Declared}
 use Rattle.so_scene_json.specs.declared.known.Known.{Known}
 use Rattle.so_scene_json.specs.declared.scope.Scope.{Scope}
 use Rattle.so_scene_json.specs.declared.table.Space.TheVariants as space
+use Rattle.so_scene_json.specs.declared.values.Trouble.{Trouble}
 use Rattle.so_scene_json.specs.declared.write.Writer.{Writer}
-use Rattle.so_scene_json.specs.ActTable.{is_allowed, args_of, needed_of, four_operands}
+use Rattle.so_scene_json.specs.ActTable.{is_allowed, is_safe_act, is_to_temporary, args_of, needed_of, four_operands}
 use Rattle.so_scene_json.specs.Acts.{act_trouble, args_trouble, parts_trouble}
-use Rattle.so_scene_json.specs.Build.{allowed_in}
 use Rattle.so_scene_json.specs.Kept.{disp_kind}
 use Rattle.so_scene_json.specs.Known.{act_unknown, absent_from, has_signal, signal_trouble}
 use Rattle.so_scene_json.specs.Scope.{state_number, number_with}
 use Rattle.so_scene_json.specs.Twice.{names_in}
-use Rattle.so_scene_json.specs.Values.{name_of, text_of as text_read}
+use Rattle.so_scene_json.specs.Values.{name_of, ok_or, text_of as text_read}
 use Rattle.so_scene_json.specs.Visits.{narrow}
+use Rattle.so_scene_json.proofs.Codes.{switches, restrains}
 use Rattle.so_scene_json.specs.Writer.{act_written, with_instr, or_idle, state_id}
-use Rattle.so_scene_writer.specs.ActData.{text_data, message_text, state_text, id_text, act_data, act_of, act_one, args_data, operand_data}
-use Rattle.so_scene.specs.Written.{AreOperands, ArePadded}
+use Rattle.so_scene_writer.specs.ActData.{text_data, message_text, state_text, id_text, act_data, act_of, act_one, args_data, operand_data, dest_data, cmp_data, count_data}
+use Rattle.so_scene.specs.Written.{AreOperands, ArePadded, may_be_safe, to_temporary}
 use Rattle.so_scene_writer.proofs.Writable.{IsName, IsText, IsStateName, IsWritable, IsWritableAgent, IsWrittenInstr, next_text, IsNumbered}
 use Rattle.so_scene_writer.proofs.Named.{each_at, name_utf8, text_utf8, swap, number_at, number_take, new_take, id_number, id_legal, within}
 use Rattle.so_scene_writer.proofs.Shown.{operand_again, dest_again, cmp_again, count_again, args_len, args_one, args_two, operands_of}
@@ -61,41 +62,24 @@ abbrev is_switch_word : Word → Bool
 is_switch_word word.Switch = true
 is_switch_word other = false
 
-may_at : (allowed : Allowed) (w : Word) → is_switch_word w ≡ false → is_allowed allowed w ≡ true
-may_at AnyAct w e = refl
-may_at NoSwitch word.Switch e = absurd (true≢false e)
-may_at NoSwitch word.Set e = refl
-may_at NoSwitch word.Add e = refl
-may_at NoSwitch word.Sub e = refl
-may_at NoSwitch word.Mul e = refl
-may_at NoSwitch word.If e = refl
-may_at NoSwitch word.Skip e = refl
-may_at NoSwitch word.Throw e = refl
-may_at NoSwitch word.Log e = refl
-may_at NoSwitch word.Send e = refl
-may_at NoSwitch word.Delayed e = refl
-may_at NoSwitch word.Timer e = refl
-may_at NoSwitch word.Cancel e = refl
-may_at NoSwitch word.Subscribe e = refl
-may_at NoSwitch word.Unsubscribe e = refl
-may_at NoSwitch word.SetFilter e = refl
-may_at NoSwitch word.DropFilter e = refl
-may_at NoSwitch word.Register e = refl
-may_at NoSwitch word.Deregister e = refl
-may_at NoSwitch word.Stop e = refl
-may_at NoSwitch word.Close e = refl
-may_at NoSwitch word.Receive e = refl
+may_unless : (w : Word) (ds : Items) → is_switch_word w ≡ false → is_allowed NoSwitch w ds ≡ true
+may_unless word.Switch ds e = absurd (true≢false e)
+may_unless other ds e = refl
 
-may : (b : Body) (w : Word) → is_switch_word w ≡ false → is_allowed (allowed_in b) w ≡ true
-may b w e = may_at (allowed_in b) w e
+-- an act that makes no switch, and is safe where it must be
+may : (allowed : Allowed) (w : Word) (ds : Items) → is_switch_word w ≡ false → (restrains allowed ≡ true → is_safe_act w ds ≡ true) → is_allowed allowed w ds ≡ true
+may AnyAct w ds e f = refl
+may NoSwitch w ds e f = may_unless w ds e
+may Safe w ds e f = f refl
 
-may_switch_in : (b : Body) → may_switch b ≡ true → is_allowed (allowed_in b) word.Switch ≡ true
-may_switch_in body.Start e = refl
-may_switch_in body.Finish e = refl
-may_switch_in (body.Enter s) e = absurd (true≢false (sym e))
-may_switch_in (body.Exit s) e = absurd (true≢false (sym e))
-may_switch_in (body.Row r) e = refl
-may_switch_in body.Thread e = refl
+may_switch_in : (allowed : Allowed) (ds : Items) → switches allowed ≡ true → (restrains allowed ≡ true → false ≡ true) → is_allowed allowed word.Switch ds ≡ true
+may_switch_in AnyAct ds e f = refl
+may_switch_in NoSwitch ds e f = absurd (true≢false (sym e))
+may_switch_in Safe ds e f = f refl
+
+-- a destination is read as the temporary that it is, or isn't
+temporary_again : (to : Dest) (ds : Items) → IsDest to → is_to_temporary (item (dest_data to) ds) ≡ to_temporary to
+temporary_again to ds h = ap (λ (r : Result Dest Trouble). to_temporary (ok_or (dest.Var 0) r)) (dest_again to h)
 
 -- ---- names
 
@@ -202,9 +186,10 @@ text_legal s t g l = each_at IsText s.texts t.0 [] g.texts l
 
 -- ---- the shape of an act
 
--- an instruction that so many acts follow in its body
-pub record IsTold (s : SceneParts) (a : AgentDef) (b : Body) (rest : ℕ) (i : Instr) : Type 0 where
-  pub before : IsActBefore (may_switch b) i rest
+-- an instruction that so many acts follow in its body, of those that are allowed there
+pub record IsTold (s : SceneParts) (a : AgentDef) (allowed : Allowed) (rest : ℕ) (i : Instr) : Type 0 where
+  pub before : IsActBefore (switches allowed) i rest
+  pub safe : restrains allowed ≡ true → may_be_safe i ≡ true
   pub names : NamesParts s a i
   pub written : IsWrittenInstr s i
 
@@ -222,9 +207,9 @@ operands_fine (suc n) rest (suc used) (a ∷ list) h p = rw (operand_again a h.0
 four_fine : (rest : ℕ) (args : Args) → AreArgs args → AreOperands args → args_trouble four_operands rest (args_data args) ≡ None
 four_fine rest args h g = operands_fine 4 rest args.used args.list (operands_of args h) g.padded
 
-fine_when : (b : Body) (rest : ℕ) (w : Word) (ds : Items) (args : List Arg) → is_switch_word w ≡ false → args_of w ≡ Some args → needed_of w ≤ items_len ds → items_len ds ≤ length args
-    → args_trouble args rest ds ≡ None → parts_trouble (allowed_in b) rest (Some (w, ds)) ≡ None
-fine_when b rest w ds args e f l m c = rw (may b w e, f, le-leb _ _ l, le-leb _ _ m) c
+fine_when : (allowed : Allowed) (rest : ℕ) (w : Word) (ds : Items) (args : List Arg) → is_allowed allowed w ds ≡ true → args_of w ≡ Some args → needed_of w ≤ items_len ds → items_len ds ≤ length args
+    → args_trouble args rest ds ≡ None → parts_trouble allowed rest (Some (w, ds)) ≡ None
+fine_when allowed rest w ds args e f l m c = rw (e, f, le-leb _ _ l, le-leb _ _ m) c
 
 text_first : (rest : ℕ) (text : List ℕ) (ds : Items) → is_text text ≡ true → args_trouble four_operands rest ds ≡ None → args_trouble (arg.Text ∷ four_operands) rest (item (text_data text) ds) ≡ None
 unfolding args_trouble
@@ -234,57 +219,57 @@ names_first : (rest : ℕ) (x y : List ℕ) (ds : Items) → is_name x ≡ true 
 unfolding args_trouble
 names_first rest x y ds e f g = rw (name_read x e, name_read y f) g
 
-log_fine : (b : Body) (rest : ℕ) (text : List ℕ) (args : Args) → is_text text ≡ true → AreArgs args → AreOperands args → act_trouble (allowed_in b) rest (act_of (codes "log") (item (text_data text) (args_data args))) ≡ None
-log_fine b rest text args e h g =
+log_fine : (allowed : Allowed) (rest : ℕ) (text : List ℕ) (args : Args) → is_text text ≡ true → AreArgs args → AreOperands args → act_trouble allowed rest (act_of (codes "log") (item (text_data text) (args_data args))) ≡ None
+log_fine allowed rest text args e h g =
     let few : args.used ≤ 4 = h.few in
     let len : items_len (args_data args) ≡ args.used = args_len args h g in
-    fine_when b rest word.Log (item (text_data text) (args_data args)) (arg.Text ∷ four_operands) refl refl (omega arith) (omega arith) (text_first rest text (args_data args) e (four_fine rest args h g))
+    fine_when allowed rest word.Log (item (text_data text) (args_data args)) (arg.Text ∷ four_operands) (may allowed word.Log (item (text_data text) (args_data args)) refl (λ r. refl)) refl (omega arith) (omega arith) (text_first rest text (args_data args) e (four_fine rest args h g))
 
-send_fine : (b : Body) (rest : ℕ) (x y : List ℕ) (args : Args) → is_name x ≡ true → is_name y ≡ true → AreArgs args → AreOperands args
-    → act_trouble (allowed_in b) rest (act_of (codes "send") (item (text_data x) (item (text_data y) (args_data args)))) ≡ None
-send_fine b rest x y args e f h g =
+send_fine : (allowed : Allowed) (rest : ℕ) (x y : List ℕ) (args : Args) → is_name x ≡ true → is_name y ≡ true → AreArgs args → AreOperands args
+    → act_trouble allowed rest (act_of (codes "send") (item (text_data x) (item (text_data y) (args_data args)))) ≡ None
+send_fine allowed rest x y args e f h g =
     let few : args.used ≤ 4 = h.few in
     let len : items_len (args_data args) ≡ args.used = args_len args h g in
-    fine_when b rest word.Send (item (text_data x) (item (text_data y) (args_data args))) (arg.Name ∷ arg.Name ∷ four_operands) refl refl (omega arith) (omega arith) (names_first rest x y (args_data args) e f (four_fine rest args h g))
+    fine_when allowed rest word.Send (item (text_data x) (item (text_data y) (args_data args))) (arg.Name ∷ arg.Name ∷ four_operands) (may allowed word.Send (item (text_data x) (item (text_data y) (args_data args))) refl (λ r. refl)) refl (omega arith) (omega arith) (names_first rest x y (args_data args) e f (four_fine rest args h g))
 
 -- a word that one name follows
-name_fine : (b : Body) (rest : ℕ) (w : Word) (name : List ℕ) → is_allowed (allowed_in b) w ≡ true → args_of w ≡ Some (arg.Name ∷ []) → needed_of w ≡ 1 → is_name name ≡ true
-    → parts_trouble (allowed_in b) rest (Some (w, item (text_data name) no_items)) ≡ None
+name_fine : (allowed : Allowed) (rest : ℕ) (w : Word) (name : List ℕ) → is_allowed allowed w (item (text_data name) no_items) ≡ true → args_of w ≡ Some (arg.Name ∷ []) → needed_of w ≡ 1 → is_name name ≡ true
+    → parts_trouble allowed rest (Some (w, item (text_data name) no_items)) ≡ None
 unfolding args_trouble
-name_fine b rest w name m e f g = rw (m, e, f, name_read name g)
+name_fine allowed rest w name m e f g = rw (m, e, f, name_read name g)
 
-pub act_fine : (s : SceneParts) (a : AgentDef) (b : Body) (rest : ℕ) (i : Instr) → Told s a → IsTold s a b rest i → rest < 2 ^ 32 → act_trouble (allowed_in b) rest (act_data s a i) ≡ None
+pub act_fine : (s : SceneParts) (a : AgentDef) (allowed : Allowed) (rest : ℕ) (i : Instr) → Told s a → IsTold s a allowed rest i → rest < 2 ^ 32 → act_trouble allowed rest (act_data s a i) ≡ None
 unfolding args_trouble
-act_fine s a b rest (instr.Set to x) c t r = let p = t.before.parts in rw (may b word.Set refl, dest_again to p.0, operand_again x p.1 t.written)
-act_fine s a b rest (instr.Add to x y) c t r = let p = t.before.parts in rw (may b word.Add refl, dest_again to p.0, operand_again x p.1 t.written.0, operand_again y p.2 t.written.1)
-act_fine s a b rest (instr.Sub to x y) c t r = let p = t.before.parts in rw (may b word.Sub refl, dest_again to p.0, operand_again x p.1 t.written.0, operand_again y p.2 t.written.1)
-act_fine s a b rest (instr.Mul to x y) c t r = let p = t.before.parts in rw (may b word.Mul refl, dest_again to p.0, operand_again x p.1 t.written.0, operand_again y p.2 t.written.1)
-act_fine s a b rest (instr.If x cmp y n) c t r =
+act_fine s a allowed rest (instr.Set to x) c t r = let p = t.before.parts in rw (may allowed word.Set (item (dest_data to) (item (operand_data x) no_items)) refl (λ r. temporary_again to (item (operand_data x) no_items) p.0 ∙ t.safe r), dest_again to p.0, operand_again x p.1 t.written)
+act_fine s a allowed rest (instr.Add to x y) c t r = let p = t.before.parts in rw (may allowed word.Add (item (dest_data to) (item (operand_data x) (item (operand_data y) no_items))) refl (λ r. temporary_again to (item (operand_data x) (item (operand_data y) no_items)) p.0 ∙ t.safe r), dest_again to p.0, operand_again x p.1 t.written.0, operand_again y p.2 t.written.1)
+act_fine s a allowed rest (instr.Sub to x y) c t r = let p = t.before.parts in rw (may allowed word.Sub (item (dest_data to) (item (operand_data x) (item (operand_data y) no_items))) refl (λ r. temporary_again to (item (operand_data x) (item (operand_data y) no_items)) p.0 ∙ t.safe r), dest_again to p.0, operand_again x p.1 t.written.0, operand_again y p.2 t.written.1)
+act_fine s a allowed rest (instr.Mul to x y) c t r = let p = t.before.parts in rw (may allowed word.Mul (item (dest_data to) (item (operand_data x) (item (operand_data y) no_items))) refl (λ r. temporary_again to (item (operand_data x) (item (operand_data y) no_items)) p.0 ∙ t.safe r), dest_again to p.0, operand_again x p.1 t.written.0, operand_again y p.2 t.written.1)
+act_fine s a allowed rest (instr.If x cmp y n) c t r =
     let l : n ≤ rest = t.before.jumps in
     let p = t.before.parts in
-    rw (may b word.If refl, operand_again x p.0 t.written.0, cmp_again cmp, operand_again y p.1 t.written.1, count_again rest n l (omega arith))
-act_fine s a b rest (instr.Skip n) c t r = let l : n ≤ rest = t.before.jumps in rw (may b word.Skip refl, count_again rest n l (omega arith))
-act_fine s a b rest (instr.Throw x) c t r = rw (may b word.Throw refl, operand_again x t.before.parts t.written)
-act_fine s a b rest (instr.Log text args) c t r = log_fine b rest (text_of s text) args (text_legal s text c.writable t.names) t.before.parts t.written
-act_fine s a b rest (instr.Send (Mbox mbox) msg args) c t r =
-    send_fine b rest (mbox_name s mbox) (message_text s msg) args (mbox_legal s mbox c.writable t.names.0) (message_legal s msg c.writable t.names.1) t.before.parts t.written.0
-act_fine s a b rest (instr.Send (Chain chain) msg args) c t r = absurd t.names.0
-act_fine s a b rest (instr.Switch to) c t r = name_fine b rest word.Switch (state_text a to) (may_switch_in b (t.before.switch refl)) refl refl (state_legal s a to c t.names)
-act_fine s a b rest (instr.Subscribe row) c t r = name_fine b rest word.Subscribe (id_text a.row_ids row.0) (may b word.Subscribe refl) refl refl (row_legal s a row.0 c t.names)
-act_fine s a b rest (instr.Unsubscribe row) c t r = name_fine b rest word.Unsubscribe (id_text a.row_ids row.0) (may b word.Unsubscribe refl) refl refl (row_legal s a row.0 c t.names)
-act_fine s a b rest (instr.SetFilter f) c t r = name_fine b rest word.SetFilter (id_text (filter_ids a) f.0) (may b word.SetFilter refl) refl refl (filter_legal s a f.0 c t.names)
-act_fine s a b rest (instr.DropFilter f) c t r = name_fine b rest word.DropFilter (id_text (filter_ids a) f.0) (may b word.DropFilter refl) refl refl (filter_legal s a f.0 c t.names)
-act_fine s a b rest instr.Stop c t r = rw (may b word.Stop refl)
-act_fine s a b rest (instr.Delayed x1 x2 x3 x4) c t r = absurd t.names
-act_fine s a b rest (instr.Timer x1 x2 x3 x4 x5 x6) c t r = absurd t.names
-act_fine s a b rest (instr.Cancel x1) c t r = absurd t.names
-act_fine s a b rest (instr.Register x1) c t r = absurd t.names
-act_fine s a b rest (instr.Deregister x1) c t r = absurd t.names
-act_fine s a b rest (instr.Close x1 x2) c t r = absurd t.names
-act_fine s a b rest (instr.Receive x1 x2 x3 x4 x5 x6 x7) c t r = absurd t.names
-act_fine s a b rest (instr.Case x1 x2) c t r = absurd t.names
-act_fine s a b rest (instr.Back) c t r = absurd t.names
-act_fine s a b rest (instr.End x1) c t r = absurd (true≢false (sym t.before.act))
+    rw (may allowed word.If (item (operand_data x) (item (cmp_data cmp) (item (operand_data y) (item (count_data n) no_items)))) refl (λ r. refl), operand_again x p.0 t.written.0, cmp_again cmp, operand_again y p.1 t.written.1, count_again rest n l (omega arith))
+act_fine s a allowed rest (instr.Skip n) c t r = let l : n ≤ rest = t.before.jumps in rw (may allowed word.Skip (item (count_data n) no_items) refl (λ r. refl), count_again rest n l (omega arith))
+act_fine s a allowed rest (instr.Throw x) c t r = rw (may allowed word.Throw (item (operand_data x) no_items) refl (λ r. refl), operand_again x t.before.parts t.written)
+act_fine s a allowed rest (instr.Log text args) c t r = log_fine allowed rest (text_of s text) args (text_legal s text c.writable t.names) t.before.parts t.written
+act_fine s a allowed rest (instr.Send (Mbox mbox) msg args) c t r =
+    send_fine allowed rest (mbox_name s mbox) (message_text s msg) args (mbox_legal s mbox c.writable t.names.0) (message_legal s msg c.writable t.names.1) t.before.parts t.written.0
+act_fine s a allowed rest (instr.Send (Chain chain) msg args) c t r = absurd t.names.0
+act_fine s a allowed rest (instr.Switch to) c t r = name_fine allowed rest word.Switch (state_text a to) (may_switch_in allowed (item (text_data (state_text a to)) no_items) (t.before.switch refl) t.safe) refl refl (state_legal s a to c t.names)
+act_fine s a allowed rest (instr.Subscribe row) c t r = name_fine allowed rest word.Subscribe (id_text a.row_ids row.0) (may allowed word.Subscribe (item (text_data (id_text a.row_ids row.0)) no_items) refl t.safe) refl refl (row_legal s a row.0 c t.names)
+act_fine s a allowed rest (instr.Unsubscribe row) c t r = name_fine allowed rest word.Unsubscribe (id_text a.row_ids row.0) (may allowed word.Unsubscribe (item (text_data (id_text a.row_ids row.0)) no_items) refl t.safe) refl refl (row_legal s a row.0 c t.names)
+act_fine s a allowed rest (instr.SetFilter f) c t r = name_fine allowed rest word.SetFilter (id_text (filter_ids a) f.0) (may allowed word.SetFilter (item (text_data (id_text (filter_ids a) f.0)) no_items) refl t.safe) refl refl (filter_legal s a f.0 c t.names)
+act_fine s a allowed rest (instr.DropFilter f) c t r = name_fine allowed rest word.DropFilter (id_text (filter_ids a) f.0) (may allowed word.DropFilter (item (text_data (id_text (filter_ids a) f.0)) no_items) refl t.safe) refl refl (filter_legal s a f.0 c t.names)
+act_fine s a allowed rest instr.Stop c t r = rw (may allowed word.Stop no_items refl (λ r. refl))
+act_fine s a allowed rest (instr.Delayed x1 x2 x3 x4) c t r = absurd t.names
+act_fine s a allowed rest (instr.Timer x1 x2 x3 x4 x5 x6) c t r = absurd t.names
+act_fine s a allowed rest (instr.Cancel x1) c t r = absurd t.names
+act_fine s a allowed rest (instr.Register x1) c t r = absurd t.names
+act_fine s a allowed rest (instr.Deregister x1) c t r = absurd t.names
+act_fine s a allowed rest (instr.Close x1 x2) c t r = absurd t.names
+act_fine s a allowed rest (instr.Receive x1 x2 x3 x4 x5 x6 x7) c t r = absurd t.names
+act_fine s a allowed rest (instr.Case x1 x2) c t r = absurd t.names
+act_fine s a allowed rest (instr.Back) c t r = absurd t.names
+act_fine s a allowed rest (instr.End x1) c t r = absurd (true≢false (sym t.before.act))
 
 -- ---- what an act names is known
 
@@ -312,36 +297,36 @@ knows_at names a = record { names = names; scope = scope_for a }
 pub is_there : (names : List (List ℕ)) (name : List ℕ) (k : ℕ) → number_in names name ≡ Some k → absent_from names (Some name) ≡ None
 is_there names name k e = rw e
 
-pub act_known : (s : SceneParts) (a : AgentDef) (names : Declared) (b : Body) (rest : ℕ) (i : Instr) → Told s a → Stands s names → IsTold s a b rest i → act_unknown (knows_at names a) (act_data s a i) ≡ None
-act_known s a names b rest (instr.Set to x) c n t = refl
-act_known s a names b rest (instr.Add to x y) c n t = refl
-act_known s a names b rest (instr.Sub to x y) c n t = refl
-act_known s a names b rest (instr.Mul to x y) c n t = refl
-act_known s a names b rest (instr.If x cmp y k) c n t = refl
-act_known s a names b rest (instr.Skip k) c n t = refl
-act_known s a names b rest (instr.Throw x) c n t = refl
-act_known s a names b rest (instr.Log text args) c n t = refl
-act_known s a names b rest (instr.Send (Mbox mbox) msg args) c n t =
+pub act_known : (s : SceneParts) (a : AgentDef) (names : Declared) (allowed : Allowed) (rest : ℕ) (i : Instr) → Told s a → Stands s names → IsTold s a allowed rest i → act_unknown (knows_at names a) (act_data s a i) ≡ None
+act_known s a names allowed rest (instr.Set to x) c n t = refl
+act_known s a names allowed rest (instr.Add to x y) c n t = refl
+act_known s a names allowed rest (instr.Sub to x y) c n t = refl
+act_known s a names allowed rest (instr.Mul to x y) c n t = refl
+act_known s a names allowed rest (instr.If x cmp y k) c n t = refl
+act_known s a names allowed rest (instr.Skip k) c n t = refl
+act_known s a names allowed rest (instr.Throw x) c n t = refl
+act_known s a names allowed rest (instr.Log text args) c n t = refl
+act_known s a names allowed rest (instr.Send (Mbox mbox) msg args) c n t =
     send_known s names (scope_for a) (mbox_name s mbox) (message_text s msg) mbox.0 msg.0 args (name_utf8 _ (mbox_legal s mbox c.writable t.names.0)) (name_utf8 _ (message_legal s msg c.writable t.names.1))
     (mbox_number s names mbox c.scene n t.names.0) (message_number s names msg c.scene n t.names.1)
     (signal_fine names (message_text s msg) args.used args.list (message_of s msg).signal (signal_again s names msg c.scene n t.names.1) t.written.1)
-act_known s a names b rest (instr.Send (Chain chain) msg args) c n t = absurd t.names.0
-act_known s a names b rest (instr.Switch to) c n t = ap (λ (d : Data). act_unknown (knows_at names a) (act_one (codes "switch") d)) (shown_name (state_text a to) (state_legal s a to c t.names)) ∙ (is_there (default ∷ a.state_names) (state_text a to) to.0 (state_number_again s a to c t.names))
-act_known s a names b rest (instr.Subscribe row) c n t = rw (name_utf8 _ (row_legal s a row.0 c t.names), row_number_again s a row.0 c t.names)
-act_known s a names b rest (instr.Unsubscribe row) c n t = rw (name_utf8 _ (row_legal s a row.0 c t.names), row_number_again s a row.0 c t.names)
-act_known s a names b rest (instr.SetFilter f) c n t = rw (name_utf8 _ (filter_legal s a f.0 c t.names), filter_number_again s a f.0 c t.names)
-act_known s a names b rest (instr.DropFilter f) c n t = rw (name_utf8 _ (filter_legal s a f.0 c t.names), filter_number_again s a f.0 c t.names)
-act_known s a names b rest instr.Stop c n t = refl
-act_known s a names b rest (instr.Delayed x1 x2 x3 x4) c n t = absurd t.names
-act_known s a names b rest (instr.Timer x1 x2 x3 x4 x5 x6) c n t = absurd t.names
-act_known s a names b rest (instr.Cancel x1) c n t = absurd t.names
-act_known s a names b rest (instr.Register x1) c n t = absurd t.names
-act_known s a names b rest (instr.Deregister x1) c n t = absurd t.names
-act_known s a names b rest (instr.Close x1 x2) c n t = absurd t.names
-act_known s a names b rest (instr.Receive x1 x2 x3 x4 x5 x6 x7) c n t = absurd t.names
-act_known s a names b rest (instr.Case x1 x2) c n t = absurd t.names
-act_known s a names b rest (instr.Back) c n t = absurd t.names
-act_known s a names b rest (instr.End x1) c n t = absurd (true≢false (sym t.before.act))
+act_known s a names allowed rest (instr.Send (Chain chain) msg args) c n t = absurd t.names.0
+act_known s a names allowed rest (instr.Switch to) c n t = ap (λ (d : Data). act_unknown (knows_at names a) (act_one (codes "switch") d)) (shown_name (state_text a to) (state_legal s a to c t.names)) ∙ (is_there (default ∷ a.state_names) (state_text a to) to.0 (state_number_again s a to c t.names))
+act_known s a names allowed rest (instr.Subscribe row) c n t = rw (name_utf8 _ (row_legal s a row.0 c t.names), row_number_again s a row.0 c t.names)
+act_known s a names allowed rest (instr.Unsubscribe row) c n t = rw (name_utf8 _ (row_legal s a row.0 c t.names), row_number_again s a row.0 c t.names)
+act_known s a names allowed rest (instr.SetFilter f) c n t = rw (name_utf8 _ (filter_legal s a f.0 c t.names), filter_number_again s a f.0 c t.names)
+act_known s a names allowed rest (instr.DropFilter f) c n t = rw (name_utf8 _ (filter_legal s a f.0 c t.names), filter_number_again s a f.0 c t.names)
+act_known s a names allowed rest instr.Stop c n t = refl
+act_known s a names allowed rest (instr.Delayed x1 x2 x3 x4) c n t = absurd t.names
+act_known s a names allowed rest (instr.Timer x1 x2 x3 x4 x5 x6) c n t = absurd t.names
+act_known s a names allowed rest (instr.Cancel x1) c n t = absurd t.names
+act_known s a names allowed rest (instr.Register x1) c n t = absurd t.names
+act_known s a names allowed rest (instr.Deregister x1) c n t = absurd t.names
+act_known s a names allowed rest (instr.Close x1 x2) c n t = absurd t.names
+act_known s a names allowed rest (instr.Receive x1 x2 x3 x4 x5 x6 x7) c n t = absurd t.names
+act_known s a names allowed rest (instr.Case x1 x2) c n t = absurd t.names
+act_known s a names allowed rest (instr.Back) c n t = absurd t.names
+act_known s a names allowed rest (instr.End x1) c n t = absurd (true≢false (sym t.before.act))
 
 -- ---- the instruction that is read
 
@@ -392,78 +377,78 @@ few_filters s a k c e =
 pub narrow_small : (k : ℕ) → k < 2 ^ 32 → narrow k ≡ k
 narrow_small k l = omega arith
 
-log_new : (s : SceneParts) (a : AgentDef) (names : Declared) (b : Body) (rest n : ℕ) (code : List Instr) (args : Args) → Told s a → n < length s.texts → AreArgs args → AreOperands args
-    → act_written names (allowed_in b) rest (at s a n code) (act_data s a (instr.Log (record { 0 = n }) args)) ≡ at s a (suc n) (code ++ instr.Log (record { 0 = n }) args ∷ [])
-log_new s a names b rest n code args c l h g =
+log_new : (s : SceneParts) (a : AgentDef) (names : Declared) (allowed : Allowed) (rest n : ℕ) (code : List Instr) (args : Args) → Told s a → n < length s.texts → AreArgs args → AreOperands args
+    → act_written names allowed rest (at s a n code) (act_data s a (instr.Log (record { 0 = n }) args)) ≡ at s a (suc n) (code ++ instr.Log (record { 0 = n }) args ∷ [])
+log_new s a names allowed rest n code args c l h g =
     let few : length s.texts ≤ 4096 = c.scene.few_texts in
     let len : length (take n s.texts) ≡ n = taken_len s.texts n (omega arith) in
     let legal : is_text (text_of s (record { 0 = n })) ≡ true = text_legal s (record { 0 = n }) c.writable l in
-    rw (may b word.Log refl, text_utf8 _ legal, legal, new_take s.texts n c.scene.each_text_once l, args_one (string (text_of s (record { 0 = n }))) args h g, len, narrow_small n (omega arith))
+    rw (may allowed word.Log (item (text_data (text_of s (record { 0 = n }))) (args_data args)) refl (λ r. refl), text_utf8 _ legal, legal, new_take s.texts n c.scene.each_text_once l, args_one (string (text_of s (record { 0 = n }))) args h g, len, narrow_small n (omega arith))
     (ap (λ (ts : List (List ℕ)). writer ts (code ++ instr.Log (record { 0 = n }) args ∷ []) (scope_for a)) (more_texts s.texts n l))
 
-log_old : (s : SceneParts) (a : AgentDef) (names : Declared) (b : Body) (rest n : ℕ) (code : List Instr) (text : TextId) (args : Args) → Told s a → text.0 < n → n ≤ length s.texts → AreArgs args → AreOperands args
-    → act_written names (allowed_in b) rest (at s a n code) (act_data s a (instr.Log text args)) ≡ at s a n (code ++ instr.Log text args ∷ [])
-log_old s a names b rest n code text args c l m h g =
+log_old : (s : SceneParts) (a : AgentDef) (names : Declared) (allowed : Allowed) (rest n : ℕ) (code : List Instr) (text : TextId) (args : Args) → Told s a → text.0 < n → n ≤ length s.texts → AreArgs args → AreOperands args
+    → act_written names allowed rest (at s a n code) (act_data s a (instr.Log text args)) ≡ at s a n (code ++ instr.Log text args ∷ [])
+log_old s a names allowed rest n code text args c l m h g =
     let few : length s.texts ≤ 4096 = c.scene.few_texts in
     let legal : is_text (text_of s text) ≡ true = text_legal s text c.writable (omega arith) in
-    rw (may b word.Log refl, text_utf8 _ legal, legal, number_take s.texts n text.0 c.scene.each_text_once l m, args_one (string (text_of s text)) args h g, narrow_small text.0 (omega arith))
+    rw (may allowed word.Log (item (text_data (text_of s text)) (args_data args)) refl (λ r. refl), text_utf8 _ legal, legal, number_take s.texts n text.0 c.scene.each_text_once l m, args_one (string (text_of s text)) args h g, narrow_small text.0 (omega arith))
 
-log_at : (s : SceneParts) (a : AgentDef) (names : Declared) (b : Body) (rest n : ℕ) (code : List Instr) (text : TextId) (args : Args) (same : Bool) → Told s a → text.0 < length s.texts → text.0 ≤ n → n ≤ length s.texts → AreArgs args → AreOperands args → (text.0 == n) ≡ same
-    → act_written names (allowed_in b) rest (at s a n code) (act_data s a (instr.Log text args)) ≡ at s a (if same then suc n else n) (code ++ instr.Log text args ∷ [])
-log_at s a names b rest n code text args true c l m k h g e =
+log_at : (s : SceneParts) (a : AgentDef) (names : Declared) (allowed : Allowed) (rest n : ℕ) (code : List Instr) (text : TextId) (args : Args) (same : Bool) → Told s a → text.0 < length s.texts → text.0 ≤ n → n ≤ length s.texts → AreArgs args → AreOperands args → (text.0 == n) ≡ same
+    → act_written names allowed rest (at s a n code) (act_data s a (instr.Log text args)) ≡ at s a (if same then suc n else n) (code ++ instr.Log text args ∷ [])
+log_at s a names allowed rest n code text args true c l m k h g e =
     let is : text.0 ≡ n = eqb-true text.0 n e in
-    subst (λ (j : ℕ). act_written names (allowed_in b) rest (at s a n code) (act_data s a (instr.Log (record { 0 = j }) args)) ≡ at s a (suc n) (code ++ instr.Log (record { 0 = j }) args ∷ [])) (sym is) (log_new s a names b rest n code args c (omega arith) h g)
-log_at s a names b rest n code text args false c l m k h g e =
+    subst (λ (j : ℕ). act_written names allowed rest (at s a n code) (act_data s a (instr.Log (record { 0 = j }) args)) ≡ at s a (suc n) (code ++ instr.Log (record { 0 = j }) args ∷ [])) (sym is) (log_new s a names allowed rest n code args c (omega arith) h g)
+log_at s a names allowed rest n code text args false c l m k h g e =
     let other : (text.0 ≡ n) → ⊥ = λ q. true≢false (sym (eq-eqb text.0 n q) ∙ e) in
-    log_old s a names b rest n code text args c (less text.0 n m other) k h g
+    log_old s a names allowed rest n code text args c (less text.0 n m other) k h g
 
-send_at_again : (names : Declared) (b : Body) (rest : ℕ) (w : Writer) (x y : List ℕ) (i j : ℕ) (args : Args) → is_utf8 x ≡ true → is_utf8 y ≡ true → number_in (names_in space.Mboxes names) x ≡ Some i → number_in names.messages y ≡ Some j
+send_at_again : (names : Declared) (allowed : Allowed) (rest : ℕ) (w : Writer) (x y : List ℕ) (i j : ℕ) (args : Args) → is_utf8 x ≡ true → is_utf8 y ≡ true → number_in (names_in space.Mboxes names) x ≡ Some i → number_in names.messages y ≡ Some j
     → i < 2 ^ 32 → j < 2 ^ 32 → AreArgs args → AreOperands args
-    → act_written names (allowed_in b) rest w (act_of (codes "send") (item (text_data x) (item (text_data y) (args_data args)))) ≡ with_instr (instr.Send (Mbox (record { 0 = i })) (record { 0 = j }) args) w
-send_at_again names b rest w x y i j args e f p q k l h g =
-    rw (may b word.Send refl, e, f, p, q, narrow_small i k, narrow_small j l) (ap (λ (z : Args). with_instr (instr.Send (Mbox (record { 0 = i })) (record { 0 = j }) z) w) (args_two (string x) (string y) args h g))
+    → act_written names allowed rest w (act_of (codes "send") (item (text_data x) (item (text_data y) (args_data args)))) ≡ with_instr (instr.Send (Mbox (record { 0 = i })) (record { 0 = j }) args) w
+send_at_again names allowed rest w x y i j args e f p q k l h g =
+    rw (may allowed word.Send (item (text_data x) (item (text_data y) (args_data args))) refl (λ r. refl), e, f, p, q, narrow_small i k, narrow_small j l) (ap (λ (z : Args). with_instr (instr.Send (Mbox (record { 0 = i })) (record { 0 = j }) z) w) (args_two (string x) (string y) args h g))
 
 switch_with : (o : Option ℕ) (w : Writer) (to : StateId) → o ≡ Some to.0 → narrow to.0 ≡ to.0 → with_instr (or_idle instr.Switch (option_map state_id o)) w ≡ with_instr (instr.Switch to) w
 switch_with o w to e f = rw (e, f)
 
-pub act_again : (s : SceneParts) (a : AgentDef) (names : Declared) (b : Body) (rest : ℕ) (n : ℕ) (code : List Instr) (i : Instr) → Told s a → Stands s names → IsTold s a b rest i → rest < 2 ^ 32 → IsNumbered n i → n ≤ length s.texts
-    → act_written names (allowed_in b) rest (at s a n code) (act_data s a i) ≡ at s a (next_text n i) (code ++ i ∷ [])
-act_again s a names b rest n code (instr.Set to x) c st t r m k = let p = t.before.parts in rw (may b word.Set refl, dest_again to p.0, operand_again x p.1 t.written)
-act_again s a names b rest n code (instr.Add to x y) c st t r m k = let p = t.before.parts in rw (may b word.Add refl, dest_again to p.0, operand_again x p.1 t.written.0, operand_again y p.2 t.written.1)
-act_again s a names b rest n code (instr.Sub to x y) c st t r m k = let p = t.before.parts in rw (may b word.Sub refl, dest_again to p.0, operand_again x p.1 t.written.0, operand_again y p.2 t.written.1)
-act_again s a names b rest n code (instr.Mul to x y) c st t r m k = let p = t.before.parts in rw (may b word.Mul refl, dest_again to p.0, operand_again x p.1 t.written.0, operand_again y p.2 t.written.1)
-act_again s a names b rest n code (instr.If x cmp y q) c st t r m k =
+pub act_again : (s : SceneParts) (a : AgentDef) (names : Declared) (allowed : Allowed) (rest : ℕ) (n : ℕ) (code : List Instr) (i : Instr) → Told s a → Stands s names → IsTold s a allowed rest i → rest < 2 ^ 32 → IsNumbered n i → n ≤ length s.texts
+    → act_written names allowed rest (at s a n code) (act_data s a i) ≡ at s a (next_text n i) (code ++ i ∷ [])
+act_again s a names allowed rest n code (instr.Set to x) c st t r m k = let p = t.before.parts in rw (may allowed word.Set (item (dest_data to) (item (operand_data x) no_items)) refl (λ r. temporary_again to (item (operand_data x) no_items) p.0 ∙ t.safe r), dest_again to p.0, operand_again x p.1 t.written)
+act_again s a names allowed rest n code (instr.Add to x y) c st t r m k = let p = t.before.parts in rw (may allowed word.Add (item (dest_data to) (item (operand_data x) (item (operand_data y) no_items))) refl (λ r. temporary_again to (item (operand_data x) (item (operand_data y) no_items)) p.0 ∙ t.safe r), dest_again to p.0, operand_again x p.1 t.written.0, operand_again y p.2 t.written.1)
+act_again s a names allowed rest n code (instr.Sub to x y) c st t r m k = let p = t.before.parts in rw (may allowed word.Sub (item (dest_data to) (item (operand_data x) (item (operand_data y) no_items))) refl (λ r. temporary_again to (item (operand_data x) (item (operand_data y) no_items)) p.0 ∙ t.safe r), dest_again to p.0, operand_again x p.1 t.written.0, operand_again y p.2 t.written.1)
+act_again s a names allowed rest n code (instr.Mul to x y) c st t r m k = let p = t.before.parts in rw (may allowed word.Mul (item (dest_data to) (item (operand_data x) (item (operand_data y) no_items))) refl (λ r. temporary_again to (item (operand_data x) (item (operand_data y) no_items)) p.0 ∙ t.safe r), dest_again to p.0, operand_again x p.1 t.written.0, operand_again y p.2 t.written.1)
+act_again s a names allowed rest n code (instr.If x cmp y q) c st t r m k =
     let l : q ≤ rest = t.before.jumps in
     let p = t.before.parts in
-    rw (may b word.If refl, operand_again x p.0 t.written.0, cmp_again cmp, operand_again y p.1 t.written.1, count_again rest q l (omega arith), narrow_small q (omega arith))
-act_again s a names b rest n code (instr.Skip q) c st t r m k = let l : q ≤ rest = t.before.jumps in rw (may b word.Skip refl, count_again rest q l (omega arith), narrow_small q (omega arith))
-act_again s a names b rest n code (instr.Throw x) c st t r m k = rw (may b word.Throw refl, operand_again x t.before.parts t.written)
-act_again s a names b rest n code (instr.Log text args) c st t r m k = log_at s a names b rest n code text args (text.0 == n) c t.names m k t.before.parts t.written refl
-act_again s a names b rest n code (instr.Send (Mbox mbox) msg args) c st t r m k =
+    rw (may allowed word.If (item (operand_data x) (item (cmp_data cmp) (item (operand_data y) (item (count_data q) no_items)))) refl (λ r. refl), operand_again x p.0 t.written.0, cmp_again cmp, operand_again y p.1 t.written.1, count_again rest q l (omega arith), narrow_small q (omega arith))
+act_again s a names allowed rest n code (instr.Skip q) c st t r m k = let l : q ≤ rest = t.before.jumps in rw (may allowed word.Skip (item (count_data q) no_items) refl (λ r. refl), count_again rest q l (omega arith), narrow_small q (omega arith))
+act_again s a names allowed rest n code (instr.Throw x) c st t r m k = rw (may allowed word.Throw (item (operand_data x) no_items) refl (λ r. refl), operand_again x t.before.parts t.written)
+act_again s a names allowed rest n code (instr.Log text args) c st t r m k = log_at s a names allowed rest n code text args (text.0 == n) c t.names m k t.before.parts t.written refl
+act_again s a names allowed rest n code (instr.Send (Mbox mbox) msg args) c st t r m k =
     let few : mboxes s ≤ 4352 = few_mboxes s c.scene in
     let fm : length s.messages ≤ 256 = c.scene.few_messages in
     let i : mbox.0 < mboxes s = t.names.0 in
     let j : msg.0 < length s.messages = t.names.1 in
-    send_at_again names b rest (at s a n code) (mbox_name s mbox) (message_text s msg) mbox.0 msg.0 args (name_utf8 _ (mbox_legal s mbox c.writable i)) (name_utf8 _ (message_legal s msg c.writable j))
+    send_at_again names allowed rest (at s a n code) (mbox_name s mbox) (message_text s msg) mbox.0 msg.0 args (name_utf8 _ (mbox_legal s mbox c.writable i)) (name_utf8 _ (message_legal s msg c.writable j))
     (mbox_number s names mbox c.scene st i) (message_number s names msg c.scene st j) (omega arith) (omega arith) t.before.parts t.written.0
-act_again s a names b rest n code (instr.Send (Chain chain) msg args) c st t r m k = absurd t.names.0
-act_again s a names b rest n code (instr.Switch to) c st t r m k =
+act_again s a names allowed rest n code (instr.Send (Chain chain) msg args) c st t r m k = absurd t.names.0
+act_again s a names allowed rest n code (instr.Switch to) c st t r m k =
     let l : to.0 ≤ length a.tree = t.names in
     let few : length a.tree ≤ 63 = c.agent.tree.few in
-    ap (λ (d : Data). act_written names (allowed_in b) rest (at s a n code) (act_one (codes "switch") d)) (shown_name (state_text a to) (state_legal s a to c l))
-    ∙ rw (may_switch_in b (t.before.switch refl)) (switch_with (state_number (scope_for a) (state_text a to)) (at s a n code) to (state_number_again s a to c l) (narrow_small to.0 (omega arith)))
-act_again s a names b rest n code (instr.Subscribe row) c st t r m k = rw (may b word.Subscribe refl, name_utf8 _ (row_legal s a row.0 c t.names), row_number_again s a row.0 c t.names, narrow_small row.0 (few_rows s a row.0 c t.names))
-act_again s a names b rest n code (instr.Unsubscribe row) c st t r m k = rw (may b word.Unsubscribe refl, name_utf8 _ (row_legal s a row.0 c t.names), row_number_again s a row.0 c t.names, narrow_small row.0 (few_rows s a row.0 c t.names))
-act_again s a names b rest n code (instr.SetFilter f) c st t r m k = rw (may b word.SetFilter refl, name_utf8 _ (filter_legal s a f.0 c t.names), filter_number_again s a f.0 c t.names, narrow_small f.0 (few_filters s a f.0 c t.names))
-act_again s a names b rest n code (instr.DropFilter f) c st t r m k = rw (may b word.DropFilter refl, name_utf8 _ (filter_legal s a f.0 c t.names), filter_number_again s a f.0 c t.names, narrow_small f.0 (few_filters s a f.0 c t.names))
-act_again s a names b rest n code instr.Stop c st t r m k = rw (may b word.Stop refl)
-act_again s a names b rest n code (instr.Delayed x1 x2 x3 x4) c st t r m k = absurd t.names
-act_again s a names b rest n code (instr.Timer x1 x2 x3 x4 x5 x6) c st t r m k = absurd t.names
-act_again s a names b rest n code (instr.Cancel x1) c st t r m k = absurd t.names
-act_again s a names b rest n code (instr.Register x1) c st t r m k = absurd t.names
-act_again s a names b rest n code (instr.Deregister x1) c st t r m k = absurd t.names
-act_again s a names b rest n code (instr.Close x1 x2) c st t r m k = absurd t.names
-act_again s a names b rest n code (instr.Receive x1 x2 x3 x4 x5 x6 x7) c st t r m k = absurd t.names
-act_again s a names b rest n code (instr.Case x1 x2) c st t r m k = absurd t.names
-act_again s a names b rest n code (instr.Back) c st t r m k = absurd t.names
-act_again s a names b rest n code (instr.End x1) c st t r m k = absurd (true≢false (sym t.before.act))
+    ap (λ (d : Data). act_written names allowed rest (at s a n code) (act_one (codes "switch") d)) (shown_name (state_text a to) (state_legal s a to c l))
+    ∙ rw (may_switch_in allowed (item (string (state_text a to)) no_items) (t.before.switch refl) t.safe) (switch_with (state_number (scope_for a) (state_text a to)) (at s a n code) to (state_number_again s a to c l) (narrow_small to.0 (omega arith)))
+act_again s a names allowed rest n code (instr.Subscribe row) c st t r m k = rw (may allowed word.Subscribe (item (text_data (id_text a.row_ids row.0)) no_items) refl t.safe, name_utf8 _ (row_legal s a row.0 c t.names), row_number_again s a row.0 c t.names, narrow_small row.0 (few_rows s a row.0 c t.names))
+act_again s a names allowed rest n code (instr.Unsubscribe row) c st t r m k = rw (may allowed word.Unsubscribe (item (text_data (id_text a.row_ids row.0)) no_items) refl t.safe, name_utf8 _ (row_legal s a row.0 c t.names), row_number_again s a row.0 c t.names, narrow_small row.0 (few_rows s a row.0 c t.names))
+act_again s a names allowed rest n code (instr.SetFilter f) c st t r m k = rw (may allowed word.SetFilter (item (text_data (id_text (filter_ids a) f.0)) no_items) refl t.safe, name_utf8 _ (filter_legal s a f.0 c t.names), filter_number_again s a f.0 c t.names, narrow_small f.0 (few_filters s a f.0 c t.names))
+act_again s a names allowed rest n code (instr.DropFilter f) c st t r m k = rw (may allowed word.DropFilter (item (text_data (id_text (filter_ids a) f.0)) no_items) refl t.safe, name_utf8 _ (filter_legal s a f.0 c t.names), filter_number_again s a f.0 c t.names, narrow_small f.0 (few_filters s a f.0 c t.names))
+act_again s a names allowed rest n code instr.Stop c st t r m k = rw (may allowed word.Stop no_items refl (λ r. refl))
+act_again s a names allowed rest n code (instr.Delayed x1 x2 x3 x4) c st t r m k = absurd t.names
+act_again s a names allowed rest n code (instr.Timer x1 x2 x3 x4 x5 x6) c st t r m k = absurd t.names
+act_again s a names allowed rest n code (instr.Cancel x1) c st t r m k = absurd t.names
+act_again s a names allowed rest n code (instr.Register x1) c st t r m k = absurd t.names
+act_again s a names allowed rest n code (instr.Deregister x1) c st t r m k = absurd t.names
+act_again s a names allowed rest n code (instr.Close x1 x2) c st t r m k = absurd t.names
+act_again s a names allowed rest n code (instr.Receive x1 x2 x3 x4 x5 x6 x7) c st t r m k = absurd t.names
+act_again s a names allowed rest n code (instr.Case x1 x2) c st t r m k = absurd t.names
+act_again s a names allowed rest n code (instr.Back) c st t r m k = absurd t.names
+act_again s a names allowed rest n code (instr.End x1) c st t r m k = absurd (true≢false (sym t.before.act))

@@ -1,8 +1,8 @@
 -- An agent that is written passes the reader, and is read as it was.
-use Rattle.std.proofs.Common.{◌≡◌, ℕ, ◌<◌, ◌≤◌, suc, zero, ℤ, pos, List, [], ◌∷◌, ◌++◌, length, get_or, take, map, codes, bytes_eq, true, false, Option, Some, None, option_map, option_and_then, is_some, Result, Ok, refl, sym, ap, ◌∙◌, subst, arith, append_assoc}
+use Rattle.std.proofs.Common.{◌≡◌, ℕ, ◌<◌, ◌≤◌, ◌^◌, suc, zero, ℤ, pos, List, [], ◌∷◌, ◌++◌, length, get_or, take, map, codes, bytes_eq, true, false, Option, Some, None, option_map, option_and_then, is_some, Result, Ok, refl, sym, ap, ◌∙◌, subst, arith, append_assoc}
 use Rattle.std.specs.List.{AllByRecursion, IsDistinct}
-use Rattle.std.proofs.lemmas.Bool.{le-leb, le-ltb}
-use Rattle.std.specs.Prelude.{unwrap_or}
+use Rattle.std.proofs.lemmas.Bool.{le-leb, le-ltb, lt-ltb}
+use Rattle.std.specs.Prelude.{min, unwrap_or}
 use Rattle.std.proofs.Math.Bridge.{le_prop}
 use Rattle.std.proofs.lemmas.List.{append-nil}
 use Rattle.std.proofs.lemmas.Option.{none-some}
@@ -12,7 +12,6 @@ use Rattle.serde_json.specs.Find.{as_str, get}
 use Rattle.serde_json.specs.View.{items_of}
 use Rattle.so_ids.specs.declared.DispId.{DispId}
 use Rattle.so_ids.specs.declared.Priority.{Priority}
-use Rattle.so_code.specs.declared.instr.Body.TheVariants as body
 use Rattle.so_code.specs.Values.{fits}
 use Rattle.so_state.specs.declared.choice.Row.{Row}
 use Rattle.so_state.specs.declared.states.State.{State}
@@ -46,16 +45,16 @@ use Rattle.so_scene_json.specs.declared.values.Trouble.{Trouble}
 use Rattle.so_scene_json.specs.declared.write.Writer.{Writer}
 use Rattle.so_scene_json.specs.Table.{required, optional, later}
 use Rattle.so_scene_json.specs.Build.{build_step, agent_added, agent_written, agent_with, with_agent, with_code, tree_of, is_long, written, fresh}
-use Rattle.so_scene_json.specs.Defs.{disp_in, least_priority, narrow_or_zero, state_of, row_of, filter_of, states_of as states_read, rows_of as rows_read, filters_of as filters_read, vars_in, var_at}
+use Rattle.so_scene_json.specs.Defs.{disp_in, level_in, priority_in, narrow_or_zero, state_of, row_of, filter_of, states_of as states_read, rows_of as rows_read, filters_of as filters_read, vars_in, var_at}
 use Rattle.so_scene_json.specs.Groups.{with_group, group_number}
 use Rattle.so_scene_json.specs.Known.{known_step, group_fault, group_unfit, kind_at}
 use Rattle.so_scene_json.specs.Scope.{scope_of, names_of, ids_of, state_items, row_items, filter_items}
 use Rattle.so_scene_json.specs.Shape.{shape_step, has_unknown, is_known, list_trouble, number_trouble, object_trouble, trouble_at, unless_faulty}
 use Rattle.so_scene_json.specs.Twice.{twice_step, disp_number, disp_number_in, names_in}
-use Rattle.so_scene_json.specs.Values.{name_in, id_in, group_in, ok_or, checked, text_or_empty}
+use Rattle.so_scene_json.specs.Values.{name_in, number_of, id_in, group_in, ok_or, read_or, checked, text_or_empty}
 use Rattle.so_scene_json.specs.Visits.{Visit, enters, tries, leaves, list_of, narrow, at_key, Place, visits, fields_of, field_visits, items_from, run, at_item, ◌>>=◌}
 use Rattle.so_scene_writer.specs.Sources.{behind, StateSource, RowSource, states_of, rows_of, behind_states, start_acts, finish_acts}
-use Rattle.so_scene_writer.specs.ActData.{text_data, acts_data, disp_text, group_at, group_text}
+use Rattle.so_scene_writer.specs.ActData.{text_data, count_data, acts_data, disp_text, group_at, group_text}
 use Rattle.so_scene_writer.specs.Canonical.{given as given_field, agent_data, state_data, row_data, filter_data, number_data, list_data}
 use Rattle.so_scene_writer.proofs.Writable.{IsWritable, AreNumbered, texts_behind}
 use Rattle.so_scene_writer.proofs.Named.{name_utf8, next_new, next_distinct}
@@ -83,6 +82,9 @@ group_rule = optional field.Group form.Name
 abbrev group_field : SceneParts → AgentDef → Option Data
 group_field s a = option_map text_data (group_text s a)
 
+abbrev priority_rule : Rule
+priority_rule = optional field.Priority (form.Number 0 7)
+
 abbrev vars_rule : Rule
 vars_rule = optional field.Vars (form.Numbers 16)
 
@@ -101,38 +103,39 @@ finish_rule = optional field.Finish (form.Acts AnyAct)
 abbrev on_rule : Rule
 on_rule = optional field.On (form.Objects object.Row (Some 128))
 
--- a field is tried, and the pass stays as it was
-abbrev pub Tries : {S : Type 0} → (S → Visit → Result S SceneFault) → S → Place → Rule → Option Data → Type 0
-Tries step s place rule found = step s (tries rule (at_key place rule) found) ≡ Ok s
+-- a field of an object is tried, and the pass stays as it was
+abbrev pub Tries : {S : Type 0} → (S → Visit → Result S SceneFault) → S → Place → Data → Rule → Option Data → Type 0
+Tries step s place d rule found = step s (tries rule (at_key place rule) d found) ≡ Ok s
 
 abbrev pub Passes : {S : Type 0} → (S → Visit → Result S SceneFault) → S → S → ℕ → Place → Rule → ObjectKind → Items → Type 0
 Passes step s t n place rule kind ds = run step s (items_from (visits n kind) (at_key place rule) 0 ds) ≡ Ok t
 
 agent_run : {S : Type 0} (step : S → Visit → Result S SceneFault) (r t u v w : S) (n : ℕ) (s : SceneParts) (a : AgentDef) (place : Place)
-    → ((f : Field) (x : S) → Tries step x place (later f) None)
+    → ((f : Field) (x : S) → Tries step x place (agent_data s a) (later f) None)
     → step r (enters object.Agent place (agent_data s a)) ≡ Ok t
-    → Tries step t place name_rule (Some (text_data a.name))
-    → Tries step t place disp_rule (Some (text_data (disp_text s a.disp)))
-    → Tries step t place group_rule (group_field s a)
-    → Tries step t place vars_rule (Some (list_data number_data a.vars.0))
-    → Tries step t place states_rule (Some (list_data (state_data s a) (states_of a)))
+    → Tries step t place (agent_data s a) name_rule (Some (text_data a.name))
+    → Tries step t place (agent_data s a) disp_rule (Some (text_data (disp_text s a.disp)))
+    → Tries step t place (agent_data s a) group_rule (group_field s a)
+    → Tries step t place (agent_data s a) priority_rule (Some (count_data a.priority.level))
+    → Tries step t place (agent_data s a) vars_rule (Some (list_data number_data a.vars.0))
+    → Tries step t place (agent_data s a) states_rule (Some (list_data (state_data s a) (states_of a)))
     → Passes step t u (suc n) place states_rule object.State (items_of (map (state_data s a) (states_of a)))
-    → Tries step u place filters_rule (Some (list_data (filter_data s) a.filters))
+    → Tries step u place (agent_data s a) filters_rule (Some (list_data (filter_data s) a.filters))
     → Passes step u v (suc n) place filters_rule object.Filter (items_of (map (filter_data s) a.filters))
-    → Tries step v place start_rule (Some (acts_data s a (start_acts a)))
-    → Tries step v place finish_rule (Some (acts_data s a (finish_acts a)))
-    → Tries step v place on_rule (Some (list_data (row_data s a) (rows_of a)))
+    → Tries step v place (agent_data s a) start_rule (Some (acts_data s a (start_acts a)))
+    → Tries step v place (agent_data s a) finish_rule (Some (acts_data s a (finish_acts a)))
+    → Tries step v place (agent_data s a) on_rule (Some (list_data (row_data s a) (rows_of a)))
     → Passes step v w (suc n) place on_rule object.Row (items_of (map (row_data s a) (rows_of a)))
     → step w (leaves object.Agent place (agent_data s a)) ≡ Ok w
     → run step r (visits (suc (suc n)) object.Agent place (agent_data s a)) ≡ Ok w
-agent_run step r t u v w n s a place skip enter name disp group vars st states ft filters start finish ot on leave =
+agent_run step r t u v w n s a place skip enter name disp group priority vars st states ft filters start finish ot on leave =
     let d : Data = agent_data s a in
     let inside : ObjectKind → Place → Data → List Visit = visits (suc n) in
     object_run step r t w w (suc n) object.Agent place d enter
     (field_run step t t w inside _ _ place d (plain_found step t t inside name_rule _ place d refl (got s a (codes "name") (λ x y. refl)) name)
     (field_run step t t w inside _ _ place d (plain_field step t t inside disp_rule place d refl disp)
     (field_run step t t w inside _ _ place d (plain_found step t t inside group_rule _ place d refl (got_group s a) group)
-    (field_run step t t w inside _ _ place d (plain_found step t t inside (later field.Priority) None place d refl (got s a (codes "priority") (λ x y. refl)) (skip field.Priority t))
+    (field_run step t t w inside _ _ place d (plain_found step t t inside priority_rule _ place d refl (got s a (codes "priority") (λ x y. refl)) priority)
     (field_run step t t w inside _ _ place d (plain_found step t t inside (later field.Reaction) None place d refl (got s a (codes "reaction") (λ x y. refl)) (skip field.Reaction t))
     (field_run step t t w inside _ _ place d (plain_found step t t inside (later field.Native) None place d refl (got s a (codes "native") (λ x y. refl)) (skip field.Native t))
     (field_run step t t w inside _ _ place d (plain_found step t t inside vars_rule _ place d refl (got s a (codes "vars") (λ x y. refl)) vars)
@@ -146,46 +149,46 @@ agent_run step r t u v w n s a place skip enter name disp group vars st states f
 
 -- ---- the first pass
 
-enters_at : (sh : Shape) (place : Place) (disp filters finish : Data) (o : Option Data) (name on start states vars : Data) → shape_step sh (enters object.Agent place (object
+enters_at : (sh : Shape) (place : Place) (disp filters finish : Data) (o : Option Data) (name on priority start states vars : Data) → shape_step sh (enters object.Agent place (object
     (member (codes "disp") disp (member (codes "filters") filters (member (codes "finish") finish (given_field (codes "group") o
-    (member (codes "name") name (member (codes "on") on (member (codes "start") start (member (codes "states") states (member (codes "vars") vars no_members))))))))))) ≡ Ok sh
+    (member (codes "name") name (member (codes "on") on (member (codes "priority") priority (member (codes "start") start (member (codes "states") states (member (codes "vars") vars no_members)))))))))))) ≡ Ok sh
 unfolding has_unknown is_known
-enters_at sh place disp filters finish None name on start states vars = refl
-enters_at sh place disp filters finish (Some g) name on start states vars = refl
+enters_at sh place disp filters finish None name on priority start states vars = refl
+enters_at sh place disp filters finish (Some g) name on priority start states vars = refl
 
 agent_enters : (sh : Shape) (s : SceneParts) (a : AgentDef) (place : Place) → shape_step sh (enters object.Agent place (agent_data s a)) ≡ Ok sh
 unfolding has_unknown is_known
 agent_enters sh s a place =
     enters_at sh place (text_data (disp_text s a.disp)) (list_data (filter_data s) a.filters) (acts_data s a (finish_acts a)) (group_field s a) (text_data a.name)
-    (list_data (row_data s a) (rows_of a)) (acts_data s a (start_acts a)) (list_data (state_data s a) (states_of a)) (list_data number_data a.vars.0)
+    (list_data (row_data s a) (rows_of a)) (count_data a.priority.level) (acts_data s a (start_acts a)) (list_data (state_data s a) (states_of a)) (list_data number_data a.vars.0)
 
 pub list_fine : {X : Type 0} (f : Data → Option Trouble) (shown : X → Data) (limit : ℕ) (xs : List X) → length xs ≤ limit → AllByRecursion (λ x. f (shown x) ≡ None) xs → list_trouble (Some limit) f (Some (items_of (map shown xs))) ≡ None
 list_fine f shown limit xs l h = rw (shown_len shown xs, le-leb (length xs) limit l) (first_fine f shown xs h)
 
-vars_shape : (sh : Shape) (s : SceneParts) (a : AgentDef) (place : Place) → Told s a → Tries shape_step sh place vars_rule (Some (list_data number_data a.vars.0))
+vars_shape : (sh : Shape) (s : SceneParts) (a : AgentDef) (place : Place) → Told s a → Tries shape_step sh place (agent_data s a) vars_rule (Some (list_data number_data a.vars.0))
 vars_shape sh s a place c =
     let len : length a.vars.0 ≡ 16 = c.agent.vars in
     rw (list_fine number_trouble number_data 16 a.vars.0 (omega arith) (each-weaker (λ z. fits z ≡ true) (λ z. number_trouble (number_data z) ≡ None) (λ z e. rw (number_again z e)) a.vars.0 c.written.vars))
 
-states_shape : (sh : Shape) (s : SceneParts) (a : AgentDef) (place : Place) → Told s a → Tries shape_step sh place states_rule (Some (list_data (state_data s a) (states_of a)))
+states_shape : (sh : Shape) (s : SceneParts) (a : AgentDef) (place : Place) → Told s a → Tries shape_step sh place (agent_data s a) states_rule (Some (list_data (state_data s a) (states_of a)))
 states_shape sh s a place c =
     let few : length a.tree ≤ 63 = c.agent.tree.few in
     let len : length (states_of a) ≡ length a.tree = states_len a.state_names a.tree (behind (behind a.code)) c.agent.state_names in
     rw (list_fine object_trouble (state_data s a) 63 (states_of a) (omega arith) (every (λ x. object_trouble (state_data s a x) ≡ None) (λ x. refl) (states_of a)))
 
-filters_shape : (sh : Shape) (s : SceneParts) (a : AgentDef) (place : Place) → Told s a → Tries shape_step sh place filters_rule (Some (list_data (filter_data s) a.filters))
+filters_shape : (sh : Shape) (s : SceneParts) (a : AgentDef) (place : Place) → Told s a → Tries shape_step sh place (agent_data s a) filters_rule (Some (list_data (filter_data s) a.filters))
 filters_shape sh s a place c = rw (list_fine object_trouble (filter_data s) 32 a.filters c.agent.few_filters (every (λ x. object_trouble (filter_data s x) ≡ None) (λ x. refl) a.filters))
 
-rows_shape : (sh : Shape) (s : SceneParts) (a : AgentDef) (place : Place) → Told s a → Tries shape_step sh place on_rule (Some (list_data (row_data s a) (rows_of a)))
+rows_shape : (sh : Shape) (s : SceneParts) (a : AgentDef) (place : Place) → Told s a → Tries shape_step sh place (agent_data s a) on_rule (Some (list_data (row_data s a) (rows_of a)))
 rows_shape sh s a place c =
     let few : length a.rows ≤ 128 = c.agent.few_rows in
     let len : length (rows_of a) ≡ length a.rows = rows_len a.row_ids a.rows (behind_states (length a.tree) (behind (behind a.code))) c.agent.row_ids in
     rw (list_fine object_trouble (row_data s a) 128 (rows_of a) (omega arith) (every (λ x. object_trouble (row_data s a x) ≡ None) (λ x. refl) (rows_of a)))
 
-name_shape : (sh : Shape) (place : Place) (name : List ℕ) → is_name name ≡ true → Tries shape_step sh place name_rule (Some (text_data name))
-name_shape sh place name e = rw (name_read name e)
+name_shape : (sh : Shape) (place : Place) (d : Data) (name : List ℕ) → is_name name ≡ true → Tries shape_step sh place d name_rule (Some (text_data name))
+name_shape sh place d name e = rw (name_read name e)
 
-disp_field_shape : (sh : Shape) (s : SceneParts) (a : AgentDef) (place : Place) → Told s a → Tries shape_step sh place disp_rule (Some (text_data (disp_text s a.disp)))
+disp_field_shape : (sh : Shape) (s : SceneParts) (a : AgentDef) (place : Place) → Told s a → Tries shape_step sh place (agent_data s a) disp_rule (Some (text_data (disp_text s a.disp)))
 disp_field_shape sh s a place c = rw (name_read (disp_text s a.disp) (disp_legal s a.disp c.scene c.agent.disp)) refl
 
 -- the group of an agent is one of its dispatcher's
@@ -207,19 +210,26 @@ group_legal_at s d (Some g) h l f = (h.groups d l).named g [] (f g refl)
 group_legal : (s : SceneParts) (a : AgentDef) → Told s a → IsId (group_text s a)
 group_legal s a c = group_legal_at s a.disp a.group c.scene c.agent.disp (λ g e. group_within (scene_disp s a.disp).kind (length (groups_of s a.disp)) a.group g c.agent.group e)
 
-group_shape_at : (sh : Shape) (place : Place) (o : Option (List ℕ)) → IsId o → Tries shape_step sh place group_rule (option_map text_data o)
-group_shape_at sh place None h = refl
-group_shape_at sh place (Some name) h = rw (name_read name h) refl
+group_shape_at : (sh : Shape) (place : Place) (d : Data) (o : Option (List ℕ)) → IsId o → Tries shape_step sh place d group_rule (option_map text_data o)
+group_shape_at sh place d None h = refl
+group_shape_at sh place d (Some name) h = rw (name_read name h) refl
 
-start_shape : (sh : Shape) (s : SceneParts) (a : AgentDef) (place : Place) → Told s a → Tries shape_step sh place start_rule (Some (acts_data s a (start_acts a)))
-start_shape sh s a place c = rw (acts_shape s a body.Start (start_acts a) (at_key place start_rule) c (agent_start s a c))
+-- the priority is read again
+level_again : (n : ℕ) → n ≤ 7 → number_of 0 7 (count_data n) ≡ Ok n
+level_again n h = rw (lt-ltb n (2 ^ 63) (omega arith), le-leb n 7 h, le-leb 0 n (omega arith)) refl
 
-finish_shape : (sh : Shape) (s : SceneParts) (a : AgentDef) (place : Place) → Told s a → Tries shape_step sh place finish_rule (Some (acts_data s a (finish_acts a)))
-finish_shape sh s a place c = rw (acts_shape s a body.Finish (finish_acts a) (at_key place finish_rule) c (agent_finish s a c))
+priority_shape : (sh : Shape) (s : SceneParts) (a : AgentDef) (place : Place) → Tries shape_step sh place (agent_data s a) priority_rule (Some (count_data a.priority.level))
+priority_shape sh s a place = rw (level_again a.priority.level a.priority.in_range) refl
+
+start_shape : (sh : Shape) (s : SceneParts) (a : AgentDef) (place : Place) → Told s a → Tries shape_step sh place (agent_data s a) start_rule (Some (acts_data s a (start_acts a)))
+start_shape sh s a place c = rw (acts_shape s a AnyAct (start_acts a) (at_key place start_rule) c (agent_start s a c))
+
+finish_shape : (sh : Shape) (s : SceneParts) (a : AgentDef) (place : Place) → Told s a → Tries shape_step sh place (agent_data s a) finish_rule (Some (acts_data s a (finish_acts a)))
+finish_shape sh s a place c = rw (acts_shape s a AnyAct (finish_acts a) (at_key place finish_rule) c (agent_finish s a c))
 
 pub agent_shape : (sh : Shape) (s : SceneParts) (n : ℕ) (a : AgentDef) (place : Place) → Told s a → run shape_step sh (visits (suc (suc n)) object.Agent place (agent_data s a)) ≡ Ok sh
 agent_shape sh s n a place c =
-    agent_run shape_step sh sh sh sh sh n s a place (λ f x. refl) (agent_enters sh s a place) (name_shape sh place a.name c.written.name) (disp_field_shape sh s a place c) (group_shape_at sh place (group_text s a) (group_legal s a c)) (vars_shape sh s a place c)
+    agent_run shape_step sh sh sh sh sh n s a place (λ f x. refl) (agent_enters sh s a place) (name_shape sh place (agent_data s a) a.name c.written.name) (disp_field_shape sh s a place c) (group_shape_at sh place (agent_data s a) (group_text s a) (group_legal s a c)) (priority_shape sh s a place) (vars_shape sh s a place c)
     (states_shape sh s a place c) (run_same shape_step (visits (suc n) object.State) (state_data s a) (IsStateOf s a) sh (λ x p h. state_shape sh s a n x p c h) (states_of a) _ 0 (agent_states s a c))
     (filters_shape sh s a place c) (run_same shape_step (visits (suc n) object.Filter) (filter_data s) (IsFilterOf s) sh (λ x p h. filter_shape sh s n x p c.writable h) a.filters _ 0 (agent_filters s a c))
     (start_shape sh s a place c) (finish_shape sh s a place c)
@@ -291,7 +301,7 @@ agent_twice d s n a place c e =
     let once : IsDistinct bytes_eq (map (λ x. x.name) (states_of a)) = subst (IsDistinct bytes_eq) (sym (states_named a.state_names a.tree (behind (behind a.code)) c.agent.state_names)) c.agent.each_state_once in
     let ids : IsDistinct bytes_eq (given (map (λ x. x.id) (rows_of a))) = subst (λ l. IsDistinct bytes_eq (given l)) (sym (rows_ids a.row_ids a.rows (behind_states (length a.tree) (behind (behind a.code))) c.agent.row_ids)) c.agent.each_row_id_once in
     agent_run twice_step d (entered d a) (record d { agents = d.agents ++ a.name ∷ []; states = map (λ x. x.name) (states_of a); rows = []; filters = [] }) (record d { agents = d.agents ++ a.name ∷ []; states = map (λ x. x.name) (states_of a); rows = []; filters = given (filter_ids a) }) (with_agent_names d a) n s a place
-    (λ f x. refl) (enter_twice d s a place c.written.name e) refl refl refl refl
+    (λ f x. refl) (enter_twice d s a place c.written.name e) refl refl refl refl refl
     refl (states_twice s a n (entered d a) (states_of a) _ 0 c (agent_states s a c) once)
     refl (filters_twice s n _ a.filters _ 0 c.writable (agent_filters s a c) c.agent.each_filter_id_once)
     refl refl refl (rows_twice s a n _ (rows_of a) _ 0 c (agent_rows s a c) ids) refl
@@ -325,25 +335,25 @@ scope_again s a c = scope_same _ _ _ _ _ _ (names_again s a c) (row_ids_again s 
 abbrev knows_in : Declared → Scope → Known
 knows_in names scope = record { names = names; scope = scope }
 
-start_known : (s : SceneParts) (a : AgentDef) (names : Declared) (place : Place) → Told s a → Stands s names → Tries known_step (knows_at names a) place start_rule (Some (acts_data s a (start_acts a)))
-start_known s a names place c st = rw (acts_known s a names body.Start (start_acts a) (at_key place start_rule) c st (agent_start s a c))
+start_known : (s : SceneParts) (a : AgentDef) (names : Declared) (place : Place) → Told s a → Stands s names → Tries known_step (knows_at names a) place (agent_data s a) start_rule (Some (acts_data s a (start_acts a)))
+start_known s a names place c st = rw (acts_known s a names AnyAct (start_acts a) (at_key place start_rule) c st (agent_start s a c))
 
-finish_known : (s : SceneParts) (a : AgentDef) (names : Declared) (place : Place) → Told s a → Stands s names → Tries known_step (knows_at names a) place finish_rule (Some (acts_data s a (finish_acts a)))
-finish_known s a names place c st = rw (acts_known s a names body.Finish (finish_acts a) (at_key place finish_rule) c st (agent_finish s a c))
+finish_known : (s : SceneParts) (a : AgentDef) (names : Declared) (place : Place) → Told s a → Stands s names → Tries known_step (knows_at names a) place (agent_data s a) finish_rule (Some (acts_data s a (finish_acts a)))
+finish_known s a names place c st = rw (acts_known s a names AnyAct (finish_acts a) (at_key place finish_rule) c st (agent_finish s a c))
 
 disp_again : (s : SceneParts) (names : Declared) (a : AgentDef) → Told s a → Stands s names → disp_number_in names (agent_data s a) ≡ Some a.disp.0
 disp_again s names a c st =
     ap (λ (d : Data). disp_number names (as_str d)) (shown_name (disp_text s a.disp) (disp_legal s a.disp c.scene c.agent.disp)) ∙ disp_number_again s names a.disp c.scene st c.agent.disp
 
-disp_field_known : (s : SceneParts) (a : AgentDef) (names : Declared) (place : Place) → Told s a → Stands s names → Tries known_step (knows_at names a) place disp_rule (Some (text_data (disp_text s a.disp)))
+disp_field_known : (s : SceneParts) (a : AgentDef) (names : Declared) (place : Place) → Told s a → Stands s names → Tries known_step (knows_at names a) place (agent_data s a) disp_rule (Some (text_data (disp_text s a.disp)))
 disp_field_known s a names place c st =
     let k : Known = knows_at names a in
-    ap (λ (d : Data). known_step k (tries disp_rule (at_key place disp_rule) (Some d))) (shown_name (disp_text s a.disp) (disp_legal s a.disp c.scene c.agent.disp))
+    ap (λ (d : Data). known_step k (tries disp_rule (at_key place disp_rule) (agent_data s a) (Some d))) (shown_name (disp_text s a.disp) (disp_legal s a.disp c.scene c.agent.disp))
     ∙ ap (λ (t : Option Trouble). unless_faulty k (trouble_at (at_key place disp_rule) t)) (is_there (names_in space.Dispatchers names) (disp_text s a.disp) a.disp.0 (disp_number_again s names a.disp c.scene st c.agent.disp))
 
-group_field_known : (k : Known) (place : Place) (o : Option Data) → Tries known_step k place group_rule o
-group_field_known k place None = refl
-group_field_known k place (Some d) = refl
+group_field_known : (k : Known) (place : Place) (x : Data) (o : Option Data) → Tries known_step k place x group_rule o
+group_field_known k place x None = refl
+group_field_known k place x (Some d) = refl
 
 -- an agent has a group exactly where its dispatcher wants one
 group_fits : (kind : DispKind) (n : ℕ) (place : Place) (f : ℕ → List ℕ) (o : Option ℕ) → IsGroup kind n o → group_unfit (Some kind) place (is_some (option_map text_data (option_map f o))) ≡ None
@@ -373,7 +383,7 @@ enter_known s names scope a place c st =
 pub agent_known : (s : SceneParts) (names : Declared) (scope : Scope) (n : ℕ) (a : AgentDef) (place : Place) → Told s a → Stands s names → run known_step (knows_in names scope) (visits (suc (suc n)) object.Agent place (agent_data s a)) ≡ Ok (knows_at names a)
 agent_known s names scope n a place c st =
     let k : Known = knows_at names a in
-    agent_run known_step (knows_in names scope) k k k k n s a place (λ f x. refl) (enter_known s names scope a place c st) refl (disp_field_known s a names place c st) (group_field_known k place (group_field s a)) refl
+    agent_run known_step (knows_in names scope) k k k k n s a place (λ f x. refl) (enter_known s names scope a place c st) refl (disp_field_known s a names place c st) (group_field_known k place (agent_data s a) (group_field s a)) refl refl
     refl (run_same known_step (visits (suc n) object.State) (state_data s a) (IsStateOf s a) k (λ x p h. state_known s a names n x p c st h) (states_of a) _ 0 (agent_states s a c))
     refl (run_same known_step (visits (suc n) object.Filter) (filter_data s) (IsFilterOf s) k (λ x p h. filter_known k s n x p c.scene c.writable st h) a.filters _ 0 (agent_filters s a c))
     (start_known s a names place c st) (finish_known s a names place c st)
@@ -408,16 +418,20 @@ filters_again s a names c st =
     map_again (filter_data s) (filter_of names) (λ x. x) a.filters (each-weaker (IsFilterOf s) (λ x. filter_of names (filter_data s x) ≡ x) (λ x h. filter_read names s x c.scene c.writable st h) a.filters (agent_filters s a c))
     ∙ map_same a.filters
 
--- the least priority is the only one, so far
-abbrev at_least : 0 ≤ 7 → Priority
-at_least in_range = record { level = 0; in_range = in_range }
+abbrev levelled : (n : ℕ) → n ≤ 7 → Priority
+levelled n in_range = record { level = n; in_range = in_range }
 
-least_at : (n : ℕ) (in_range : n ≤ 7) → n ≡ 0 → least_priority ≡ record { level = n; in_range = in_range }
-least_at zero in_range e = ap at_least (le_prop least_priority.in_range in_range)
-least_at (suc n) in_range e = absurd (omega arith)
+same_level : (n m : ℕ) (l : n ≤ 7) (k : m ≤ 7) → n ≡ m → levelled n l ≡ levelled m k
+same_level n m l k e = subst (λ (j : ℕ). (q : j ≤ 7) → levelled n l ≡ levelled j q) e (λ q. ap (levelled n) (le_prop l q)) k
 
-least : (p : Priority) → p.level ≡ 0 → least_priority ≡ p
-least p e = least_at p.level p.in_range e
+level_read : (s : SceneParts) (a : AgentDef) → level_in (agent_data s a) ≡ a.priority.level
+level_read s a = ap (λ (o : Option Data). read_or 0 (number_of 0 7) o) (got s a (codes "priority") (λ x y. refl)) ∙ ap (ok_or 0) (level_again a.priority.level a.priority.in_range)
+
+least_of : (n m : ℕ) → n ≡ m → m ≤ 7 → min n 7 ≡ m
+least_of n m e l = omega arith
+
+priority_read : (s : SceneParts) (a : AgentDef) → priority_in (agent_data s a) ≡ a.priority
+priority_read s a = same_level _ _ _ a.priority.in_range (least_of (level_in (agent_data s a)) a.priority.level (level_read s a) a.priority.in_range)
 
 agent_made : (a : AgentDef) (name : List ℕ) (coop disp : ℕ) (group : Option ℕ) (priority : Priority) (vars : List ℤ) (rows : List Row) (filters : List FilterDef)
     → name ≡ a.name → coop ≡ a.coop.0 → disp ≡ a.disp.0 → group ≡ a.group → priority ≡ a.priority → vars ≡ a.vars.0 → rows ≡ a.rows → filters ≡ a.filters
@@ -455,7 +469,7 @@ agent_read : (k : ℕ) (s : SceneParts) (a : AgentDef) (names : Declared) (group
 agent_read k s a names groups c st g =
     agent_made a _ _ _ _ _ _ _ _ (agent_name_read s a c.written.name) (sym c.agent.coop) (disp_id_again s names a c st)
     (ap (λ (d : DispId). group_number d (group_in (agent_data s a)) groups) (disp_in_again s names a c st) ∙ (ap (λ (o : Option (List ℕ)). group_number a.disp o groups) (group_in_again s a c) ∙ g))
-    (least a.priority c.agent.priority) (vars_found s a c) (rows_again k s a names c st) (filters_again s a names c st)
+    (priority_read s a) (vars_found s a c) (rows_again k s a names c st) (filters_again s a names c st)
 
 abbrev fresh_at : List (List ℕ) → Scope → Writer
 fresh_at texts scope = record { texts = texts; code = []; scope = scope }
@@ -523,7 +537,7 @@ pub agent_build : (s : SceneParts) (names : Declared) (coops : List (List ℕ)) 
     → run build_step (built s names coops agents n groups) (visits (suc (suc k)) object.Agent place (agent_data s a)) ≡ Ok (built s names coops (agents ++ a ∷ []) (texts_behind n a.code) (regrouped s groups a))
 agent_build s names coops agents n groups k a place c st m l g =
     let b : Build = built s names coops (agents ++ a ∷ []) (texts_behind n a.code) (regrouped s groups a) in
-    agent_run build_step (built s names coops agents n groups) b b b b k s a place (λ f x. refl) (agent_opens s names coops agents n groups a place c st m l g) refl refl refl refl
+    agent_run build_step (built s names coops agents n groups) b b b b k s a place (λ f x. refl) (agent_opens s names coops agents n groups a place c st m l g) refl refl refl refl refl
     refl (run_same build_step (visits (suc k) object.State) (state_data s a) (λ x. Unit {0}) b (λ x p h. state_build b k (state_data s a x) p) (states_of a) _ 0 (all_unit (states_of a)))
     refl (run_same build_step (visits (suc k) object.Filter) (filter_data s) (λ x. Unit {0}) b (λ x p h. filter_build b k (filter_data s x) p) a.filters _ 0 (all_unit a.filters))
     refl refl refl (run_same build_step (visits (suc k) object.Row) (row_data s a) (λ x. Unit {0}) b (λ x p h. row_build b k (row_data s a x) p) (rows_of a) _ 0 (all_unit (rows_of a))) refl

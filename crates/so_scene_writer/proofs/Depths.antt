@@ -1,6 +1,6 @@
 -- How deep the data of a scene is.
 use Rattle.std.proofs.Common.{◌≡◌, ℕ, ◌≤◌, suc, max, List, [], ◌∷◌, codes, map, take, Bool, true, false, Option, Some, None, option_map, refl, arith, if◌then◌else◌}
-use Rattle.serde_json.specs.Data.{Data, array, object, string, Members, no_members, member, depth, items_depth, members_depth}
+use Rattle.serde_json.specs.Data.{Data, array, object, string, boolean, Members, no_members, member, depth, items_depth, members_depth}
 use Rattle.serde_json.specs.View.{items_of}
 use Rattle.so_code.specs.declared.instr.Args.{Args}
 use Rattle.so_code.specs.declared.instr.Dest.{Dest}
@@ -18,11 +18,11 @@ use Rattle.so_scene.specs.declared.parts.DispDef.{DispDef}
 use Rattle.so_scene.specs.declared.parts.FilterDef.{FilterDef}
 use Rattle.so_scene.specs.declared.parts.MessageDef.{MessageDef}
 use Rattle.so_scene.specs.declared.parts.SceneParts.{SceneParts}
-use Rattle.so_scene.specs.Checked.{is_pool}
+use Rattle.so_scene.specs.Checked.{is_pool, has_quotes}
 use Rattle.so_scene.specs.Parts.{mbox_name}
 use Rattle.so_scene_writer.specs.Sources.{StateSource, RowSource, states_of, rows_of, start_acts, finish_acts}
 use Rattle.so_scene_writer.specs.ActData.{text_data, count_data, group_text, message_text, state_text, operand_data, dest_data, args_data, act_data, acts_data}
-use Rattle.so_scene_writer.specs.Canonical.{declared, disp_data, disp_kind_word, fifo_word, of_pool, given, list_data, number_data, message_data, state_data, filter_data, row_data, agent_data, coop_data, scene_data, dead_data, do_data, row_state_data, suppress_data, switch_data, transfer_data}
+use Rattle.so_scene_writer.specs.Canonical.{declared, disp_data, disp_kind_word, fifo_word, of_pool, of_quoted, given, list_data, number_data, message_data, state_data, filter_data, row_data, agent_data, coop_data, scene_data, dead_data, do_data, row_state_data, suppress_data, switch_data, transfer_data}
 
 both_under : (a b n : ℕ) → a ≤ n → b ≤ n → max a b ≤ n
 both_under a b n h l = omega arith
@@ -136,7 +136,7 @@ row_under s a x =
     let m6 : Members = given (codes "switch") (switch_data a x.row.kind) m7 in
     let m5 : Members = given (codes "suppress") (suppress_data x.row.kind) m6 in
     let m4 : Members = given (codes "state") (row_state_data a x.row.state x.row.kind) m5 in
-    let m3 : Members = member (codes "mbox") (text_data (mbox_name s x.row.mbox)) (member (codes "msg") (text_data (message_text s x.row.msg)) m4) in
+    let m3 : Members = member (codes "mbox") (text_data (mbox_name s x.row.mbox)) (member (codes "msg") (text_data (message_text s x.row.msg)) (member (codes "safe") (boolean x.row.safe) m4)) in
     let m2 : Members = given (codes "id") (option_map text_data x.id) m3 in
     let m1 : Members = given (codes "do") (do_data s a x.acts x.row.kind) m2 in
     let m0 : Members = given (codes "dead") (dead_data x.row.kind) m1 in
@@ -152,7 +152,7 @@ row_under s a x =
 
 agent_under : (s : SceneParts) (a : AgentDef) → depth (agent_data s a) ≤ 5
 agent_under s a =
-    let m : Members = member (codes "name") (text_data a.name) (member (codes "on") (list_data (row_data s a) (rows_of a)) (member (codes "start") (acts_data s a (start_acts a)) (member (codes "states") (list_data (state_data s a) (states_of a)) (member (codes "vars") (list_data number_data a.vars.0) no_members)))) in
+    let m : Members = member (codes "name") (text_data a.name) (member (codes "on") (list_data (row_data s a) (rows_of a)) (member (codes "priority") (count_data a.priority.level) (member (codes "start") (acts_data s a (start_acts a)) (member (codes "states") (list_data (state_data s a) (states_of a)) (member (codes "vars") (list_data number_data a.vars.0) no_members))))) in
     let g : Members = given (codes "group") (option_map text_data (group_text s a)) m in
     let p : depth (list_data (filter_data s) a.filters) ≤ 4 = array_under 3 (filter_data s) a.filters (filter_under s) in
     let q : depth (list_data (row_data s a) (rows_of a)) ≤ 4 = array_under 3 (row_data s a) (rows_of a) (row_under s a) in
@@ -170,18 +170,22 @@ coop_under s c = let p : depth (list_data (agent_data s) s.agents) ≤ 6 = array
 message_under : (m : MessageDef) → depth (message_data m) ≤ 1
 message_under m = omega arith
 
-pool_under : (pool : Bool) (d : Data) → depth d ≤ 0 → OptionUnder 0 (if pool then Some d else None)
-pool_under true d h = h
-pool_under false d h = tt
+kept_under : (kept : Bool) (d : Data) → depth d ≤ 1 → OptionUnder 1 (if kept then Some d else None)
+kept_under true d h = h
+kept_under false d h = tt
 
-disp_under : (d : DispDef) → depth (disp_data d) ≤ 1
+disp_under : (d : DispDef) → depth (disp_data d) ≤ 2
 disp_under d =
     let o : Option Data = of_pool d.kind (count_data d.threads) in
-    let p : members_depth (given (codes "threads") o no_members) ≤ 0 = given_under 0 (codes "threads") o no_members (pool_under (is_pool d.kind) (count_data d.threads) (omega arith)) (omega arith) in
-    let ms : Members = member (codes "kind") (string (disp_kind_word d.kind)) (member (codes "name") (text_data d.name) (given (codes "threads") o no_members)) in
+    let behind : Members = given (codes "threads") o no_members in
+    let p : members_depth behind ≤ 1 = given_under 1 (codes "threads") o no_members (kept_under (is_pool d.kind) (count_data d.threads) (omega arith)) (omega arith) in
+    let quotes : Data = list_data count_data d.quotes in
+    let u : Option Data = of_quoted d.kind quotes in
+    let v : members_depth (given (codes "quotes") u behind) ≤ 1 = given_under 1 (codes "quotes") u behind (kept_under (has_quotes d.kind) quotes (array_under 0 count_data d.quotes (λ n. omega arith))) p in
+    let ms : Members = member (codes "kind") (string (disp_kind_word d.kind)) (member (codes "name") (text_data d.name) (given (codes "quotes") u behind)) in
     let f : Option Data = of_pool d.kind (string (fifo_word d.fifo)) in
-    let q : members_depth ms ≤ 0 = omega arith in
-    let r : members_depth (given (codes "fifo") f ms) ≤ 0 = given_under 0 (codes "fifo") f ms (pool_under (is_pool d.kind) (string (fifo_word d.fifo)) (omega arith)) q in
+    let q : members_depth ms ≤ 1 = omega arith in
+    let r : members_depth (given (codes "fifo") f ms) ≤ 1 = given_under 1 (codes "fifo") f ms (kept_under (is_pool d.kind) (string (fifo_word d.fifo)) (omega arith)) q in
     omega arith
 
 pub scene_under : (s : SceneParts) → depth (scene_data s) ≤ 9
@@ -189,5 +193,5 @@ scene_under s =
     let p : depth (list_data (coop_data s) s.coops) ≤ 8 = array_under 7 (coop_data s) s.coops (coop_under s) in
     let q : depth (list_data text_data s.mboxes) ≤ 1 = array_under 0 text_data s.mboxes (λ m. omega arith) in
     let r : depth (list_data message_data s.messages) ≤ 2 = array_under 1 message_data s.messages message_under in
-    let d : depth (list_data disp_data (declared s)) ≤ 2 = array_under 1 disp_data (declared s) disp_under in
+    let d : depth (list_data disp_data (declared s)) ≤ 3 = array_under 2 disp_data (declared s) disp_under in
     omega arith

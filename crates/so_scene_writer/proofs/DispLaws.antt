@@ -1,14 +1,17 @@
 -- Dispatchers that are written pass the reader, and are read as they were.
-use Rattle.std.proofs.Common.{◌≡◌, ℕ, ◌<◌, ◌≤◌, ◌^◌, suc, List, [], ◌∷◌, ◌++◌, length, get_or, map, drop, replicate, codes, bytes_eq, Bool, true, false, Option, Some, None, is_some, Ok, Err, refl, sym, ap, ◌∙◌, subst, arith, append_assoc, if◌then◌else◌}
+use Rattle.std.proofs.Common.{◌≡◌, ℕ, ◌<◌, ◌≤◌, ◌^◌, suc, zero, List, [], ◌∷◌, ◌++◌, length, get_or, map, drop, replicate, codes, bytes_eq, Bool, true, false, ◌==◌, Option, Some, None, is_some, Ok, Err, refl, sym, ap, ◌∙◌, subst, arith, append_assoc, if◌then◌else◌}
 use Rattle.std.specs.Prelude.{unwrap_or}
 use Rattle.std.specs.List.{AllByRecursion, IsDistinct}
-use Rattle.std.proofs.lemmas.Bool.{le-leb, lt-ltb}
+use Rattle.std.proofs.lemmas.Bool.{eq-eqb, le-leb, lt-ltb}
 use Rattle.std.proofs.lemmas.List.{append-nil}
+use Rattle.std.proofs.lemmas.List.FromFn.{fill_by_all}
 use Rattle.std.proofs.lemmas.Option.{none-some}
-use Rattle.serde_json.specs.Data.{Data, string, object, no_members, member}
+use Rattle.serde_json.specs.Data.{Data, array, string, object, Items, no_members, member}
+use Rattle.serde_json.specs.Events.{items_len}
 use Rattle.serde_json.specs.View.{items_of}
 use Rattle.so_ids.specs.declared.DispId.{DispId}
 use Rattle.so_lists.specs.Lists.{head}
+use Rattle.so_lists.proofs.Filters.{each-weaker}
 use Rattle.so_scene.specs.declared.parts.DispDef.{DispDef}
 use Rattle.so_scene.specs.declared.parts.DispKind.{DispKind}
 use Rattle.so_scene.specs.declared.parts.DispKind.TheVariants.{OneThread, ActiveObj, ActiveGroup, ThreadPool, AdvThreadPool, StrictlyOrdered, QuotedRoundRobin, OnePerPrio}
@@ -17,7 +20,7 @@ use Rattle.so_scene.specs.declared.parts.Fifo.TheVariants.{Cooperation, Individu
 use Rattle.so_scene.specs.declared.fault.SceneFault.TheVariants as fault
 use Rattle.so_scene.specs.declared.parts.SceneParts.{SceneParts}
 use Rattle.so_scene.specs.declared.place.PlaceStep.TheVariants.{Key}
-use Rattle.so_scene.specs.Checked.{is_built, is_pool, IsDisp, IsScene}
+use Rattle.so_scene.specs.Checked.{is_pool, has_quotes, IsDisp, IsQuote, IsScene}
 use Rattle.so_scene.specs.Names.{number_in}
 use Rattle.so_scene.specs.Parts.{disp_name, disp_of, default_disp}
 use Rattle.so_scene.specs.Words.{is_name}
@@ -28,30 +31,37 @@ use Rattle.so_scene_json.specs.declared.shape.Shape.{Shape}
 use Rattle.so_scene_json.specs.declared.table.ObjectKind.TheVariants as object
 use Rattle.so_scene_json.specs.declared.table.Space.TheVariants as space
 use Rattle.so_scene_json.specs.Build.{build_step}
-use Rattle.so_scene_json.specs.Defs.{disp_of as disp_read}
+use Rattle.so_scene_json.specs.Defs.{disp_of as disp_read, quote_at, quotes_in}
 use Rattle.so_scene_json.specs.Kept.{disp_kind}
 use Rattle.so_scene_json.specs.Known.{known_step, kind_at}
-use Rattle.so_scene_json.specs.Shape.{shape_step, has_unknown, is_known}
+use Rattle.so_scene_json.specs.Shape.{shape_step, has_unknown, is_known, fixed_trouble, quote_trouble}
 use Rattle.so_scene_json.specs.Table.{key_of, rules_of}
 use Rattle.so_scene_json.specs.Twice.{twice_step, declared_name, entering, names_in, with_name}
-use Rattle.so_scene_json.specs.Values.{disp_kind_in, disp_kind_of, fifo_of, name_in, number_of}
-use Rattle.so_scene_json.specs.Visits.{enters, Place, visits, fields_of, field_visits, items_from, run, at_item}
+use Rattle.so_scene_json.specs.Values.{disp_kind_in, disp_kind_of, fifo_of, name_in, number_of, ok_or, quote_of, trouble}
+use Rattle.so_scene_json.specs.Visits.{enters, list_of, Place, visits, fields_of, field_visits, items_from, run, at_item}
 use Rattle.so_scene_writer.specs.ActData.{count_data, disp_text}
 use Rattle.so_scene_writer.specs.Canonical.{given, declared, disp_data, disp_kind_word, fifo_word}
 use Rattle.so_scene_writer.proofs.Named.{each_of, name_utf8, next_distinct, next_new, number_at}
-use Rattle.so_scene_writer.proofs.Walks.{ok, object_run, items_go, items_done}
+use Rattle.so_scene_writer.proofs.Walks.{ok, object_run, items_go, items_done, shown_len, first_fine}
 use Rattle.so_scene_writer.proofs.ActLaws.{Stands, get_map, map_len}
 
 -- ---- what is written
 
-disp_plain : Bool → DispKind → Fifo → ℕ → List ℕ → Data
-disp_plain pool kind fifo threads name = object
+disp_plain : Bool → Bool → DispKind → Fifo → Items → ℕ → List ℕ → Data
+disp_plain pool quoted kind fifo quotes threads name = object
     (given (codes "fifo") (if pool then Some (string (fifo_word fifo)) else None)
     (member (codes "kind") (string (disp_kind_word kind))
     (member (codes "name") (string name)
-    (given (codes "threads") (if pool then Some (count_data threads) else None) no_members))))
+    (given (codes "quotes") (if quoted then Some (array quotes) else None)
+    (given (codes "threads") (if pool then Some (count_data threads) else None) no_members)))))
 
-disp_shown : (d : DispDef) → is_name d.name ≡ true → disp_data d ≡ disp_plain (is_pool d.kind) d.kind d.fifo d.threads d.name
+abbrev quote_items : DispDef → Items
+quote_items d = items_of (map count_data d.quotes)
+
+abbrev plain_disp : DispDef → Data
+plain_disp d = disp_plain (is_pool d.kind) (has_quotes d.kind) d.kind d.fifo (quote_items d) d.threads d.name
+
+disp_shown : (d : DispDef) → is_name d.name ≡ true → disp_data d ≡ plain_disp d
 unfolding disp_plain
 disp_shown d e = rw (name_utf8 d.name e) refl
 
@@ -72,18 +82,43 @@ fifo_again Individual = refl
 threads_again : (n : ℕ) → 1 ≤ n → n ≤ 64 → number_of 1 64 (count_data n) ≡ Ok n
 threads_again n l h = rw (lt-ltb n (2 ^ 63) (omega arith), le-leb n 64 h, le-leb 1 n l) refl
 
+-- ---- quotes
+
+quote_again : (n : ℕ) → IsQuote n → quote_of (count_data n) ≡ Ok n
+quote_again n h =
+    let few : n ≤ 1000 = h.1 in
+    rw (lt-ltb n (2 ^ 63) (omega arith), le-leb n 1000 few, le-leb 1 n h.0) refl
+
+quotes_fine : (qs : List ℕ) → length qs ≡ 8 → AllByRecursion IsQuote qs → fixed_trouble 8 quote_trouble (Some (items_of (map count_data qs))) ≡ None
+quotes_fine qs e h =
+    let eight : (items_len (items_of (map count_data qs)) == 8) ≡ true = eq-eqb _ 8 (shown_len count_data qs ∙ e) in
+    rw eight (first_fine quote_trouble count_data qs (each-weaker IsQuote (λ q. quote_trouble (count_data q) ≡ None) (λ q l. ap trouble (quote_again q l)) qs h))
+
+quote_read : (qs : List ℕ) (k : ℕ) → AllByRecursion IsQuote qs → k < length qs → get_or qs k 20 ≡ quote_at k (items_of (map count_data qs))
+quote_read [] k h l = absurd (omega arith)
+quote_read (q ∷ qs) zero h l = sym (ap (ok_or 20) (quote_again q h.0))
+quote_read (q ∷ qs) (suc k) h l = quote_read qs k h.1 (omega arith)
+
+-- quotes that aren't given are the default ones
+quotes_read : (quoted : Bool) (qs : List ℕ) → length qs ≡ 8 → AllByRecursion IsQuote qs → (quoted ≡ false → qs ≡ replicate 8 20)
+    → quotes_in (list_of (if quoted then Some (array (items_of (map count_data qs))) else None)) ≡ qs
+quotes_read true qs e h f = sym (fill_by_all (λ (k : ℕ). quote_at k (items_of (map count_data qs))) qs 8 20 e (λ k l. quote_read qs k h (subst (λ m. k < m) (sym e) l)))
+quotes_read false qs e h f = sym (f refl)
+
 -- ---- one dispatcher
 
-shape_at : (sh : Shape) (n : ℕ) (place : Place) (pool : Bool) (kind : DispKind) (fifo : Fifo) (threads : ℕ) (name : List ℕ) → is_pool kind ≡ pool → is_built kind ≡ true → is_name name ≡ true → 1 ≤ threads → threads ≤ 64
-    → run shape_step sh (visits (suc n) object.Dispatcher place (disp_plain pool kind fifo threads name)) ≡ Ok sh
+shape_at : (sh : Shape) (n : ℕ) (place : Place) (pool quoted : Bool) (kind : DispKind) (fifo : Fifo) (quotes : Items) (threads : ℕ) (name : List ℕ) → is_pool kind ≡ pool → has_quotes kind ≡ quoted → is_name name ≡ true → 1 ≤ threads → threads ≤ 64
+    → fixed_trouble 8 quote_trouble (Some quotes) ≡ None → run shape_step sh (visits (suc n) object.Dispatcher place (disp_plain pool quoted kind fifo quotes threads name)) ≡ Ok sh
 unfolding visits fields_of field_visits run has_unknown is_known disp_plain
-shape_at sh n place true kind fifo threads name p b e l h = rw (e, kind_again kind, b, threads_again threads l h, fifo_again fifo, p) refl
-shape_at sh n place false kind fifo threads name p b e l h = rw (e, kind_again kind, b, p) refl
+shape_at sh n place true true kind fifo quotes threads name p q e l h t = rw (e, kind_again kind, threads_again threads l h, fifo_again fifo, t, p, q) refl
+shape_at sh n place true false kind fifo quotes threads name p q e l h t = rw (e, kind_again kind, threads_again threads l h, fifo_again fifo, p, q) refl
+shape_at sh n place false true kind fifo quotes threads name p q e l h t = rw (e, kind_again kind, t, p, q) refl
+shape_at sh n place false false kind fifo quotes threads name p q e l h t = rw (e, kind_again kind, p, q) refl
 
 pub disp_shape : (sh : Shape) (n : ℕ) (d : DispDef) (place : Place) → IsDisp d → run shape_step sh (visits (suc n) object.Dispatcher place (disp_data d)) ≡ Ok sh
 disp_shape sh n d place h =
     ap (λ (x : Data). run shape_step sh (visits (suc n) object.Dispatcher place x)) (disp_shown d h.named)
-    ∙ shape_at sh n place (is_pool d.kind) d.kind d.fifo d.threads d.name refl h.kind h.named h.some_threads h.few_threads
+    ∙ shape_at sh n place (is_pool d.kind) (has_quotes d.kind) d.kind d.fifo (quote_items d) d.threads d.name refl refl h.named h.some_threads h.few_threads (quotes_fine d.quotes h.eight (each_of IsQuote d.quotes h.quotes))
 
 -- the names after a dispatcher
 abbrev with_disp : Declared → List ℕ → DispKind → Declared
@@ -100,50 +135,59 @@ fields_twice : (d : Declared) (n : ℕ) (place : Place) (x : Data) → run twice
 unfolding fields_of field_visits run
 fields_twice d n place x = refl
 
-name_at : (pool : Bool) (kind : DispKind) (fifo : Fifo) (threads : ℕ) (name : List ℕ) → is_name name ≡ true → name_in (disp_plain pool kind fifo threads name) ≡ name
+name_at : (pool quoted : Bool) (kind : DispKind) (fifo : Fifo) (quotes : Items) (threads : ℕ) (name : List ℕ) → is_name name ≡ true → name_in (disp_plain pool quoted kind fifo quotes threads name) ≡ name
 unfolding disp_plain
-name_at true kind fifo threads name e = rw e refl
-name_at false kind fifo threads name e = rw e refl
+name_at true true kind fifo quotes threads name e = rw e refl
+name_at true false kind fifo quotes threads name e = rw e refl
+name_at false true kind fifo quotes threads name e = rw e refl
+name_at false false kind fifo quotes threads name e = rw e refl
 
-kind_at_key : (pool : Bool) (kind : DispKind) (fifo : Fifo) (threads : ℕ) (name : List ℕ) → disp_kind_in (disp_plain pool kind fifo threads name) ≡ kind
+kind_at_key : (pool quoted : Bool) (kind : DispKind) (fifo : Fifo) (quotes : Items) (threads : ℕ) (name : List ℕ) → disp_kind_in (disp_plain pool quoted kind fifo quotes threads name) ≡ kind
 unfolding disp_plain
-kind_at_key true kind fifo threads name = rw (kind_again kind) refl
-kind_at_key false kind fifo threads name = rw (kind_again kind) refl
+kind_at_key true true kind fifo quotes threads name = rw (kind_again kind) refl
+kind_at_key true false kind fifo quotes threads name = rw (kind_again kind) refl
+kind_at_key false true kind fifo quotes threads name = rw (kind_again kind) refl
+kind_at_key false false kind fifo quotes threads name = rw (kind_again kind) refl
 
 disp_twice : (d : Declared) (n : ℕ) (x : DispDef) (place : Place) → IsDisp x → number_in (codes "default" ∷ d.dispatchers) x.name ≡ None → run twice_step d (visits (suc n) object.Dispatcher place (disp_data x)) ≡ Ok (with_disp d x.name x.kind)
 disp_twice d n x place h f =
     let t : Declared = with_disp d x.name x.kind in
-    let plain : Data = disp_plain (is_pool x.kind) x.kind x.fifo x.threads x.name in
+    let named : name_in (plain_disp x) ≡ x.name = name_at (is_pool x.kind) (has_quotes x.kind) x.kind x.fifo (quote_items x) x.threads x.name h.named in
+    let kind : disp_kind_in (plain_disp x) ≡ x.kind = kind_at_key (is_pool x.kind) (has_quotes x.kind) x.kind x.fifo (quote_items x) x.threads x.name in
     ap (λ (y : Data). run twice_step d (visits (suc n) object.Dispatcher place y)) (disp_shown x h.named)
-    ∙ object_run twice_step d t t t n object.Dispatcher place plain (entering_at d place plain x.name x.kind (name_at (is_pool x.kind) x.kind x.fifo x.threads x.name h.named) (kind_at_key (is_pool x.kind) x.kind x.fifo x.threads x.name) f)
-    (fields_twice t n place plain) refl
+    ∙ object_run twice_step d t t t n object.Dispatcher place (plain_disp x) (entering_at d place (plain_disp x) x.name x.kind named kind f) (fields_twice t n place (plain_disp x)) refl
 
-known_at : (w : Known) (n : ℕ) (place : Place) (pool : Bool) (kind : DispKind) (fifo : Fifo) (threads : ℕ) (name : List ℕ) → run known_step w (visits (suc n) object.Dispatcher place (disp_plain pool kind fifo threads name)) ≡ Ok w
+known_at : (w : Known) (n : ℕ) (place : Place) (pool quoted : Bool) (kind : DispKind) (fifo : Fifo) (quotes : Items) (threads : ℕ) (name : List ℕ) → run known_step w (visits (suc n) object.Dispatcher place (disp_plain pool quoted kind fifo quotes threads name)) ≡ Ok w
 unfolding visits fields_of field_visits run disp_plain
-known_at w n place true kind fifo threads name = refl
-known_at w n place false kind fifo threads name = refl
+known_at w n place true true kind fifo quotes threads name = refl
+known_at w n place true false kind fifo quotes threads name = refl
+known_at w n place false true kind fifo quotes threads name = refl
+known_at w n place false false kind fifo quotes threads name = refl
 
 pub disp_known : (w : Known) (n : ℕ) (d : DispDef) (place : Place) → IsDisp d → run known_step w (visits (suc n) object.Dispatcher place (disp_data d)) ≡ Ok w
 disp_known w n d place h =
     ap (λ (x : Data). run known_step w (visits (suc n) object.Dispatcher place x)) (disp_shown d h.named)
-    ∙ known_at w n place (is_pool d.kind) d.kind d.fifo d.threads d.name
+    ∙ known_at w n place (is_pool d.kind) (has_quotes d.kind) d.kind d.fifo (quote_items d) d.threads d.name
 
-abbrev defined : List ℕ → DispKind → ℕ → Fifo → DispDef
-defined name kind threads fifo = record { name = name; kind = kind; slots = 4096; threads = threads; fifo = fifo; quotes = replicate 8 20 }
+abbrev defined : List ℕ → DispKind → ℕ → Fifo → List ℕ → DispDef
+defined name kind threads fifo quotes = record { name = name; kind = kind; slots = 4096; threads = threads; fifo = fifo; quotes = quotes }
 
-read_at : (pool : Bool) (kind : DispKind) (fifo : Fifo) (threads : ℕ) (name : List ℕ) → (pool ≡ false → (threads ≡ 4) × (fifo ≡ Cooperation)) → is_name name ≡ true → 1 ≤ threads → threads ≤ 64
-    → disp_read (disp_plain pool kind fifo threads name) ≡ defined name kind threads fifo
+read_at : (pool quoted : Bool) (kind : DispKind) (fifo : Fifo) (quotes : Items) (threads : ℕ) (name : List ℕ) → (pool ≡ false → (threads ≡ 4) × (fifo ≡ Cooperation)) → is_name name ≡ true → 1 ≤ threads → threads ≤ 64
+    → disp_read (disp_plain pool quoted kind fifo quotes threads name) ≡ defined name kind threads fifo (quotes_in (list_of (if quoted then Some (array quotes) else None)))
 unfolding disp_plain
-read_at true kind fifo threads name f e l h = rw (e, kind_again kind, threads_again threads l h, fifo_again fifo) refl
-read_at false kind fifo threads name f e l h = let p = f refl in rw (e, kind_again kind, p.0, p.1) refl
+read_at true true kind fifo quotes threads name f e l h = rw (e, kind_again kind, threads_again threads l h, fifo_again fifo) refl
+read_at true false kind fifo quotes threads name f e l h = rw (e, kind_again kind, threads_again threads l h, fifo_again fifo) refl
+read_at false true kind fifo quotes threads name f e l h = let p = f refl in rw (e, kind_again kind, p.0, p.1) refl
+read_at false false kind fifo quotes threads name f e l h = let p = f refl in rw (e, kind_again kind, p.0, p.1) refl
 
-whole : (d : DispDef) → d.slots ≡ 4096 → d.quotes ≡ replicate 8 20 → defined d.name d.kind d.threads d.fifo ≡ d
-whole d e f = rw (e, f) refl
+whole : (d : DispDef) (quotes : List ℕ) → d.slots ≡ 4096 → quotes ≡ d.quotes → defined d.name d.kind d.threads d.fifo quotes ≡ d
+whole d quotes e f = rw (e, f) refl
 
 disp_again : (d : DispDef) → IsDisp d → disp_read (disp_data d) ≡ d
 disp_again d h =
     ap disp_read (disp_shown d h.named)
-    ∙ (read_at (is_pool d.kind) d.kind d.fifo d.threads d.name h.no_pool h.named h.some_threads h.few_threads ∙ whole d h.slots h.quotes)
+    ∙ (read_at (is_pool d.kind) (has_quotes d.kind) d.kind d.fifo (quote_items d) d.threads d.name h.no_pool h.named h.some_threads h.few_threads
+    ∙ whole d _ h.slots (quotes_read (has_quotes d.kind) d.quotes h.eight (each_of IsQuote d.quotes h.quotes) h.no_quotes))
 
 abbrev build_disp : Build → DispDef → Build
 build_disp b d = record b { dispatchers = b.dispatchers ++ d ∷ [] }

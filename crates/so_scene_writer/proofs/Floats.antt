@@ -19,9 +19,9 @@ use Rattle.so_scene.specs.declared.parts.DispDef.{DispDef}
 use Rattle.so_scene.specs.declared.parts.FilterDef.{FilterDef}
 use Rattle.so_scene.specs.declared.parts.MessageDef.{MessageDef}
 use Rattle.so_scene.specs.declared.parts.SceneParts.{SceneParts}
-use Rattle.so_scene.specs.Checked.{is_pool}
+use Rattle.so_scene.specs.Checked.{is_pool, has_quotes}
 use Rattle.so_scene_writer.specs.Sources.{StateSource, RowSource, states_of, rows_of, start_acts, finish_acts}
-use Rattle.so_scene_writer.specs.ActData.{text_data, state_text, group_text, operand_data, dest_data, args_data, act_data, acts_data}
+use Rattle.so_scene_writer.specs.ActData.{text_data, count_data, state_text, group_text, operand_data, dest_data, args_data, act_data, acts_data}
 use Rattle.so_scene_writer.specs.Canonical.{given, number_data, message_data, declared, disp_data, state_data, filter_data, row_data, agent_data, coop_data, scene_data, dead_data, do_data, row_state_data, suppress_data, switch_data, transfer_data}
 
 list_exact : {X : Type 0} (shown : X → Data) (xs : List X) → ((x : X) → has_float (shown x) ≡ false) → items_have_float (items_of (map shown xs)) ≡ false
@@ -129,12 +129,15 @@ agent_exact s a =
 coop_exact : (s : SceneParts) (c : CoopDef) → has_float (coop_data s c) ≡ false
 coop_exact s c = rw (list_exact (agent_data s) s.agents (agent_exact s)) refl
 
-pool_exact : (pool : Bool) (d : Data) → has_float d ≡ false → IsExact (if pool then Some d else None)
-pool_exact true d h = h
-pool_exact false d h = tt
+kept_exact : (kept : Bool) (d : Data) → has_float d ≡ false → IsExact (if kept then Some d else None)
+kept_exact true d h = h
+kept_exact false d h = tt
 
 disp_exact : (d : DispDef) → has_float (disp_data d) ≡ false
-disp_exact d = given_exact (codes "fifo") _ _ (pool_exact (is_pool d.kind) _ refl) ∙ given_exact (codes "threads") _ no_members (pool_exact (is_pool d.kind) _ refl)
+disp_exact d =
+    given_exact (codes "fifo") _ _ (kept_exact (is_pool d.kind) _ refl)
+    ∙ (given_exact (codes "quotes") _ _ (kept_exact (has_quotes d.kind) _ (list_exact count_data d.quotes (λ n. refl)))
+    ∙ given_exact (codes "threads") _ no_members (kept_exact (is_pool d.kind) _ refl))
 
 message_exact : (m : MessageDef) → has_float (message_data m) ≡ false
 message_exact m = refl

@@ -7,7 +7,7 @@ use Rattle.serde_json.specs.Find.{get, get_member}
 use Rattle.so_scene.specs.declared.parts.AgentDef.{AgentDef}
 use Rattle.so_scene.specs.declared.parts.SceneParts.{SceneParts}
 use Rattle.so_scene_writer.specs.Sources.{states_of, rows_of, start_acts, finish_acts}
-use Rattle.so_scene_writer.specs.ActData.{text_data, acts_data, disp_text, group_text}
+use Rattle.so_scene_writer.specs.ActData.{text_data, count_data, acts_data, disp_text, group_text}
 use Rattle.so_scene_writer.specs.Canonical.{given, list_data, number_data, filter_data, row_data, state_data, agent_data}
 use Rattle.so_scene_writer.specs.Fields.{agent_base}
 
@@ -24,16 +24,17 @@ beside key other d ms ns e = ap (λ (r : Option Data). match_ordering (slice_cmp
 
 -- the object without its group
 abbrev pub agent_plain : SceneParts → AgentDef → Data
-agent_plain s a = agent_base (disp_text s a.disp) (list_data (filter_data s) a.filters) (acts_data s a (finish_acts a)) a.name (list_data (row_data s a) (rows_of a)) (acts_data s a (start_acts a)) (list_data (state_data s a) (states_of a)) (list_data number_data a.vars.0)
+agent_plain s a = agent_base (disp_text s a.disp) (list_data (filter_data s) a.filters) (acts_data s a (finish_acts a)) a.name (list_data (row_data s a) (rows_of a)) a.priority.level (acts_data s a (start_acts a)) (list_data (state_data s a) (states_of a)) (list_data number_data a.vars.0)
 
 -- the fields behind the group
 abbrev others : SceneParts → AgentDef → Members
 others s a =
     member (codes "name") (text_data a.name)
     (member (codes "on") (list_data (row_data s a) (rows_of a))
+    (member (codes "priority") (count_data a.priority.level)
     (member (codes "start") (acts_data s a (start_acts a))
     (member (codes "states") (list_data (state_data s a) (states_of a))
-    (member (codes "vars") (list_data number_data a.vars.0) no_members))))
+    (member (codes "vars") (list_data number_data a.vars.0) no_members)))))
 
 pub got : (s : SceneParts) (a : AgentDef) (key : List ℕ) → IsApart key (codes "group") → get key (agent_data s a) ≡ get key (agent_plain s a)
 got s a key f =
@@ -45,13 +46,13 @@ got s a key f =
     beside key (codes "disp") (text_data (disp_text s a.disp)) (member (codes "filters") filters (member (codes "finish") finish grouped)) (member (codes "filters") filters (member (codes "finish") finish (others s a)))
     (beside key (codes "filters") filters (member (codes "finish") finish grouped) (member (codes "finish") finish (others s a)) three)
 
-group_at_key : (disp filters finish : Data) (o : Option Data) (name on start states vars : Data) → get (codes "group") (object
+group_at_key : (disp filters finish : Data) (o : Option Data) (name on priority start states vars : Data) → get (codes "group") (object
     (member (codes "disp") disp (member (codes "filters") filters (member (codes "finish") finish (given (codes "group") o
-    (member (codes "name") name (member (codes "on") on (member (codes "start") start (member (codes "states") states (member (codes "vars") vars no_members)))))))))) ≡ o
-group_at_key disp filters finish None name on start states vars = refl
-group_at_key disp filters finish (Some g) name on start states vars = refl
+    (member (codes "name") name (member (codes "on") on (member (codes "priority") priority (member (codes "start") start (member (codes "states") states (member (codes "vars") vars no_members))))))))))) ≡ o
+group_at_key disp filters finish None name on priority start states vars = refl
+group_at_key disp filters finish (Some g) name on priority start states vars = refl
 
 pub got_group : (s : SceneParts) (a : AgentDef) → get (codes "group") (agent_data s a) ≡ option_map text_data (group_text s a)
 got_group s a =
     group_at_key (text_data (disp_text s a.disp)) (list_data (filter_data s) a.filters) (acts_data s a (finish_acts a)) (option_map text_data (group_text s a)) (text_data a.name)
-    (list_data (row_data s a) (rows_of a)) (acts_data s a (start_acts a)) (list_data (state_data s a) (states_of a)) (list_data number_data a.vars.0)
+    (list_data (row_data s a) (rows_of a)) (count_data a.priority.level) (acts_data s a (start_acts a)) (list_data (state_data s a) (states_of a)) (list_data number_data a.vars.0)

@@ -14,11 +14,11 @@ use Rattle.so_scene.specs.declared.parts.DispDef.{DispDef}
 use Rattle.so_scene.specs.declared.parts.DispKind.{DispKind}
 use Rattle.so_scene.specs.declared.parts.FilterDef.{FilterDef}
 use Rattle.so_scene.specs.declared.parts.SceneParts.{SceneParts}
-use Rattle.so_scene.specs.Checked.{is_pool}
+use Rattle.so_scene.specs.Checked.{is_pool, has_quotes}
 use Rattle.so_scene.specs.Parts.{mbox_name}
 use Rattle.so_scene_writer.specs.Sources.{acts_in, behind, RowSource, state_source}
 use Rattle.so_scene_writer.specs.ActData.{text_data, count_data, disp_text, group_text, state_text, message_text, acts_data}
-use Rattle.so_scene_writer.specs.Canonical.{agent_data, disp_data, disp_kind_word, fifo_word, given, of_pool, state_data, filter_data, row_data, dead_data, do_data, row_state_data, suppress_data, switch_data, transfer_data}
+use Rattle.so_scene_writer.specs.Canonical.{agent_data, disp_data, disp_kind_word, fifo_word, given, list_data, of_pool, of_quoted, state_data, filter_data, row_data, dead_data, do_data, row_state_data, suppress_data, switch_data, transfer_data}
 use Rattle.so_scene_writer.specs.Fields.{with_field, agent_base, disp_base, state_base, filter_base, row_base}
 use Rattle.so_scene_writer.proofs.Found.{agent_plain}
 
@@ -53,7 +53,7 @@ both key {o = o} {e = e} f g = ap (with_field key o) g ∙ ap (λ x. with_field 
 row_at : (s : SceneParts) (a : AgentDef) (id : Option (List ℕ)) (acts : List Instr) (mbox : MboxId) (msg : MsgId) (state : StateId) (kind : RowKind) (safe active : Bool)
     → with_field (codes "transfer") (transfer_data a kind) (with_field (codes "switch") (switch_data a kind) (with_field (codes "suppress") (suppress_data kind)
     (with_field (codes "state") (row_state_data a state kind) (with_field (codes "id") (option_map text_data id) (with_field (codes "do") (do_data s a acts kind) (with_field (codes "dead") (dead_data kind)
-    (row_base active (mbox_name s mbox) (message_text s msg))))))))
+    (row_base active (mbox_name s mbox) (message_text s msg) safe)))))))
     ≡ row_data s a (record { id = id; row = record { mbox = mbox; msg = msg; state = state; kind = kind; safe = safe; active = active }; acts = acts })
 row_at s a None acts mbox msg state Run safe active = refl
 row_at s a (Some id) acts mbox msg state Run safe active = refl
@@ -67,7 +67,7 @@ row_at s a None acts mbox msg state Suppress safe active = refl
 row_at s a (Some id) acts mbox msg state Suppress safe active = refl
 
 pub row_joined : (s : SceneParts) (a : AgentDef) (x : RowSource) (dead do_acts id state suppress switch transfer : Option Data) (d0 d1 d2 d3 d4 d5 d6 d7 : Data)
-    → d0 ≡ row_base x.row.active (mbox_name s x.row.mbox) (message_text s x.row.msg)
+    → d0 ≡ row_base x.row.active (mbox_name s x.row.mbox) (message_text s x.row.msg) x.row.safe
     → dead ≡ dead_data x.row.kind → d1 ≡ with_field (codes "dead") dead d0
     → do_acts ≡ do_data s a x.acts x.row.kind → d2 ≡ with_field (codes "do") do_acts d1
     → id ≡ option_map text_data x.id → d3 ≡ with_field (codes "id") id d2
@@ -77,7 +77,7 @@ pub row_joined : (s : SceneParts) (a : AgentDef) (x : RowSource) (dead do_acts i
     → transfer ≡ transfer_data a x.row.kind → d7 ≡ with_field (codes "transfer") transfer d6
     → d7 ≡ row_data s a x
 row_joined s a x dead do_acts id state suppress switch transfer d0 d1 d2 d3 d4 d5 d6 d7 e0 o1 e1 o2 e2 o3 e3 o4 e4 o5 e5 o6 e6 o7 e7 =
-    let f1 : d1 ≡ with_field (codes "dead") (dead_data x.row.kind) (row_base x.row.active (mbox_name s x.row.mbox) (message_text s x.row.msg)) = e1 ∙ both (codes "dead") o1 e0 in
+    let f1 : d1 ≡ with_field (codes "dead") (dead_data x.row.kind) (row_base x.row.active (mbox_name s x.row.mbox) (message_text s x.row.msg) x.row.safe) = e1 ∙ both (codes "dead") o1 e0 in
     let f2 = e2 ∙ both (codes "do") o2 f1 in
     let f3 = e3 ∙ both (codes "id") o3 f2 in
     let f4 = e4 ∙ both (codes "state") o4 f3 in
@@ -87,25 +87,29 @@ row_joined s a x dead do_acts id state suppress switch transfer d0 d1 d2 d3 d4 d
 
 -- ---- dispatchers
 
-disp_fields : (pool : Bool) (kind : DispKind) (name : List ℕ) (fifo threads : Data)
-    → with_field (codes "threads") (if pool then Some threads else None) (with_field (codes "fifo") (if pool then Some fifo else None) (disp_base kind name))
-    ≡ object (given (codes "fifo") (if pool then Some fifo else None) (member (codes "kind") (string (disp_kind_word kind)) (member (codes "name") (text_data name) (given (codes "threads") (if pool then Some threads else None) no_members))))
-disp_fields true kind name fifo threads = refl
-disp_fields false kind name fifo threads = refl
+disp_fields : (pool quoted : Bool) (kind : DispKind) (name : List ℕ) (fifo quotes threads : Data)
+    → with_field (codes "threads") (if pool then Some threads else None) (with_field (codes "quotes") (if quoted then Some quotes else None) (with_field (codes "fifo") (if pool then Some fifo else None) (disp_base kind name)))
+    ≡ object (given (codes "fifo") (if pool then Some fifo else None) (member (codes "kind") (string (disp_kind_word kind)) (member (codes "name") (text_data name)
+    (given (codes "quotes") (if quoted then Some quotes else None) (given (codes "threads") (if pool then Some threads else None) no_members)))))
+disp_fields true true kind name fifo quotes threads = refl
+disp_fields true false kind name fifo quotes threads = refl
+disp_fields false true kind name fifo quotes threads = refl
+disp_fields false false kind name fifo quotes threads = refl
 
-pub disp_joined : (x : DispDef) (fifo threads : Option Data) (base d e : Data) → base ≡ disp_base x.kind x.name → fifo ≡ of_pool x.kind (string (fifo_word x.fifo)) → d ≡ with_field (codes "fifo") fifo base
-    → threads ≡ of_pool x.kind (count_data x.threads) → e ≡ with_field (codes "threads") threads d → e ≡ disp_data x
-disp_joined x fifo threads base d e b f g t h =
-    h ∙ (both (codes "threads") t (g ∙ both (codes "fifo") f b) ∙ disp_fields (is_pool x.kind) x.kind x.name (string (fifo_word x.fifo)) (count_data x.threads))
+pub disp_joined : (x : DispDef) (fifo quotes threads : Option Data) (base d0 d1 d2 : Data) → base ≡ disp_base x.kind x.name → fifo ≡ of_pool x.kind (string (fifo_word x.fifo)) → d0 ≡ with_field (codes "fifo") fifo base
+    → quotes ≡ of_quoted x.kind (list_data count_data x.quotes) → d1 ≡ with_field (codes "quotes") quotes d0 → threads ≡ of_pool x.kind (count_data x.threads) → d2 ≡ with_field (codes "threads") threads d1 → d2 ≡ disp_data x
+disp_joined x fifo quotes threads base d0 d1 d2 b f e0 q e1 t e2 =
+    e2 ∙ (both (codes "threads") t (e1 ∙ both (codes "quotes") q (e0 ∙ both (codes "fifo") f b))
+    ∙ disp_fields (is_pool x.kind) (has_quotes x.kind) x.kind x.name (string (fifo_word x.fifo)) (list_data count_data x.quotes) (count_data x.threads))
 
 -- ---- agents
 
-agent_fields : (disp : List ℕ) (filters finish : Data) (o : Option Data) (name : List ℕ) (on start states vars : Data)
-    → with_field (codes "group") o (agent_base disp filters finish name on start states vars)
+agent_fields : (disp : List ℕ) (filters finish : Data) (o : Option Data) (name : List ℕ) (on : Data) (level : ℕ) (start states vars : Data)
+    → with_field (codes "group") o (agent_base disp filters finish name on level start states vars)
     ≡ object (member (codes "disp") (text_data disp) (member (codes "filters") filters (member (codes "finish") finish (given (codes "group") o
-    (member (codes "name") (text_data name) (member (codes "on") on (member (codes "start") start (member (codes "states") states (member (codes "vars") vars no_members)))))))))
-agent_fields disp filters finish None name on start states vars = refl
-agent_fields disp filters finish (Some g) name on start states vars = refl
+    (member (codes "name") (text_data name) (member (codes "on") on (member (codes "priority") (count_data level) (member (codes "start") start (member (codes "states") states (member (codes "vars") vars no_members))))))))))
+agent_fields disp filters finish None name on level start states vars = refl
+agent_fields disp filters finish (Some g) name on level start states vars = refl
 
 pub agent_joined : (s : SceneParts) (a : AgentDef) (o : Option Data) (base d : Data) → o ≡ option_map text_data (group_text s a) → base ≡ agent_plain s a → d ≡ with_field (codes "group") o base → d ≡ agent_data s a
-agent_joined s a o base d e f g = g ∙ (both (codes "group") e f ∙ agent_fields (disp_text s a.disp) _ _ (option_map text_data (group_text s a)) a.name _ _ _ _)
+agent_joined s a o base d e f g = g ∙ (both (codes "group") e f ∙ agent_fields (disp_text s a.disp) _ _ (option_map text_data (group_text s a)) a.name _ _ _ _ _)

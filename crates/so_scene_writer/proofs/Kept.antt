@@ -1,5 +1,5 @@
 -- What an agent's states, filters and rows keep.
-use Rattle.std.proofs.Common.{◌≡◌, ℕ, ◌+◌, ◌<◌, ◌≤◌, suc, zero, List, [], ◌∷◌, ◌++◌, length, get_or, map, Bool, true, if◌then◌else◌, Option, Some, None, refl, sym, ap, ◌∙◌, subst, arith, slice_get}
+use Rattle.std.proofs.Common.{◌≡◌, ℕ, ◌+◌, ◌<◌, ◌≤◌, suc, zero, List, [], ◌∷◌, ◌++◌, length, get_or, map, true, if◌then◌else◌, Option, Some, None, refl, sym, ap, ◌∙◌, subst, arith, slice_get}
 use Rattle.std.specs.List.{AllByRecursion}
 use Rattle.std.proofs.lemmas.Bool.{true≢false}
 use Rattle.so_ids.specs.declared.RowId.{RowId}
@@ -7,7 +7,7 @@ use Rattle.so_ids.specs.declared.StateId.{StateId}
 use Rattle.so_code.specs.declared.instr.Body.{Body}
 use Rattle.so_code.specs.declared.instr.Body.TheVariants as body
 use Rattle.so_code.specs.declared.instr.Instr.{Instr}
-use Rattle.so_code.specs.Shape.{IsActBefore, may_switch, state_bodies}
+use Rattle.so_code.specs.Shape.{state_bodies}
 use Rattle.so_state.specs.declared.choice.Row.{Row}
 use Rattle.so_state.specs.declared.choice.RowKind.{RowKind}
 use Rattle.so_state.specs.declared.choice.RowKind.TheVariants.{Run, Switch, Transfer, Suppress, Dead}
@@ -19,20 +19,18 @@ use Rattle.so_scene.specs.declared.parts.AgentDef.{AgentDef}
 use Rattle.so_scene.specs.declared.parts.FilterDef.{FilterDef}
 use Rattle.so_scene.specs.declared.parts.SceneParts.{SceneParts}
 use Rattle.so_scene.specs.Checked.{has_handler, handlers, handlers_from, row_number, given, filter_id, IsFilter, IsRow, HasNoLimit}
+use Rattle.so_scene_json.specs.declared.act_table.Allowed.{Allowed}
+use Rattle.so_scene_json.specs.declared.act_table.Allowed.TheVariants.{AnyAct}
 use Rattle.so_scene_writer.specs.Sources.{acts_in, behind, states_in, behind_states, behind_row, rows_in, states_of, rows_of}
 use Rattle.so_scene.specs.Written.{HasParent}
 use Rattle.so_scene_writer.proofs.Writable.{IsName, IsStateName, FitsValue}
 use Rattle.so_scene_writer.proofs.Named.{each_of}
 use Rattle.so_scene_writer.proofs.ActLaws.{Told}
-use Rattle.so_scene_writer.proofs.BodyLaws.{AreTold, IsLaid, AreLaid, agent_laid}
+use Rattle.so_scene_writer.proofs.BodyLaws.{IsLaid, AreLaid, AreFrom, agent_laid, allowed_in, handler_of, from_next, from_start, here_first, row_allowed}
 use Rattle.so_scene_writer.proofs.ObjectLaws.{IsBody, IsId, IsWithin, IsStateOf, IsRowOf, IsFilterOf}
 
-told_as : (s : SceneParts) (a : AgentDef) (b c : Body) (acts : List Instr) → may_switch b ≡ may_switch c → AreTold s a b acts → AreTold s a c acts
-told_as s a b c [] e t = tt
-told_as s a b c (i ∷ acts) e t = (record { before = subst (λ (q : Bool). IsActBefore q i (length acts)) e t.0.before; names = t.0.names; written = t.0.written }, told_as s a b c acts e t.1)
-
-pub body_of : (s : SceneParts) (a : AgentDef) (b c : Body) (code : List Instr) → may_switch b ≡ may_switch c → IsLaid s a b code → IsBody s a c (acts_in code)
-body_of s a b c code e h = record { told = told_as s a b c (acts_in code) e h.acts; few = h.few }
+pub body_of : (s : SceneParts) (a : AgentDef) (b : Body) (code : List Instr) → IsLaid s a b code → IsBody s a (allowed_in a b) (acts_in code)
+body_of s a b code h = record { told = h.acts; few = h.few }
 
 -- ---- parents
 
@@ -71,8 +69,8 @@ states_facts s a k (n ∷ ns) (x ∷ states) left bodies e h i p l t = (
     initial = i.0;
     parent = p.0;
     limit = l.0;
-    enter = body_of s a (body.Enter (record { 0 = k })) (body.Enter (record { 0 = 0 })) left refl t.0;
-    exit = body_of s a (body.Exit (record { 0 = k })) (body.Exit (record { 0 = 0 })) (behind left) refl t.1.0;
+    enter = body_of s a (body.Enter (record { 0 = k })) left t.0;
+    exit = body_of s a (body.Exit (record { 0 = k })) (behind left) t.1.0;
   },
   states_facts s a (k + 1) ns states (behind (behind left)) bodies (omega arith) h.1 i.1 p.1 l.1 t.1.1,
 )
@@ -89,9 +87,9 @@ agent_states s a c =
 -- ---- rows
 
 row_acts : (s : SceneParts) (a : AgentDef) (i : ℕ) (kind : RowKind) (left : List Instr) (more : List RowId) → AreLaid s a (map body.Row (if has_handler kind then row_number i ∷ more else more)) left
-    → (has_handler kind ≡ true → IsBody s a (body.Row (record { 0 = 0 })) (if has_handler kind then acts_in left else [])) × AreLaid s a (map body.Row more) (if has_handler kind then behind left else left)
-row_acts s a i Run left more t = ((λ e. body_of s a (body.Row (record { 0 = i })) (body.Row (record { 0 = 0 })) left refl t.0), t.1)
-row_acts s a i Dead left more t = ((λ e. body_of s a (body.Row (record { 0 = i })) (body.Row (record { 0 = 0 })) left refl t.0), t.1)
+    → (has_handler kind ≡ true → IsBody s a (allowed_in a (body.Row (record { 0 = i }))) (if has_handler kind then acts_in left else [])) × AreLaid s a (map body.Row more) (if has_handler kind then behind left else left)
+row_acts s a i Run left more t = ((λ e. body_of s a (body.Row (record { 0 = i })) left t.0), t.1)
+row_acts s a i Dead left more t = ((λ e. body_of s a (body.Row (record { 0 = i })) left t.0), t.1)
 row_acts s a i (Switch to) left more t = ((λ e. absurd (true≢false (sym e))), t)
 row_acts s a i (Transfer to) left more t = ((λ e. absurd (true≢false (sym e))), t)
 row_acts s a i Suppress left more t = ((λ e. absurd (true≢false (sym e))), t)
@@ -101,18 +99,22 @@ first_id None ids h = (tt, h)
 first_id (Some id) ids h = h
 
 rows_facts : (s : SceneParts) (a : AgentDef) (i : ℕ) (ids : List (Option (List ℕ))) (rows : List Row) (left : List Instr) → AllByRecursion IsName (given ids) → AllByRecursion (IsRow s (length a.tree)) rows
-    → AreLaid s a (map body.Row (handlers_from i rows)) left → AllByRecursion (IsRowOf s a) (rows_in ids rows left)
+    → AreFrom i rows a.rows → AreLaid s a (map body.Row (handlers_from i rows)) left → AllByRecursion (IsRowOf s a) (rows_in ids rows left)
 unfolding rows_in
-rows_facts s a i [] rows left h r t = tt
-rows_facts s a i (id ∷ ids) [] left h r t = tt
-rows_facts s a i (id ∷ ids) (x ∷ rows) left h r t =
+rows_facts s a i [] rows left h r from t = tt
+rows_facts s a i (id ∷ ids) [] left h r from t = tt
+rows_facts s a i (id ∷ ids) (x ∷ rows) left h r from t =
     let q = row_acts s a i x.kind left (handlers_from (suc i) rows) t in
     let j = first_id id ids h in
-    (record { row = r.0; id = j.0; acts = q.0 }, rows_facts s a (suc i) ids rows (behind_row x left) j.1 r.1 q.1)
+    let allowed : allowed_in a (body.Row (record { 0 = i })) ≡ handler_of x.safe = row_allowed a i x (here_first i x rows a.rows from) in
+    let acts : List Instr = if has_handler x.kind then acts_in left else [] in (
+      record { row = r.0; id = j.0; acts = λ e. subst (λ (q : Allowed). IsBody s a q acts) allowed (q.0 e) },
+      rows_facts s a (suc i) ids rows (behind_row x left) j.1 r.1 (from_next i x rows a.rows from) q.1,
+    )
 
 pub agent_rows : (s : SceneParts) (a : AgentDef) → Told s a → AllByRecursion (IsRowOf s a) (rows_of a)
 agent_rows s a c =
-    rows_facts s a 0 a.row_ids a.rows (behind_states (length a.tree) (behind (behind a.code))) c.written.row_ids (each_of (IsRow s (length a.tree)) a.rows c.agent.rows)
+    rows_facts s a 0 a.row_ids a.rows (behind_states (length a.tree) (behind (behind a.code))) c.written.row_ids (each_of (IsRow s (length a.tree)) a.rows c.agent.rows) (from_start a.rows)
     (states_left s a 1 (length a.tree) (behind (behind a.code)) (map body.Row (handlers a.rows)) (agent_laid s a c).1.1)
 
 -- ---- filters
@@ -126,11 +128,11 @@ agent_filters s a c = filters_facts s a.filters (each_of (IsFilter s) a.filters 
 
 -- ---- the start and finish handlers
 
-pub agent_start : (s : SceneParts) (a : AgentDef) → Told s a → IsBody s a body.Start (acts_in a.code)
-agent_start s a c = body_of s a body.Start body.Start a.code refl (agent_laid s a c).0
+pub agent_start : (s : SceneParts) (a : AgentDef) → Told s a → IsBody s a AnyAct (acts_in a.code)
+agent_start s a c = body_of s a body.Start a.code (agent_laid s a c).0
 
-pub agent_finish : (s : SceneParts) (a : AgentDef) → Told s a → IsBody s a body.Finish (acts_in (behind a.code))
-agent_finish s a c = body_of s a body.Finish body.Finish (behind a.code) refl (agent_laid s a c).1.0
+pub agent_finish : (s : SceneParts) (a : AgentDef) → Told s a → IsBody s a AnyAct (acts_in (behind a.code))
+agent_finish s a c = body_of s a body.Finish (behind a.code) (agent_laid s a c).1.0
 
 -- ---- the parts that are kept apart
 

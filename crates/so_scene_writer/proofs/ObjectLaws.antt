@@ -1,5 +1,5 @@
 -- Messages, states, filters and rows that are written pass the reader, and are read as they were.
-use Rattle.std.proofs.Common.{◌≡◌, ℕ, ◌-◌, ◌<◌, ◌≤◌, ◌^◌, suc, zero, ℤ, List, [], ◌∷◌, ◌++◌, length, get_or, map, codes, bytes_eq, Bool, true, false, Option, Some, None, option_map, is_some, Ok, refl, sym, ap, ◌∙◌, subst, arith}
+use Rattle.std.proofs.Common.{◌≡◌, ℕ, ◌-◌, ◌<◌, ◌≤◌, ◌^◌, suc, zero, ℤ, List, [], ◌∷◌, ◌++◌, length, get_or, map, codes, bytes_eq, Bool, true, false, ◌&&◌, Option, Some, None, option_map, is_some, Ok, refl, sym, ap, ◌∙◌, subst, arith}
 use Rattle.std.specs.List.{IsDistinct}
 use Rattle.std.specs.Str.{is_utf8}
 use Rattle.std.proofs.lemmas.Bool.{true≢false, le-leb, lt-ltb}
@@ -9,11 +9,8 @@ use Rattle.serde_json.specs.View.{items_of}
 use Rattle.so_ids.specs.declared.MboxId.{MboxId}
 use Rattle.so_ids.specs.declared.MsgId.{MsgId}
 use Rattle.so_ids.specs.declared.StateId.{StateId}
-use Rattle.so_code.specs.declared.instr.Body.{Body}
-use Rattle.so_code.specs.declared.instr.Body.TheVariants as body
 use Rattle.so_code.specs.declared.instr.Cmp.{Cmp}
 use Rattle.so_code.specs.declared.instr.Instr.{Instr}
-use Rattle.so_state.specs.declared.choice.Row.{Row}
 use Rattle.so_state.specs.declared.choice.RowKind.{RowKind}
 use Rattle.so_state.specs.declared.choice.RowKind.TheVariants.{Run, Switch, Transfer, Suppress, Dead}
 use Rattle.so_state.specs.declared.states.History.{History}
@@ -30,7 +27,8 @@ use Rattle.so_scene.specs.Checked.{has_handler, IsKind, IsScene, IsFilter, IsRow
 use Rattle.so_scene.specs.Names.{number_in}
 use Rattle.so_scene.specs.Parts.{mbox_name, mboxes}
 use Rattle.so_scene.specs.Words.{is_name}
-use Rattle.so_scene_json.specs.declared.act_table.Allowed.TheVariants.{AnyAct, NoSwitch}
+use Rattle.so_scene_json.specs.declared.act_table.Allowed.{Allowed}
+use Rattle.so_scene_json.specs.declared.act_table.Allowed.TheVariants.{NoSwitch}
 use Rattle.so_scene_json.specs.declared.build.Build.{Build}
 use Rattle.so_scene_json.specs.declared.declare.Declared.{Declared}
 use Rattle.so_scene_json.specs.declared.known.Known.{Known}
@@ -38,7 +36,7 @@ use Rattle.so_scene_json.specs.declared.scope.Scope.{Scope}
 use Rattle.so_scene_json.specs.declared.shape.Shape.{Shape}
 use Rattle.so_scene_json.specs.declared.table.ObjectKind.TheVariants as object
 use Rattle.so_scene_json.specs.declared.table.Space.TheVariants as space
-use Rattle.so_scene_json.specs.Build.{build_step, allowed_in}
+use Rattle.so_scene_json.specs.Build.{build_step}
 use Rattle.so_scene_json.specs.Defs.{message_of, state_of, row_of, filter_of}
 use Rattle.so_scene_json.specs.Acts.{act_trouble}
 use Rattle.so_scene_json.specs.Known.{known_step, act_unknown, absent_from}
@@ -56,7 +54,7 @@ use Rattle.so_scene_writer.proofs.Shown.{number_again, cmp_again}
 use Rattle.so_scene_writer.proofs.Walks.{ok, AllFine, acts_fine, shown_len}
 use Rattle.so_code.specs.Values.{fits}
 use Rattle.so_scene_writer.proofs.ActLaws.{narrow_small, Stands, Told, scope_for, knows_at, is_there, act_fine, act_known, shown_name, message_legal, message_number, mbox_legal, mbox_number, state_legal, state_number_again}
-use Rattle.so_scene_writer.proofs.BodyLaws.{AreTold}
+use Rattle.so_scene_writer.proofs.BodyLaws.{AreTold, handler_of}
 
 -- ---- messages
 
@@ -102,26 +100,26 @@ message_build b n m place e = ap (λ (x : MessageDef). ok (build_message b x)) (
 
 -- ---- lists of acts
 
-told_fine : (s : SceneParts) (a : AgentDef) (b : Body) (acts : List Instr) → Told s a → AreTold s a b acts → length acts < 2 ^ 32 → AllFine (act_data s a) (act_trouble (allowed_in b)) acts
-told_fine s a b [] c t l = tt
-told_fine s a b (i ∷ acts) c t l = (act_fine s a b (length acts) i c t.0 (omega arith), told_fine s a b acts c t.1 (omega arith))
+told_fine : (s : SceneParts) (a : AgentDef) (allowed : Allowed) (acts : List Instr) → Told s a → AreTold s a allowed acts → length acts < 2 ^ 32 → AllFine (act_data s a) (act_trouble allowed) acts
+told_fine s a allowed [] c t l = tt
+told_fine s a allowed (i ∷ acts) c t l = (act_fine s a allowed (length acts) i c t.0 (omega arith), told_fine s a allowed acts c t.1 (omega arith))
 
-told_known : (s : SceneParts) (a : AgentDef) (names : Declared) (b : Body) (acts : List Instr) → Told s a → Stands s names → AreTold s a b acts → AllFine (act_data s a) (λ rest d. act_unknown (knows_at names a) d) acts
-told_known s a names b [] c n t = tt
-told_known s a names b (i ∷ acts) c n t = (act_known s a names b (length acts) i c n t.0, told_known s a names b acts c n t.1)
+told_known : (s : SceneParts) (a : AgentDef) (names : Declared) (allowed : Allowed) (acts : List Instr) → Told s a → Stands s names → AreTold s a allowed acts → AllFine (act_data s a) (λ rest d. act_unknown (knows_at names a) d) acts
+told_known s a names allowed [] c n t = tt
+told_known s a names allowed (i ∷ acts) c n t = (act_known s a names allowed (length acts) i c n t.0, told_known s a names allowed acts c n t.1)
 
--- the acts of a body
-pub record IsBody (s : SceneParts) (a : AgentDef) (b : Body) (acts : List Instr) : Type 0 where
-  pub told : AreTold s a b acts
+-- the acts of a body, of those that are allowed there
+pub record IsBody (s : SceneParts) (a : AgentDef) (allowed : Allowed) (acts : List Instr) : Type 0 where
+  pub told : AreTold s a allowed acts
   pub few : length acts ≤ 256
 
-pub acts_shape : (s : SceneParts) (a : AgentDef) (b : Body) (acts : List Instr) (place : Place) → Told s a → IsBody s a b acts → acts_fault (allowed_in b) place (as_array (acts_data s a acts)) ≡ None
-acts_shape s a b acts place c h =
+pub acts_shape : (s : SceneParts) (a : AgentDef) (allowed : Allowed) (acts : List Instr) (place : Place) → Told s a → IsBody s a allowed acts → acts_fault allowed place (as_array (acts_data s a acts)) ≡ None
+acts_shape s a allowed acts place c h =
     let few : length acts ≤ 256 = h.few in
-    rw (shown_len (act_data s a) acts, le-leb (length acts) 256 few) (acts_fine (act_data s a) (act_trouble (allowed_in b)) place 0 acts (told_fine s a b acts c h.told (omega arith)))
+    rw (shown_len (act_data s a) acts, le-leb (length acts) 256 few) (acts_fine (act_data s a) (act_trouble allowed) place 0 acts (told_fine s a allowed acts c h.told (omega arith)))
 
-pub acts_known : (s : SceneParts) (a : AgentDef) (names : Declared) (b : Body) (acts : List Instr) (place : Place) → Told s a → Stands s names → IsBody s a b acts → acts_from (λ rest d. act_unknown (knows_at names a) d) place 0 (items_of (map (act_data s a) acts)) ≡ None
-acts_known s a names b acts place c n h = acts_fine (act_data s a) (λ rest d. act_unknown (knows_at names a) d) place 0 acts (told_known s a names b acts c n h.told)
+pub acts_known : (s : SceneParts) (a : AgentDef) (names : Declared) (allowed : Allowed) (acts : List Instr) (place : Place) → Told s a → Stands s names → IsBody s a allowed acts → acts_from (λ rest d. act_unknown (knows_at names a) d) place 0 (items_of (map (act_data s a) acts)) ≡ None
+acts_known s a names allowed acts place c n h = acts_fine (act_data s a) (λ rest d. act_unknown (knows_at names a) d) place 0 acts (told_known s a names allowed acts c n h.told)
 
 -- ---- ids
 
@@ -311,8 +309,8 @@ pub record IsStateOf (s : SceneParts) (a : AgentDef) (x : StateSource) : Type 0 
   pub initial : x.state.initial ≡ true → is_some x.state.parent ≡ true
   pub parent : IsWithin (length a.tree) x.state.parent
   pub limit : x.state.limit ≡ None
-  pub enter : IsBody s a (body.Enter (record { 0 = 0 })) x.enter
-  pub exit : IsBody s a (body.Exit (record { 0 = 0 })) x.exit
+  pub enter : IsBody s a NoSwitch x.enter
+  pub exit : IsBody s a NoSwitch x.exit
 
 initial_ok : (b : Bool) (o : Option StateId) (f : StateId → List ℕ) → (b ≡ true → is_some o ≡ true) → IsInitial b (option_map f o)
 initial_ok false o f h = tt
@@ -353,7 +351,7 @@ pub state_shape : (sh : Shape) (s : SceneParts) (a : AgentDef) (n : ℕ) (x : St
 state_shape sh s a n x place c h =
     ap (λ (d : Data). run shape_step sh (visits (suc n) object.State place d)) (state_shown s a x c h)
     ∙ state_shape_at sh n place (act_items s a x.enter) (act_items s a x.exit) x.state.history x.state.initial x.name (option_map (state_text a) x.state.parent) h.name (parent_id s a x.state.parent c h.parent) (initial_ok x.state.initial x.state.parent (state_text a) h.initial)
-    (acts_shape s a (body.Enter (record { 0 = 0 })) x.enter _ c h.enter) (acts_shape s a (body.Exit (record { 0 = 0 })) x.exit _ c h.exit)
+    (acts_shape s a NoSwitch x.enter _ c h.enter) (acts_shape s a NoSwitch x.exit _ c h.exit)
 
 pub state_twice : (d : Declared) (s : SceneParts) (a : AgentDef) (n : ℕ) (x : StateSource) (place : Place) → Told s a → IsStateOf s a x → number_in d.states x.name ≡ None → run twice_step d (visits (suc n) object.State place (state_data s a x)) ≡ Ok (with_state d x.name)
 state_twice d s a n x place c h e =
@@ -364,7 +362,7 @@ pub state_known : (s : SceneParts) (a : AgentDef) (names : Declared) (n : ℕ) (
 state_known s a names n x place c st h =
     ap (λ (y : Data). run known_step (knows_at names a) (visits (suc n) object.State place y)) (state_shown s a x c h)
     ∙ state_known_at (knows_at names a) n place (act_items s a x.enter) (act_items s a x.exit) x.state.history x.state.initial x.name (option_map (state_text a) x.state.parent) (parent_among s a x.state.parent c h.parent)
-    (acts_known s a names (body.Enter (record { 0 = 0 })) x.enter _ c st h.enter) (acts_known s a names (body.Exit (record { 0 = 0 })) x.exit _ c st h.exit)
+    (acts_known s a names NoSwitch x.enter _ c st h.enter) (acts_known s a names NoSwitch x.exit _ c st h.exit)
 
 parent_numbers : (s : SceneParts) (a : AgentDef) (o : Option StateId) → Told s a → IsWithin (length a.tree) o → (p : StateId) → o ≡ Some p → (number_in (all_states (scope_for a)) (state_text a p) ≡ Some p.0) × (narrow p.0 ≡ p.0)
 parent_numbers s a o c h p e =
@@ -423,58 +421,59 @@ what_transfer : What → Option Data
 what_transfer (transfers to state) = Some (string to)
 what_transfer other = None
 
-row_plain : Bool → Option (List ℕ) → List ℕ → List ℕ → What → Data
+row_plain : Bool → Option (List ℕ) → List ℕ → List ℕ → Bool → What → Data
 unfolding what_dead what_do what_state what_suppress what_switch what_transfer
-row_plain active id mbox msg what = object
+row_plain active id mbox msg safe what = object
     (member (codes "active") (boolean active)
     (given (codes "dead") (what_dead what)
     (given (codes "do") (what_do what)
     (given (codes "id") (option_map string id)
     (member (codes "mbox") (string mbox)
     (member (codes "msg") (string msg)
+    (member (codes "safe") (boolean safe)
     (given (codes "state") (what_state what)
     (given (codes "suppress") (what_suppress what)
     (given (codes "switch") (what_switch what)
-    (given (codes "transfer") (what_transfer what) no_members))))))))))
+    (given (codes "transfer") (what_transfer what) no_members)))))))))))
 
--- the names are legal, and the acts have no fault
-abbrev IsWhat : Place → What → Type 0
-IsWhat place (runs acts state) = (acts_fault AnyAct (place ++ Key field.Do ∷ []) (Some acts) ≡ None) × (is_name state ≡ true)
-IsWhat place (dies acts) = (acts_fault AnyAct (place ++ Key field.Do ∷ []) (Some acts) ≡ None) × Unit {0}
-IsWhat place (switches to state) = (is_name to ≡ true) × (is_name state ≡ true)
-IsWhat place (transfers to state) = (is_name to ≡ true) × (is_name state ≡ true)
-IsWhat place (suppresses state) = Unit {0} × (is_name state ≡ true)
+-- the names are legal, the acts have no fault, and only a handler is safe
+abbrev IsWhat : Place → Bool → What → Type 0
+IsWhat place safe (runs acts state) = (acts_fault (handler_of safe) (place ++ Key field.Do ∷ []) (Some acts) ≡ None) × (is_name state ≡ true) × ((safe && false) ≡ false)
+IsWhat place safe (dies acts) = (acts_fault (handler_of safe) (place ++ Key field.Do ∷ []) (Some acts) ≡ None) × Unit {0} × ((safe && false) ≡ false)
+IsWhat place safe (switches to state) = (is_name to ≡ true) × (is_name state ≡ true) × ((safe && true) ≡ false)
+IsWhat place safe (transfers to state) = (is_name to ≡ true) × (is_name state ≡ true) × ((safe && true) ≡ false)
+IsWhat place safe (suppresses state) = Unit {0} × (is_name state ≡ true) × ((safe && true) ≡ false)
 
-row_shape_at : (s : Shape) (n : ℕ) (place : Place) (active : Bool) (id : Option (List ℕ)) (x y : List ℕ) (what : What) → IsId id → is_name x ≡ true → is_name y ≡ true → IsWhat place what
-    → run shape_step s (visits (suc n) object.Row place (row_plain active id x y what)) ≡ Ok s
+row_shape_at : (s : Shape) (n : ℕ) (place : Place) (active : Bool) (id : Option (List ℕ)) (x y : List ℕ) (safe : Bool) (what : What) → IsId id → is_name x ≡ true → is_name y ≡ true → IsWhat place safe what
+    → run shape_step s (visits (suc n) object.Row place (row_plain active id x y safe what)) ≡ Ok s
 unfolding visits fields_of field_visits run has_unknown is_known row_plain what_dead what_do what_state what_suppress what_switch what_transfer
-row_shape_at s n place active None x y (runs acts state) i e f h = rw (e, f, h.1, h.0)
-row_shape_at s n place active (Some id) x y (runs acts state) i e f h = rw (i, e, f, h.1, h.0)
-row_shape_at s n place active None x y (dies acts) i e f h = rw (e, f, h.0)
-row_shape_at s n place active (Some id) x y (dies acts) i e f h = rw (i, e, f, h.0)
-row_shape_at s n place active None x y (switches to state) i e f h = rw (e, f, h.1, h.0)
-row_shape_at s n place active (Some id) x y (switches to state) i e f h = rw (i, e, f, h.1, h.0)
-row_shape_at s n place active None x y (transfers to state) i e f h = rw (e, f, h.1, h.0)
-row_shape_at s n place active (Some id) x y (transfers to state) i e f h = rw (i, e, f, h.1, h.0)
-row_shape_at s n place active None x y (suppresses state) i e f h = rw (e, f, h.1)
-row_shape_at s n place active (Some id) x y (suppresses state) i e f h = rw (i, e, f, h.1)
+row_shape_at s n place active None x y safe (runs acts state) i e f h = rw (e, f, h.1, h.0, h.2)
+row_shape_at s n place active (Some id) x y safe (runs acts state) i e f h = rw (i, e, f, h.1, h.0, h.2)
+row_shape_at s n place active None x y safe (dies acts) i e f h = rw (e, f, h.0, h.2)
+row_shape_at s n place active (Some id) x y safe (dies acts) i e f h = rw (i, e, f, h.0, h.2)
+row_shape_at s n place active None x y safe (switches to state) i e f h = rw (e, f, h.1, h.0, h.2)
+row_shape_at s n place active (Some id) x y safe (switches to state) i e f h = rw (i, e, f, h.1, h.0, h.2)
+row_shape_at s n place active None x y safe (transfers to state) i e f h = rw (e, f, h.1, h.0, h.2)
+row_shape_at s n place active (Some id) x y safe (transfers to state) i e f h = rw (i, e, f, h.1, h.0, h.2)
+row_shape_at s n place active None x y safe (suppresses state) i e f h = rw (e, f, h.1, h.2)
+row_shape_at s n place active (Some id) x y safe (suppresses state) i e f h = rw (i, e, f, h.1, h.2)
 
 abbrev pub with_row : Declared → Option (List ℕ) → Declared
 with_row d id = record d { rows = with_id d.rows id }
 
-row_twice_at : (d : Declared) (n : ℕ) (place : Place) (active : Bool) (id : Option (List ℕ)) (x y : List ℕ) (what : What) → IsId id → IsNew d.rows id
-    → run twice_step d (visits (suc n) object.Row place (row_plain active id x y what)) ≡ Ok (with_row d id)
+row_twice_at : (d : Declared) (n : ℕ) (place : Place) (active : Bool) (id : Option (List ℕ)) (x y : List ℕ) (safe : Bool) (what : What) → IsId id → IsNew d.rows id
+    → run twice_step d (visits (suc n) object.Row place (row_plain active id x y safe what)) ≡ Ok (with_row d id)
 unfolding visits fields_of field_visits run row_plain what_dead what_do what_state what_suppress what_switch what_transfer
-row_twice_at d n place active None x y (runs acts state) i e = refl
-row_twice_at d n place active (Some id) x y (runs acts state) i e = rw (i, e)
-row_twice_at d n place active None x y (dies acts) i e = refl
-row_twice_at d n place active (Some id) x y (dies acts) i e = rw (i, e)
-row_twice_at d n place active None x y (switches to state) i e = refl
-row_twice_at d n place active (Some id) x y (switches to state) i e = rw (i, e)
-row_twice_at d n place active None x y (transfers to state) i e = refl
-row_twice_at d n place active (Some id) x y (transfers to state) i e = rw (i, e)
-row_twice_at d n place active None x y (suppresses state) i e = refl
-row_twice_at d n place active (Some id) x y (suppresses state) i e = rw (i, e)
+row_twice_at d n place active None x y safe (runs acts state) i e = refl
+row_twice_at d n place active (Some id) x y safe (runs acts state) i e = rw (i, e)
+row_twice_at d n place active None x y safe (dies acts) i e = refl
+row_twice_at d n place active (Some id) x y safe (dies acts) i e = rw (i, e)
+row_twice_at d n place active None x y safe (switches to state) i e = refl
+row_twice_at d n place active (Some id) x y safe (switches to state) i e = rw (i, e)
+row_twice_at d n place active None x y safe (transfers to state) i e = refl
+row_twice_at d n place active (Some id) x y safe (transfers to state) i e = rw (i, e)
+row_twice_at d n place active None x y safe (suppresses state) i e = refl
+row_twice_at d n place active (Some id) x y safe (suppresses state) i e = rw (i, e)
 
 abbrev IsKnownWhat : Known → Place → What → Type 0
 IsKnownWhat w place (runs acts state) = (acts_from (λ rest d. act_unknown w d) (place ++ Key field.Do ∷ []) 0 acts ≡ None) × (absent_from (all_states w.scope) (Some state) ≡ None)
@@ -483,32 +482,32 @@ IsKnownWhat w place (switches to state) = (absent_from (all_states w.scope) (Som
 IsKnownWhat w place (transfers to state) = (absent_from (all_states w.scope) (Some to) ≡ None) × (absent_from (all_states w.scope) (Some state) ≡ None)
 IsKnownWhat w place (suppresses state) = Unit {0} × (absent_from (all_states w.scope) (Some state) ≡ None)
 
-row_known_at : (w : Known) (n : ℕ) (place : Place) (active : Bool) (id : Option (List ℕ)) (x y : List ℕ) (i j : ℕ) (what : What) → number_in (names_in space.Mboxes w.names) x ≡ Some i → number_in w.names.messages y ≡ Some j → IsKnownWhat w place what
-    → run known_step w (visits (suc n) object.Row place (row_plain active id x y what)) ≡ Ok w
+row_known_at : (w : Known) (n : ℕ) (place : Place) (active : Bool) (id : Option (List ℕ)) (x y : List ℕ) (i j : ℕ) (safe : Bool) (what : What) → number_in (names_in space.Mboxes w.names) x ≡ Some i → number_in w.names.messages y ≡ Some j → IsKnownWhat w place what
+    → run known_step w (visits (suc n) object.Row place (row_plain active id x y safe what)) ≡ Ok w
 unfolding visits fields_of field_visits run row_plain what_dead what_do what_state what_suppress what_switch what_transfer
-row_known_at w n place active None x y i j (runs acts state) e f h = rw (f, e, h.1, h.0)
-row_known_at w n place active (Some id) x y i j (runs acts state) e f h = rw (f, e, h.1, h.0)
-row_known_at w n place active None x y i j (dies acts) e f h = rw (f, e, h.0)
-row_known_at w n place active (Some id) x y i j (dies acts) e f h = rw (f, e, h.0)
-row_known_at w n place active None x y i j (switches to state) e f h = rw (f, e, h.1, h.0)
-row_known_at w n place active (Some id) x y i j (switches to state) e f h = rw (f, e, h.1, h.0)
-row_known_at w n place active None x y i j (transfers to state) e f h = rw (f, e, h.1, h.0)
-row_known_at w n place active (Some id) x y i j (transfers to state) e f h = rw (f, e, h.1, h.0)
-row_known_at w n place active None x y i j (suppresses state) e f h = rw (f, e, h.1)
-row_known_at w n place active (Some id) x y i j (suppresses state) e f h = rw (f, e, h.1)
+row_known_at w n place active None x y i j safe (runs acts state) e f h = rw (f, e, h.1, h.0)
+row_known_at w n place active (Some id) x y i j safe (runs acts state) e f h = rw (f, e, h.1, h.0)
+row_known_at w n place active None x y i j safe (dies acts) e f h = rw (f, e, h.0)
+row_known_at w n place active (Some id) x y i j safe (dies acts) e f h = rw (f, e, h.0)
+row_known_at w n place active None x y i j safe (switches to state) e f h = rw (f, e, h.1, h.0)
+row_known_at w n place active (Some id) x y i j safe (switches to state) e f h = rw (f, e, h.1, h.0)
+row_known_at w n place active None x y i j safe (transfers to state) e f h = rw (f, e, h.1, h.0)
+row_known_at w n place active (Some id) x y i j safe (transfers to state) e f h = rw (f, e, h.1, h.0)
+row_known_at w n place active None x y i j safe (suppresses state) e f h = rw (f, e, h.1)
+row_known_at w n place active (Some id) x y i j safe (suppresses state) e f h = rw (f, e, h.1)
 
-row_id_at : (active : Bool) (id : Option (List ℕ)) (x y : List ℕ) (what : What) → IsId id → id_in (row_plain active id x y what) ≡ id
+row_id_at : (active : Bool) (id : Option (List ℕ)) (x y : List ℕ) (safe : Bool) (what : What) → IsId id → id_in (row_plain active id x y safe what) ≡ id
 unfolding row_plain what_dead what_do what_state what_suppress what_switch what_transfer
-row_id_at active None x y (runs acts state) i = refl
-row_id_at active (Some id) x y (runs acts state) i = rw i
-row_id_at active None x y (dies acts) i = refl
-row_id_at active (Some id) x y (dies acts) i = rw i
-row_id_at active None x y (switches to state) i = refl
-row_id_at active (Some id) x y (switches to state) i = rw i
-row_id_at active None x y (transfers to state) i = refl
-row_id_at active (Some id) x y (transfers to state) i = rw i
-row_id_at active None x y (suppresses state) i = refl
-row_id_at active (Some id) x y (suppresses state) i = rw i
+row_id_at active None x y safe (runs acts state) i = refl
+row_id_at active (Some id) x y safe (runs acts state) i = rw i
+row_id_at active None x y safe (dies acts) i = refl
+row_id_at active (Some id) x y safe (dies acts) i = rw i
+row_id_at active None x y safe (switches to state) i = refl
+row_id_at active (Some id) x y safe (switches to state) i = rw i
+row_id_at active None x y safe (transfers to state) i = refl
+row_id_at active (Some id) x y safe (transfers to state) i = rw i
+row_id_at active None x y safe (suppresses state) i = refl
+row_id_at active (Some id) x y safe (suppresses state) i = rw i
 
 what_of : Items → (StateId → List ℕ) → StateId → RowKind → What
 what_of acts text state Run = runs acts (text state)
@@ -535,7 +534,7 @@ on_states P Q f state Suppress h = f state h
 row_shown_at : (s : SceneParts) (a : AgentDef) (id : Option (List ℕ)) (acts : List Instr) (mbox : MboxId) (msg : MsgId) (state : StateId) (kind : RowKind) (safe active : Bool)
     → IsId id → is_utf8 (mbox_name s mbox) ≡ true → is_utf8 (message_text s msg) ≡ true → OnStates (λ x. is_utf8 (state_text a x) ≡ true) state kind
     → row_data s a (record { id = id; row = record { mbox = mbox; msg = msg; state = state; kind = kind; safe = safe; active = active }; acts = acts })
-    ≡ row_plain active id (mbox_name s mbox) (message_text s msg) (what_of (act_items s a acts) (state_text a) state kind)
+    ≡ row_plain active id (mbox_name s mbox) (message_text s msg) safe (what_of (act_items s a acts) (state_text a) state kind)
 unfolding row_plain what_of what_dead what_do what_state what_suppress what_switch what_transfer
 row_shown_at s a id acts mbox msg state Run safe active i e f h = rw (id_shown id i, e, f, h)
 row_shown_at s a id acts mbox msg state Dead safe active i e f h = rw (id_shown id i, e, f)
@@ -547,26 +546,26 @@ row_shown_at s a id acts mbox msg state Suppress safe active i e f h = rw (id_sh
 abbrev IsNumbered : Scope → (StateId → List ℕ) → StateId → Type 0
 IsNumbered scope text x = (number_in (all_states scope) (text x) ≡ Some x.0) × (narrow x.0 ≡ x.0)
 
-row_read_at : (k : ℕ) (names : Declared) (scope : Scope) (active : Bool) (id : Option (List ℕ)) (x y : List ℕ) (acts : Items) (text : StateId → List ℕ) (state : StateId) (kind : RowKind) (mbox : MboxId) (msg : MsgId)
+row_read_at : (k : ℕ) (names : Declared) (scope : Scope) (active : Bool) (id : Option (List ℕ)) (x y : List ℕ) (safe : Bool) (acts : Items) (text : StateId → List ℕ) (state : StateId) (kind : RowKind) (mbox : MboxId) (msg : MsgId)
     → number_in (names_in space.Mboxes names) x ≡ Some mbox.0 → number_in names.messages y ≡ Some msg.0 → narrow mbox.0 ≡ mbox.0 → narrow msg.0 ≡ msg.0 → OnStates (IsNumbered scope text) state kind
-    → row_of k names scope (row_plain active id x y (what_of acts text state kind)) ≡ record { mbox = mbox; msg = msg; state = state; kind = kind; safe = false; active = active }
+    → row_of k names scope (row_plain active id x y safe (what_of acts text state kind)) ≡ record { mbox = mbox; msg = msg; state = state; kind = kind; safe = safe; active = active }
 unfolding row_plain what_of what_dead what_do what_state what_suppress what_switch what_transfer
-row_read_at k names scope active None x y acts text state Run mbox msg e f p q h = rw (e, f, p, q, h.0, h.1)
-row_read_at k names scope active (Some id) x y acts text state Run mbox msg e f p q h = rw (e, f, p, q, h.0, h.1)
-row_read_at k names scope active None x y acts text state Dead mbox msg e f p q h = rw (e, f, p, q, h)
-row_read_at k names scope active (Some id) x y acts text state Dead mbox msg e f p q h = rw (e, f, p, q, h)
-row_read_at k names scope active None x y acts text state (Switch to) mbox msg e f p q h = rw (e, f, p, q, h.0.0, h.0.1, h.1.0, h.1.1)
-row_read_at k names scope active (Some id) x y acts text state (Switch to) mbox msg e f p q h = rw (e, f, p, q, h.0.0, h.0.1, h.1.0, h.1.1)
-row_read_at k names scope active None x y acts text state (Transfer to) mbox msg e f p q h = rw (e, f, p, q, h.0.0, h.0.1, h.1.0, h.1.1)
-row_read_at k names scope active (Some id) x y acts text state (Transfer to) mbox msg e f p q h = rw (e, f, p, q, h.0.0, h.0.1, h.1.0, h.1.1)
-row_read_at k names scope active None x y acts text state Suppress mbox msg e f p q h = rw (e, f, p, q, h.0, h.1)
-row_read_at k names scope active (Some id) x y acts text state Suppress mbox msg e f p q h = rw (e, f, p, q, h.0, h.1)
+row_read_at k names scope active None x y safe acts text state Run mbox msg e f p q h = rw (e, f, p, q, h.0, h.1)
+row_read_at k names scope active (Some id) x y safe acts text state Run mbox msg e f p q h = rw (e, f, p, q, h.0, h.1)
+row_read_at k names scope active None x y safe acts text state Dead mbox msg e f p q h = rw (e, f, p, q, h)
+row_read_at k names scope active (Some id) x y safe acts text state Dead mbox msg e f p q h = rw (e, f, p, q, h)
+row_read_at k names scope active None x y safe acts text state (Switch to) mbox msg e f p q h = rw (e, f, p, q, h.0.0, h.0.1, h.1.0, h.1.1)
+row_read_at k names scope active (Some id) x y safe acts text state (Switch to) mbox msg e f p q h = rw (e, f, p, q, h.0.0, h.0.1, h.1.0, h.1.1)
+row_read_at k names scope active None x y safe acts text state (Transfer to) mbox msg e f p q h = rw (e, f, p, q, h.0.0, h.0.1, h.1.0, h.1.1)
+row_read_at k names scope active (Some id) x y safe acts text state (Transfer to) mbox msg e f p q h = rw (e, f, p, q, h.0.0, h.0.1, h.1.0, h.1.1)
+row_read_at k names scope active None x y safe acts text state Suppress mbox msg e f p q h = rw (e, f, p, q, h.0, h.1)
+row_read_at k names scope active (Some id) x y safe acts text state Suppress mbox msg e f p q h = rw (e, f, p, q, h.0, h.1)
 
 -- what a row of an agent keeps
 pub record IsRowOf (s : SceneParts) (a : AgentDef) (x : RowSource) : Type 0 where
   pub row : IsSceneRow s (length a.tree) x.row
   pub id : IsId x.id
-  pub acts : has_handler x.row.kind ≡ true → IsBody s a (body.Row (record { 0 = 0 })) x.acts
+  pub acts : has_handler x.row.kind ≡ true → IsBody s a (handler_of x.row.safe) x.acts
 
 abbrev IsStateId : AgentDef → StateId → Type 0
 IsStateId a x = x.0 ≤ length a.tree
@@ -579,7 +578,7 @@ states_within a state (Transfer to) l h = (h, l)
 states_within a state Suppress l h = l
 
 abbrev plain_row : SceneParts → AgentDef → RowSource → Data
-plain_row s a x = row_plain x.row.active x.id (mbox_name s x.row.mbox) (message_text s x.row.msg) (what_of (act_items s a x.acts) (state_text a) x.row.state x.row.kind)
+plain_row s a x = row_plain x.row.active x.id (mbox_name s x.row.mbox) (message_text s x.row.msg) x.row.safe (what_of (act_items s a x.acts) (state_text a) x.row.state x.row.kind)
 
 row_states : (s : SceneParts) (a : AgentDef) (x : RowSource) → IsRowOf s a x → OnStates (IsStateId a) x.row.state x.row.kind
 row_states s a x h = states_within a x.row.state x.row.kind h.row.state h.row.kind
@@ -589,45 +588,51 @@ row_shown s a x c h =
     row_shown_at s a x.id x.acts x.row.mbox x.row.msg x.row.state x.row.kind x.row.safe x.row.active h.id (name_utf8 _ (mbox_legal s x.row.mbox c.writable h.row.mbox)) (name_utf8 _ (message_legal s x.row.msg c.writable h.row.msg))
     (on_states (IsStateId a) (λ y. is_utf8 (state_text a y) ≡ true) (λ y l. name_utf8 _ (state_legal s a y c l)) x.row.state x.row.kind (row_states s a x h))
 
-what_fine : (s : SceneParts) (a : AgentDef) (acts : List Instr) (state : StateId) (kind : RowKind) (place : Place) → Told s a → (has_handler kind ≡ true → IsBody s a (body.Row (record { 0 = 0 })) acts) → OnStates (IsStateId a) state kind
-    → IsWhat place (what_of (act_items s a acts) (state_text a) state kind)
+and_false : (safe : Bool) → (safe && false) ≡ false
+and_false true = refl
+and_false false = refl
+
+not_safe : (safe : Bool) → (safe ≡ true → false ≡ true) → (safe && true) ≡ false
+not_safe true f = sym (f refl)
+not_safe false f = refl
+
+what_fine : (s : SceneParts) (a : AgentDef) (acts : List Instr) (state : StateId) (kind : RowKind) (safe : Bool) (place : Place) → Told s a → (safe ≡ true → has_handler kind ≡ true) → (has_handler kind ≡ true → IsBody s a (handler_of safe) acts) → OnStates (IsStateId a) state kind
+    → IsWhat place safe (what_of (act_items s a acts) (state_text a) state kind)
 unfolding what_of
-what_fine s a acts state Run place c b h = (acts_shape s a (body.Row (record { 0 = 0 })) acts _ c (b refl), state_legal s a state c h)
-what_fine s a acts state Dead place c b h = (acts_shape s a (body.Row (record { 0 = 0 })) acts _ c (b refl), tt)
-what_fine s a acts state (Switch to) place c b h = (state_legal s a to c h.0, state_legal s a state c h.1)
-what_fine s a acts state (Transfer to) place c b h = (state_legal s a to c h.0, state_legal s a state c h.1)
-what_fine s a acts state Suppress place c b h = (tt, state_legal s a state c h)
+what_fine s a acts state Run safe place c f b h = (acts_shape s a (handler_of safe) acts _ c (b refl), state_legal s a state c h, and_false safe)
+what_fine s a acts state Dead safe place c f b h = (acts_shape s a (handler_of safe) acts _ c (b refl), tt, and_false safe)
+what_fine s a acts state (Switch to) safe place c f b h = (state_legal s a to c h.0, state_legal s a state c h.1, not_safe safe f)
+what_fine s a acts state (Transfer to) safe place c f b h = (state_legal s a to c h.0, state_legal s a state c h.1, not_safe safe f)
+what_fine s a acts state Suppress safe place c f b h = (tt, state_legal s a state c h, not_safe safe f)
 
 state_there : (s : SceneParts) (a : AgentDef) (x : StateId) → Told s a → x.0 ≤ length a.tree → absent_from (all_states (scope_for a)) (Some (state_text a x)) ≡ None
 state_there s a x c l = is_there (all_states (scope_for a)) (state_text a x) x.0 (state_number_again s a x c l)
 
-what_known : (s : SceneParts) (a : AgentDef) (names : Declared) (acts : List Instr) (state : StateId) (kind : RowKind) (place : Place) → Told s a → Stands s names → (has_handler kind ≡ true → IsBody s a (body.Row (record { 0 = 0 })) acts) → OnStates (IsStateId a) state kind
+what_known : (s : SceneParts) (a : AgentDef) (names : Declared) (acts : List Instr) (state : StateId) (kind : RowKind) (allowed : Allowed) (place : Place) → Told s a → Stands s names → (has_handler kind ≡ true → IsBody s a allowed acts) → OnStates (IsStateId a) state kind
     → IsKnownWhat (knows_at names a) place (what_of (act_items s a acts) (state_text a) state kind)
 unfolding what_of
-what_known s a names acts state Run place c st b h = (acts_known s a names (body.Row (record { 0 = 0 })) acts _ c st (b refl), state_there s a state c h)
-what_known s a names acts state Dead place c st b h = (acts_known s a names (body.Row (record { 0 = 0 })) acts _ c st (b refl), tt)
-what_known s a names acts state (Switch to) place c st b h = (state_there s a to c h.0, state_there s a state c h.1)
-what_known s a names acts state (Transfer to) place c st b h = (state_there s a to c h.0, state_there s a state c h.1)
-what_known s a names acts state Suppress place c st b h = (tt, state_there s a state c h)
+what_known s a names acts state Run allowed place c st b h = (acts_known s a names allowed acts _ c st (b refl), state_there s a state c h)
+what_known s a names acts state Dead allowed place c st b h = (acts_known s a names allowed acts _ c st (b refl), tt)
+what_known s a names acts state (Switch to) allowed place c st b h = (state_there s a to c h.0, state_there s a state c h.1)
+what_known s a names acts state (Transfer to) allowed place c st b h = (state_there s a to c h.0, state_there s a state c h.1)
+what_known s a names acts state Suppress allowed place c st b h = (tt, state_there s a state c h)
 
 pub row_shape : (sh : Shape) (s : SceneParts) (a : AgentDef) (n : ℕ) (x : RowSource) (place : Place) → Told s a → IsRowOf s a x → run shape_step sh (visits (suc n) object.Row place (row_data s a x)) ≡ Ok sh
 row_shape sh s a n x place c h =
     ap (λ (d : Data). run shape_step sh (visits (suc n) object.Row place d)) (row_shown s a x c h)
-    ∙ row_shape_at sh n place x.row.active x.id (mbox_name s x.row.mbox) (message_text s x.row.msg) _ h.id (mbox_legal s x.row.mbox c.writable h.row.mbox) (message_legal s x.row.msg c.writable h.row.msg) (what_fine s a x.acts x.row.state x.row.kind place c h.acts (row_states s a x h))
+    ∙ row_shape_at sh n place x.row.active x.id (mbox_name s x.row.mbox) (message_text s x.row.msg) x.row.safe _ h.id (mbox_legal s x.row.mbox c.writable h.row.mbox) (message_legal s x.row.msg c.writable h.row.msg)
+    (what_fine s a x.acts x.row.state x.row.kind x.row.safe place c h.row.safe h.acts (row_states s a x h))
 
 pub row_twice : (d : Declared) (s : SceneParts) (a : AgentDef) (n : ℕ) (x : RowSource) (place : Place) → Told s a → IsRowOf s a x → IsNew d.rows x.id → run twice_step d (visits (suc n) object.Row place (row_data s a x)) ≡ Ok (with_row d x.id)
 row_twice d s a n x place c h e =
     ap (λ (y : Data). run twice_step d (visits (suc n) object.Row place y)) (row_shown s a x c h)
-    ∙ row_twice_at d n place x.row.active x.id (mbox_name s x.row.mbox) (message_text s x.row.msg) _ h.id e
+    ∙ row_twice_at d n place x.row.active x.id (mbox_name s x.row.mbox) (message_text s x.row.msg) x.row.safe _ h.id e
 
 pub row_known : (s : SceneParts) (a : AgentDef) (names : Declared) (n : ℕ) (x : RowSource) (place : Place) → Told s a → Stands s names → IsRowOf s a x → run known_step (knows_at names a) (visits (suc n) object.Row place (row_data s a x)) ≡ Ok (knows_at names a)
 row_known s a names n x place c st h =
     ap (λ (y : Data). run known_step (knows_at names a) (visits (suc n) object.Row place y)) (row_shown s a x c h)
-    ∙ row_known_at (knows_at names a) n place x.row.active x.id (mbox_name s x.row.mbox) (message_text s x.row.msg) x.row.mbox.0 x.row.msg.0 _ (mbox_number s names x.row.mbox c.scene st h.row.mbox) (message_number s names x.row.msg c.scene st h.row.msg)
-    (what_known s a names x.acts x.row.state x.row.kind place c st h.acts (row_states s a x h))
-
-not_safe : (x : Row) → x.safe ≡ false → (record { mbox = x.mbox; msg = x.msg; state = x.state; kind = x.kind; safe = false; active = x.active }) ≡ x
-not_safe x e = rw e
+    ∙ row_known_at (knows_at names a) n place x.row.active x.id (mbox_name s x.row.mbox) (message_text s x.row.msg) x.row.mbox.0 x.row.msg.0 x.row.safe _ (mbox_number s names x.row.mbox c.scene st h.row.mbox) (message_number s names x.row.msg c.scene st h.row.msg)
+    (what_known s a names x.acts x.row.state x.row.kind (handler_of x.row.safe) place c st h.acts (row_states s a x h))
 
 state_numbered : (s : SceneParts) (a : AgentDef) (x : StateId) → Told s a → x.0 ≤ length a.tree → IsNumbered (scope_for a) (state_text a) x
 state_numbered s a x c l = let few : length a.tree ≤ 63 = c.agent.tree.few in (state_number_again s a x c l, narrow_small x.0 (omega arith))
@@ -635,10 +640,9 @@ state_numbered s a x c l = let few : length a.tree ≤ 63 = c.agent.tree.few in 
 pub row_read : (k : ℕ) (s : SceneParts) (a : AgentDef) (names : Declared) (x : RowSource) → Told s a → Stands s names → IsRowOf s a x → row_of k names (scope_for a) (row_data s a x) ≡ x.row
 row_read k s a names x c st h =
     ap (row_of k names (scope_for a)) (row_shown s a x c h)
-    ∙ (row_read_at k names (scope_for a) x.row.active x.id (mbox_name s x.row.mbox) (message_text s x.row.msg) (act_items s a x.acts) (state_text a) x.row.state x.row.kind x.row.mbox x.row.msg (mbox_number s names x.row.mbox c.scene st h.row.mbox) (message_number s names x.row.msg c.scene st h.row.msg)
+    ∙ row_read_at k names (scope_for a) x.row.active x.id (mbox_name s x.row.mbox) (message_text s x.row.msg) x.row.safe (act_items s a x.acts) (state_text a) x.row.state x.row.kind x.row.mbox x.row.msg (mbox_number s names x.row.mbox c.scene st h.row.mbox) (message_number s names x.row.msg c.scene st h.row.msg)
     (small_mbox s x.row.mbox c.scene h.row.mbox) (small_msg s x.row.msg c.scene h.row.msg)
     (on_states (IsStateId a) (IsNumbered (scope_for a) (state_text a)) (λ y l. state_numbered s a y c l) x.row.state x.row.kind (row_states s a x h))
-    ∙ not_safe x.row h.row.not_safe)
 
 pub row_id_read : (s : SceneParts) (a : AgentDef) (x : RowSource) → Told s a → IsRowOf s a x → id_in (row_data s a x) ≡ x.id
-row_id_read s a x c h = ap id_in (row_shown s a x c h) ∙ row_id_at x.row.active x.id (mbox_name s x.row.mbox) (message_text s x.row.msg) _ h.id
+row_id_read s a x c h = ap id_in (row_shown s a x c h) ∙ row_id_at x.row.active x.id (mbox_name s x.row.mbox) (message_text s x.row.msg) x.row.safe _ h.id

@@ -69,10 +69,10 @@ abbrev agents_items : SceneParts → Items
 agents_items s = items_of (map (agent_data s) s.agents)
 
 coop_run : {S : Type 0} (step : S → Visit → Result S SceneFault) (r t u : S) (s : SceneParts) (c : CoopDef) (place : Place)
-    → ((f : Field) (x : S) → Tries step x place (later f) None)
+    → ((f : Field) (x : S) → Tries step x place (coop_data s c) (later f) None)
     → step r (enters object.Coop place (coop_data s c)) ≡ Ok t
-    → Tries step t place coop_name_rule (Some (text_data c.name))
-    → Tries step t place agents_rule (Some (array (agents_items s)))
+    → Tries step t place (coop_data s c) coop_name_rule (Some (text_data c.name))
+    → Tries step t place (coop_data s c) agents_rule (Some (array (agents_items s)))
     → Passes step t u 2 place agents_rule object.Agent (agents_items s)
     → step u (leaves object.Coop place (coop_data s c)) ≡ Ok u
     → run step r (visits 3 object.Coop place (coop_data s c)) ≡ Ok u
@@ -115,15 +115,15 @@ abbrev lone : SceneParts → CoopDef → Data
 lone s c = scene_shown s (c ∷ [])
 
 scene_run : {S : Type 0} (step : S → Visit → Result S SceneFault) (r t u v w : S) (s : SceneParts) (c : CoopDef)
-    → ((f : Field) (x : S) → Tries step x [] (later f) None)
+    → ((f : Field) (x : S) → Tries step x [] (lone s c) (later f) None)
     → step r (enters object.Scene [] (lone s c)) ≡ Ok r
-    → Tries step r [] version_rule (Some (count_data 1))
-    → Tries step r [] messages_rule (Some (list_data message_data s.messages))
+    → Tries step r [] (lone s c) version_rule (Some (count_data 1))
+    → Tries step r [] (lone s c) messages_rule (Some (list_data message_data s.messages))
     → Passes step r t 3 [] messages_rule object.Message (items_of (map message_data s.messages))
-    → step t (tries mboxes_rule (at_key [] mboxes_rule) (Some (list_data text_data s.mboxes))) ≡ Ok u
-    → Tries step u [] dispatchers_rule (Some (list_data disp_data (declared s)))
+    → step t (tries mboxes_rule (at_key [] mboxes_rule) (lone s c) (Some (list_data text_data s.mboxes))) ≡ Ok u
+    → Tries step u [] (lone s c) dispatchers_rule (Some (list_data disp_data (declared s)))
     → Passes step u v 3 [] dispatchers_rule object.Dispatcher (items_of (map disp_data (declared s)))
-    → Tries step v [] coops_rule (Some (list_data (coop_data s) (c ∷ [])))
+    → Tries step v [] (lone s c) coops_rule (Some (list_data (coop_data s) (c ∷ [])))
     → ((place : Place) → run step v (visits 3 object.Coop place (coop_data s c)) ≡ Ok w)
     → step w (leaves object.Scene [] (lone s c)) ≡ Ok w
     → run step r (fields (lone s c)) ≡ Ok w
@@ -158,43 +158,43 @@ coop_enters : (sh : Shape) (s : SceneParts) (c : CoopDef) (place : Place) → sh
 unfolding has_unknown is_known
 coop_enters sh s c place = refl
 
-coop_name_shape : (sh : Shape) (place : Place) (name : List ℕ) → is_name name ≡ true → Tries shape_step sh place coop_name_rule (Some (text_data name))
-coop_name_shape sh place name e = rw (name_read name e)
+coop_name_shape : (sh : Shape) (place : Place) (d : Data) (name : List ℕ) → is_name name ≡ true → Tries shape_step sh place d coop_name_rule (Some (text_data name))
+coop_name_shape sh place d name e = rw (name_read name e)
 
-agents_shape : (sh : Shape) (s : SceneParts) (place : Place) → Tries shape_step sh place agents_rule (Some (array (agents_items s)))
-agents_shape sh s place = rw (first_fine object_trouble (agent_data s) s.agents (every (λ a. object_trouble (agent_data s a) ≡ None) (λ a. refl) s.agents))
+agents_shape : (sh : Shape) (s : SceneParts) (place : Place) (d : Data) → Tries shape_step sh place d agents_rule (Some (array (agents_items s)))
+agents_shape sh s place d = rw (first_fine object_trouble (agent_data s) s.agents (every (λ a. object_trouble (agent_data s a) ≡ None) (λ a. refl) s.agents))
 
 coop_shape : (sh : Shape) (s : SceneParts) (c : CoopDef) (place : Place) → IsScene s → IsWritable s → is_name c.name ≡ true → run shape_step sh (visits 3 object.Coop place (coop_data s c)) ≡ Ok sh
 coop_shape sh s c place h g e =
-    coop_run shape_step sh sh sh s c place (λ f x. refl) (coop_enters sh s c place) (coop_name_shape sh place c.name e) (agents_shape sh s place)
+    coop_run shape_step sh sh sh s c place (λ f x. refl) (coop_enters sh s c place) (coop_name_shape sh place (coop_data s c) c.name e) (agents_shape sh s place (coop_data s c))
     (run_same shape_step (visits 2 object.Agent) (agent_data s) (Told s) sh (λ a p t. agent_shape sh s 0 a p t) s.agents _ 0 (told_all s h g)) refl
 
 scene_enters : (sh : Shape) (s : SceneParts) (c : CoopDef) → shape_step sh (enters object.Scene [] (lone s c)) ≡ Ok sh
 unfolding has_unknown is_known
 scene_enters sh s c = refl
 
-messages_shape : (sh : Shape) (s : SceneParts) → IsScene s → Tries shape_step sh [] messages_rule (Some (list_data message_data s.messages))
-messages_shape sh s h = rw (list_fine object_trouble message_data 256 s.messages h.few_messages (every (λ m. object_trouble (message_data m) ≡ None) (λ m. refl) s.messages))
+messages_shape : (sh : Shape) (s : SceneParts) (d : Data) → IsScene s → Tries shape_step sh [] d messages_rule (Some (list_data message_data s.messages))
+messages_shape sh s d h = rw (list_fine object_trouble message_data 256 s.messages h.few_messages (every (λ m. object_trouble (message_data m) ≡ None) (λ m. refl) s.messages))
 
-mboxes_shape : (sh : Shape) (s : SceneParts) → IsScene s → IsWritable s → Tries shape_step sh [] mboxes_rule (Some (list_data text_data s.mboxes))
-mboxes_shape sh s h g = rw (list_fine name_trouble text_data 256 s.mboxes h.few_mboxes (each-weaker IsName (λ m. name_trouble (text_data m) ≡ None) (λ m e. rw (name_read m e)) s.mboxes g.mboxes))
+mboxes_shape : (sh : Shape) (s : SceneParts) (d : Data) → IsScene s → IsWritable s → Tries shape_step sh [] d mboxes_rule (Some (list_data text_data s.mboxes))
+mboxes_shape sh s d h g = rw (list_fine name_trouble text_data 256 s.mboxes h.few_mboxes (each-weaker IsName (λ m. name_trouble (text_data m) ≡ None) (λ m e. rw (name_read m e)) s.mboxes g.mboxes))
 
 legal_messages : (ms : List MessageDef) → AllByRecursion IsName (map message_name ms) → AllByRecursion (λ (m : MessageDef). is_name m.name ≡ true) ms
 legal_messages [] h = tt
 legal_messages (m ∷ ms) h = (h.0, legal_messages ms h.1)
 
-coops_shape : (sh : Shape) (s : SceneParts) (c : CoopDef) → Tries shape_step sh [] coops_rule (Some (list_data (coop_data s) (c ∷ [])))
+coops_shape : (sh : Shape) (s : SceneParts) (c : CoopDef) → Tries shape_step sh [] (lone s c) coops_rule (Some (list_data (coop_data s) (c ∷ [])))
 unfolding first_of
 coops_shape sh s c = refl
 
-dispatchers_shape : (sh : Shape) (s : SceneParts) → IsScene s → Tries shape_step sh [] dispatchers_rule (Some (list_data disp_data (declared s)))
-dispatchers_shape sh s h = rw (list_fine object_trouble disp_data 63 (declared s) (few_declared s h) (every (λ d. object_trouble (disp_data d) ≡ None) (λ d. refl) (declared s))) refl
+dispatchers_shape : (sh : Shape) (s : SceneParts) (d : Data) → IsScene s → Tries shape_step sh [] d dispatchers_rule (Some (list_data disp_data (declared s)))
+dispatchers_shape sh s d h = rw (list_fine object_trouble disp_data 63 (declared s) (few_declared s h) (every (λ d. object_trouble (disp_data d) ≡ None) (λ d. refl) (declared s))) refl
 
 scene_shape : (sh : Shape) (s : SceneParts) (c : CoopDef) → IsScene s → IsWritable s → is_name c.name ≡ true → run shape_step sh (fields (lone s c)) ≡ Ok sh
 scene_shape sh s c h g e =
-    scene_run shape_step sh sh sh sh sh s c (λ f x. refl) (scene_enters sh s c) refl (messages_shape sh s h)
+    scene_run shape_step sh sh sh sh sh s c (λ f x. refl) (scene_enters sh s c) refl (messages_shape sh s (lone s c) h)
     (run_same shape_step (visits 3 object.Message) message_data (λ (m : MessageDef). is_name m.name ≡ true) sh (λ m p f. message_shape sh 2 m p f) s.messages _ 0 (legal_messages s.messages g.messages))
-    (mboxes_shape sh s h g) (dispatchers_shape sh s h)
+    (mboxes_shape sh s (lone s c) h g) (dispatchers_shape sh s (lone s c) h)
     (run_same shape_step (visits 3 object.Dispatcher) disp_data IsDisp sh (λ d p i. disp_shape sh 2 d p i) (declared s) _ 0 (each_declared s h))
     (coops_shape sh s c) (λ p. coop_shape sh s c p h g e) refl
 

@@ -33,26 +33,26 @@ unfolding fields_of run
 fields_none step s inside place d = refl
 
 pub plain_field : {S : Type 0} (step : S → Visit → Result S SceneFault) (s t : S) (inside : ObjectKind → Place → Data → List Visit) (rule : Rule) (place : Place) (d : Data)
-    → objects_of rule.form ≡ None → step s (tries rule (at_key place rule) (get (spelling rule.field) d)) ≡ Ok t → run step s (field_visits inside rule place d) ≡ Ok t
+    → objects_of rule.form ≡ None → step s (tries rule (at_key place rule) d (get (spelling rule.field) d)) ≡ Ok t → run step s (field_visits inside rule place d) ≡ Ok t
 unfolding field_visits
 plain_field step s t inside rule place d o a = rw o (run-one step s _ ∙ a)
 
 pub list_field : {S : Type 0} (step : S → Visit → Result S SceneFault) (s t u : S) (inside : ObjectKind → Place → Data → List Visit) (rule : Rule) (kind : ObjectKind) (place : Place) (d : Data)
-    → objects_of rule.form ≡ Some kind → step s (tries rule (at_key place rule) (get (spelling rule.field) d)) ≡ Ok t
+    → objects_of rule.form ≡ Some kind → step s (tries rule (at_key place rule) d (get (spelling rule.field) d)) ≡ Ok t
     → run step t (items_from (inside kind) (at_key place rule) 0 (list_of (get (spelling rule.field) d))) ≡ Ok u → run step s (field_visits inside rule place d) ≡ Ok u
 unfolding field_visits
 list_field step s t u inside rule kind place d o a b = rw o (goes_on_at step s t _ _ a ∙ b)
 
 -- the same, with what is found
 pub plain_found : {S : Type 0} (step : S → Visit → Result S SceneFault) (s t : S) (inside : ObjectKind → Place → Data → List Visit) (rule : Rule) (found : Option Data) (place : Place) (d : Data)
-    → objects_of rule.form ≡ None → get (spelling rule.field) d ≡ found → step s (tries rule (at_key place rule) found) ≡ Ok t → run step s (field_visits inside rule place d) ≡ Ok t
-plain_found step s t inside rule found place d o e a = plain_field step s t inside rule place d o (ap (λ (x : Option Data). step s (tries rule (at_key place rule) x)) e ∙ a)
+    → objects_of rule.form ≡ None → get (spelling rule.field) d ≡ found → step s (tries rule (at_key place rule) d found) ≡ Ok t → run step s (field_visits inside rule place d) ≡ Ok t
+plain_found step s t inside rule found place d o e a = plain_field step s t inside rule place d o (ap (λ (x : Option Data). step s (tries rule (at_key place rule) d x)) e ∙ a)
 
 pub list_found : {S : Type 0} (step : S → Visit → Result S SceneFault) (s t u : S) (inside : ObjectKind → Place → Data → List Visit) (rule : Rule) (kind : ObjectKind) (found : Option Data) (place : Place) (d : Data)
-    → objects_of rule.form ≡ Some kind → get (spelling rule.field) d ≡ found → step s (tries rule (at_key place rule) found) ≡ Ok t
+    → objects_of rule.form ≡ Some kind → get (spelling rule.field) d ≡ found → step s (tries rule (at_key place rule) d found) ≡ Ok t
     → run step t (items_from (inside kind) (at_key place rule) 0 (list_of found)) ≡ Ok u → run step s (field_visits inside rule place d) ≡ Ok u
 list_found step s t u inside rule kind found place d o e a b =
-    list_field step s t u inside rule kind place d o (ap (λ (x : Option Data). step s (tries rule (at_key place rule) x)) e ∙ a) (ap (λ (x : Option Data). run step t (items_from (inside kind) (at_key place rule) 0 (list_of x))) e ∙ b)
+    list_field step s t u inside rule kind place d o (ap (λ (x : Option Data). step s (tries rule (at_key place rule) d x)) e ∙ a) (ap (λ (x : Option Data). run step t (items_from (inside kind) (at_key place rule) 0 (list_of x))) e ∙ b)
 
 -- ---- the items of a list
 

@@ -19,7 +19,7 @@ use Rattle.so_scene.specs.declared.parts.Fifo.TheVariants.{Cooperation, Individu
 use Rattle.so_scene.specs.declared.parts.FilterDef.{FilterDef}
 use Rattle.so_scene.specs.declared.parts.MessageDef.{MessageDef}
 use Rattle.so_scene.specs.declared.parts.SceneParts.{SceneParts}
-use Rattle.so_scene.specs.Checked.{is_pool}
+use Rattle.so_scene.specs.Checked.{is_pool, has_quotes}
 use Rattle.so_scene.specs.Parts.{mbox_name}
 use Rattle.so_scene_writer.specs.Sources.{StateSource, RowSource, start_acts, finish_acts, states_of, rows_of}
 use Rattle.so_scene_writer.specs.ActData.{text_data, message_text, state_text, disp_text, group_text, cmp_data, count_data, acts_data}
@@ -44,7 +44,7 @@ kind_word false = codes "message"
 abbrev pub message_data : MessageDef → Data
 message_data m = object (member (codes "kind") (string (kind_word m.signal)) (member (codes "name") (text_data m.name) no_members))
 
--- ---- dispatchers: fifo and threads are a pool's
+-- ---- dispatchers: fifo and threads are a pool's, and quotes are those of quoted_round_robin
 
 abbrev pub disp_kind_word : DispKind → List ℕ
 disp_kind_word OneThread = codes "one_thread"
@@ -64,12 +64,17 @@ fifo_word Individual = codes "individual"
 abbrev pub of_pool : DispKind → Data → Option Data
 of_pool kind d = if is_pool kind then Some d else None
 
+-- a field of quoted_round_robin only
+abbrev pub of_quoted : DispKind → Data → Option Data
+of_quoted kind d = if has_quotes kind then Some d else None
+
 abbrev pub disp_data : DispDef → Data
 disp_data d = object
     (given (codes "fifo") (of_pool d.kind (string (fifo_word d.fifo)))
     (member (codes "kind") (string (disp_kind_word d.kind))
     (member (codes "name") (text_data d.name)
-    (given (codes "threads") (of_pool d.kind (count_data d.threads)) no_members))))
+    (given (codes "quotes") (of_quoted d.kind (list_data count_data d.quotes))
+    (given (codes "threads") (of_pool d.kind (count_data d.threads)) no_members)))))
 
 -- all but the first, which is `default` and not declared
 abbrev pub declared : SceneParts → List DispDef
@@ -138,10 +143,11 @@ row_data s a x = object
     (given (codes "id") (option_map text_data x.id)
     (member (codes "mbox") (text_data (mbox_name s x.row.mbox))
     (member (codes "msg") (text_data (message_text s x.row.msg))
+    (member (codes "safe") (boolean x.row.safe)
     (given (codes "state") (row_state_data a x.row.state x.row.kind)
     (given (codes "suppress") (suppress_data x.row.kind)
     (given (codes "switch") (switch_data a x.row.kind)
-    (given (codes "transfer") (transfer_data a x.row.kind) no_members))))))))))
+    (given (codes "transfer") (transfer_data a x.row.kind) no_members)))))))))))
 
 -- ---- agents and the scene
 
@@ -153,9 +159,10 @@ agent_data s a = object
     (given (codes "group") (option_map text_data (group_text s a))
     (member (codes "name") (text_data a.name)
     (member (codes "on") (list_data (row_data s a) (rows_of a))
+    (member (codes "priority") (count_data a.priority.level)
     (member (codes "start") (acts_data s a (start_acts a))
     (member (codes "states") (list_data (state_data s a) (states_of a))
-    (member (codes "vars") (list_data number_data a.vars.0) no_members)))))))))
+    (member (codes "vars") (list_data number_data a.vars.0) no_members))))))))))
 
 -- a cooperation: while a scene has one, its agents are all there are
 abbrev pub coop_data : SceneParts → CoopDef → Data

@@ -39,19 +39,24 @@ filter_base active cmp field mbox msg value = object
     (member (codes "msg") (text_data msg)
     (member (codes "value") (number_data value) no_members))))))
 
-abbrev pub row_base : Bool → List ℕ → List ℕ → Data
-row_base active mbox msg = object (member (codes "active") (boolean active) (member (codes "mbox") (text_data mbox) (member (codes "msg") (text_data msg) no_members)))
+abbrev pub row_base : Bool → List ℕ → List ℕ → Bool → Data
+row_base active mbox msg safe = object
+    (member (codes "active") (boolean active)
+    (member (codes "mbox") (text_data mbox)
+    (member (codes "msg") (text_data msg)
+    (member (codes "safe") (boolean safe) no_members))))
 
 abbrev pub disp_base : DispKind → List ℕ → Data
 disp_base kind name = object (member (codes "kind") (string (disp_kind_word kind)) (member (codes "name") (text_data name) no_members))
 
-abbrev pub agent_base : List ℕ → Data → Data → List ℕ → Data → Data → Data → Data → Data
-agent_base disp filters finish name on start states vars = object
+abbrev pub agent_base : List ℕ → Data → Data → List ℕ → Data → ℕ → Data → Data → Data → Data
+agent_base disp filters finish name on level start states vars = object
     (member (codes "disp") (text_data disp)
     (member (codes "filters") filters
     (member (codes "finish") finish
     (member (codes "name") (text_data name)
     (member (codes "on") on
+    (member (codes "priority") (count_data level)
     (member (codes "start") start
     (member (codes "states") states
-    (member (codes "vars") vars no_members))))))))
+    (member (codes "vars") vars no_members)))))))))

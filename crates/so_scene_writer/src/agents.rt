@@ -151,6 +151,7 @@ fn agent_base(alloc: Global, scene: &SceneParts, agent: &AgentDef) -> Result<Val
         (acts_data scene.now agent.now (finish_acts agent.now))
         agent.now.name
         (list_data (row_data scene.now agent.now) (rows_of agent.now))
+        agent.now.priority.level
         (acts_data scene.now agent.now (start_acts agent.now))
         (list_data (state_data scene.now agent.now) (states_of agent.now))
         (list_data number_data agent.now.vars.0)) }
@@ -171,6 +172,7 @@ fn agent_base(alloc: Global, scene: &SceneParts, agent: &AgentDef) -> Result<Val
         agent.rows.as_slice(),
         past_states,
     )?;
+    let priority = agent.priority.level;
     let start = acts_value(alloc, scene, agent, code)?;
     let states = states_value(
         alloc,
@@ -181,7 +183,7 @@ fn agent_base(alloc: Global, scene: &SceneParts, agent: &AgentDef) -> Result<Val
         past_finish,
     )?;
     let vars = numbers_value(alloc, &agent.vars.0)?;
-    json!(in alloc; {"disp": disp, "filters": filters, "finish": finish, "name": name, "on": on, "start": start, "states": states, "vars": vars})
+    json!(in alloc; {"disp": disp, "filters": filters, "finish": finish, "name": name, "on": on, "priority": priority, "start": start, "states": states, "vars": vars})
 }
 
 /// An agent.

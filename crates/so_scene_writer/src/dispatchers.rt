@@ -1,10 +1,10 @@
 //! Dispatchers as values.
 
-ghost use Rattle.std.specs.Prelude.{◌≡◌, drop, Some, None, option_map, IfOk};
+ghost use Rattle.std.specs.Prelude.{◌≡◌, ◌<◌, drop, length, slice_index_or, Some, None, option_map, IfOk};
 ghost use Rattle.serde_json.specs.View.{view};
-ghost use Rattle.so_scene.specs.Checked.{is_pool};
+ghost use Rattle.so_scene.specs.Checked.{is_pool, has_quotes};
 ghost use Rattle.so_scene_writer.specs.ActData.{count_data};
-ghost use Rattle.so_scene_writer.specs.Canonical.{disp_data, disp_kind_word, fifo_word, list_data, of_pool};
+ghost use Rattle.so_scene_writer.specs.Canonical.{disp_data, disp_kind_word, fifo_word, list_data, of_pool, of_quoted};
 ghost use Rattle.so_scene_writer.specs.Fields.{disp_base};
 ghost use Rattle.serde_json.specs.Data.{string};
 
@@ -45,6 +45,12 @@ fn is_pool(kind: DispKind) -> bool
     matches!(kind, DispKind::ThreadPool | DispKind::AdvThreadPool)
 }
 
+fn has_quotes(kind: DispKind) -> bool
+    ensures { result ≡ has_quotes kind }
+{
+    matches!(kind, DispKind::QuotedRoundRobin)
+}
+
 fn fifo_value(alloc: Global, disp: &DispDef) -> Result<Option<Value>, AllocError>
     ensures { IfOk result (λ o. option_map view o ≡ of_pool disp.now.kind (string (fifo_word disp.now.fifo))) }
 {
@@ -63,6 +69,33 @@ fn threads_value(disp: &DispDef) -> Option<Value>
     Some(count_value(disp.threads))
 }
 
+fn count_at(counts: &[u32], k: usize) -> Value
+    requires { k < length counts.now }
+    ensures { view result ≡ count_data (slice_index_or counts.now k 0) }
+{
+    let count = counts[k];
+    count_value(count)
+}
+
+fn counts_value(alloc: Global, counts: &[u32]) -> Result<Value, AllocError>
+    ensures { IfOk result (λ v. view v ≡ list_data count_data counts.now) }
+{
+    let mut list = Vec::new(alloc);
+    for k in 0..counts.len() {
+        list.push(count_at(counts, k))?;
+    }
+    Ok(Value::Array(list))
+}
+
+fn quotes_value(alloc: Global, disp: &DispDef) -> Result<Option<Value>, AllocError>
+    ensures { IfOk result (λ o. option_map view o ≡ of_quoted disp.now.kind (list_data count_data disp.now.quotes)) }
+{
+    if has_quotes(disp.kind) {
+        return Ok(Some(counts_value(alloc, &disp.quotes)?));
+    }
+    Ok(None)
+}
+
 fn disp_base(alloc: Global, disp: &DispDef) -> Result<Value, AllocError>
     ensures { IfOk result (λ v. view v ≡ disp_base disp.now.kind disp.now.name) }
 {
@@ -76,6 +109,7 @@ fn disp_value(alloc: Global, disp: &DispDef) -> Result<Value, AllocError>
 {
     let value = disp_base(alloc, disp)?;
     let value = with_field(alloc, value, "fifo", fifo_value(alloc, disp)?)?;
+    let value = with_field(alloc, value, "quotes", quotes_value(alloc, disp)?)?;
     with_field(alloc, value, "threads", threads_value(disp))
 }
 

@@ -209,12 +209,13 @@ fn do_value(
 }
 
 fn row_base(alloc: Global, scene: &SceneParts, row: Row) -> Result<Value, AllocError>
-    ensures { IfOk result (λ v. view v ≡ row_base row.active (mbox_name scene.now row.mbox) (message_text scene.now row.msg)) }
+    ensures { IfOk result (λ v. view v ≡ row_base row.active (mbox_name scene.now row.mbox) (message_text scene.now row.msg) row.safe) }
 {
     let active = row.active;
     let mbox = text(mbox_text(scene, row.mbox));
     let msg = text(message_name(scene, row.msg));
-    json!(in alloc; {"active": active, "mbox": mbox, "msg": msg})
+    let safe = row.safe;
+    json!(in alloc; {"active": active, "mbox": mbox, "msg": msg, "safe": safe})
 }
 
 /// A row with this id, whose body begins the code if it has one.
