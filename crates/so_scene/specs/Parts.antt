@@ -37,7 +37,7 @@ abbrev pub agent_of : SceneParts → AgentId → AgentDef
 agent_of s a = slice_index_or s.agents a.0 no_agent
 
 abbrev pub no_coop : CoopDef
-no_coop = record { name = []; first = record { 0 = 0 }; count = 0 }
+no_coop = record { name = []; parent = None; at_start = true; first = record { 0 = 0 }; count = 0 }
 
 abbrev pub coop_of : SceneParts → CoopId → CoopDef
 coop_of s c = slice_index_or s.coops c.0 no_coop
