@@ -78,15 +78,22 @@ reason_unmarked s st c = if parent_leaves st (coop_of s c).parent then Some reas
 abbrev pub reason_of : SceneParts → Standing → CoopId → Option Reason
 reason_of s st c = if st.present c && not (st.leaving c) then or_else (st.mark c) (reason_unmarked s st c) else None
 
--- the least cooperation that has a reason, with it
-abbrev pub leaving_next : SceneParts → Standing → Option (CoopId × Reason)
-leaving_next s st = first_below (λ k. option_map (λ why. (coop_number k, why)) (reason_of s st (coop_number k))) (length s.coops)
+-- the cooperation of a number with its reason, and the least that has one
+abbrev pub with_reason : CoopId → Reason → CoopId × Reason
+with_reason c why = (c, why)
 
--- a present cooperation has it as named parent
+abbrev pub leaving_at : SceneParts → Standing → ℕ → Option (CoopId × Reason)
+leaving_at s st k = option_map (with_reason (coop_number k)) (reason_of s st (coop_number k))
+
+abbrev pub leaving_next : SceneParts → Standing → Option (CoopId × Reason)
+leaving_next s st = first_below (leaving_at s st) (length s.coops)
+
+-- it is the named parent, if one is named
 abbrev pub is_parent : CoopId → Option CoopId → Bool
 is_parent c None = false
 is_parent c (Some parent) = parent.0 == c.0
 
+-- a present cooperation has it as named parent
 abbrev pub is_child : SceneParts → Standing → CoopId → CoopId → Bool
 is_child s st c child = st.present child && is_parent c (coop_of s child).parent
 

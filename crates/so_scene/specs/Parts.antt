@@ -1,6 +1,6 @@
 -- The parts of a scene by number.
 use Rattle.std.proofs.Common.{zero-le}
-use Rattle.std.specs.Prelude.{ℕ, ◌+◌, pos, List, [], ◌++◌, length, map, replicate, slice_index_or, false, codes, None}
+use Rattle.std.specs.Prelude.{ℕ, ◌+◌, pos, List, [], ◌++◌, length, map, replicate, slice_index_or, true, false, codes, None}
 use Rattle.so_lists.specs.Lists.{each_below}
 use Rattle.so_ids.specs.declared.AgentId.{AgentId}
 use Rattle.so_ids.specs.declared.CoopId.{CoopId}
@@ -97,6 +97,9 @@ message_name m = m.name
 
 abbrev pub disp_name : DispDef → List ℕ
 disp_name d = d.name
+
+abbrev pub coop_name : CoopDef → List ℕ
+coop_name c = c.name
 
 abbrev pub agent_name : AgentDef → List ℕ
 agent_name a = a.name
