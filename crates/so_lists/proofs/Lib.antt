@@ -1,4 +1,5 @@
 pub mod Any
+pub mod Counts
 pub mod EachBelow
 pub mod Filters
 pub mod First
