@@ -1,5 +1,5 @@
 -- The cooperations of a run as a table, and what each call makes of it.
-use Rattle.std.specs.Prelude.{◌<◌, ℕ, ◌-◌, ◌==◌, List, length, replicate, slice_index_or, slice_set, Bool, true, false, not, ◌&&◌, Option, Some, None, is_none, Result, Ok, Err, if◌then◌else◌, count_by}
+use Rattle.std.specs.Prelude.{◌<◌, ℕ, ◌+◌, ◌-◌, ◌==◌, List, length, replicate, slice_index_or, slice_set, Bool, true, false, not, ◌&&◌, Option, Some, None, is_none, Result, Ok, Err, if◌then◌else◌, count_by}
 use Rattle.so_ids.specs.declared.AgentId.{AgentId}
 use Rattle.so_ids.specs.declared.CoopId.{CoopId}
 use Rattle.so_ids.specs.declared.Reason.{Reason}
@@ -20,6 +20,10 @@ IsCoopOf s c = c.0 < length s.coops
 
 abbrev pub IsAgentOf : SceneParts → AgentId → Type 0
 IsAgentOf s a = a.0 < length s.agents
+
+-- the k-th agent of a cooperation
+abbrev pub agent_at : SceneParts → CoopId → ℕ → AgentId
+agent_at s c k = record { 0 = (coop_of s c).first.0 + k }
 
 -- one that isn't registered, and one that was registered just now
 abbrev pub absent : Coop

@@ -1,11 +1,11 @@
 //! Whether a cooperation may be registered.
 
-ghost use Rattle.std.specs.Prelude.{◌≡◌, ◌<◌, ◌≤◌, ◌+◌, length, false, count_by};
+ghost use Rattle.std.specs.Prelude.{◌≡◌, ◌<◌, ◌≤◌, length, false, count_by};
 ghost use Rattle.so_lists.specs.Lists.{is_empty, first_below};
-ghost use Rattle.so_scene.specs.Parts.{agents_from, agents_of};
+ghost use Rattle.so_scene.specs.Parts.{coop_of, agents_from, agents_of};
 ghost use Rattle.so_scene.specs.Lanes.{is_bound};
 ghost use Rattle.so_scene.specs.Cooperations.{lacks_parent, has_slot, slots_taken, lacks_slot, refused_slot, refused_rule, admission};
-ghost use Rattle.so_coop.specs.Coops.{IsCoopOf, IsAgentOf, standing, admit_answer};
+ghost use Rattle.so_coop.specs.Coops.{IsCoopOf, IsAgentOf, agent_at, standing, admit_answer};
 
 use crate::coops::Coops;
 use so_ids::{AgentId, CoopId, DispId, Refusal};
@@ -49,7 +49,7 @@ impl<'a> Coops<'a> {
         requires { IsCoopOf self.now.scene coop }
         ensures { result ≡ is_empty (agents_of self.now.scene coop) }
     {
-        self.scene.coop(coop).count == 0
+        self.size(coop) == 0
     }
 
     /// Tells whether this is a named parent that isn't registered or is leaving, or none and a stop was made.
@@ -70,10 +70,10 @@ impl<'a> Coops<'a> {
         requires { IsCoopOf self.now.scene coop }
         ensures { result ≡ first_below (refused_slot self.now.scene (standing self.now false) (agents_of self.now.scene coop)) (length (agents_of self.now.scene coop)) }
     {
-        let def = self.scene.coop(coop);
-        for k in 0..def.count {
-            if self.lacks_slot(def.first, k) {
-                return Some(Refusal::Binding(AgentId(def.first.0 + k)));
+        for k in 0..self.size(coop) {
+            let cause = self.slot_refused(coop, k);
+            if cause.is_some() {
+                return cause;
             }
         }
         None
@@ -84,25 +84,51 @@ impl<'a> Coops<'a> {
         requires { IsCoopOf self.now.scene coop }
         ensures { result ≡ first_below (refused_rule self.now.scene (agents_of self.now.scene coop)) (length (agents_of self.now.scene coop)) }
     {
-        let def = self.scene.coop(coop);
-        for k in 0..def.count {
-            let agent = AgentId(def.first.0 + k);
-            if let Some(fault) = self.scene.definition_fault(agent) {
-                return Some(Refusal::Definition(agent, fault));
+        for k in 0..self.size(coop) {
+            let cause = self.rule_refused(coop, k);
+            if cause.is_some() {
+                return cause;
             }
         }
         None
     }
 
-    /// Tells whether the `k`-th agent from `first` on has no slot: those of the agents that are registered and of
-    /// the agents before it fill its dispatcher.
-    fn lacks_slot(&self, first: AgentId, k: u32) -> bool
-        requires { first.0 + k < length self.now.scene.agents }
-        ensures { result ≡ lacks_slot self.now.scene (standing self.now false) (agents_from first k) (record { 0 = first.0 + k }) }
+    /// The cause where the `k`-th agent of the cooperation has no slot.
+    fn slot_refused(&self, coop: CoopId, k: u32) -> Option<Refusal>
+        requires coop { IsCoopOf self.now.scene coop }
+        requires agent { k < (coop_of self.now.scene coop).count }
+        ensures { result ≡ refused_slot self.now.scene (standing self.now false) (agents_of self.now.scene coop) k }
     {
-        let disp = self.scene.agent(AgentId(first.0 + k)).disp;
-        let taken = self.slots_taken(disp) + self.bound_from(disp, first, k);
-        self.scene.dispatcher(disp).slots <= taken
+        if self.lacks_slot(coop, k) {
+            Some(Refusal::Binding(self.agent_at(coop, k)))
+        } else {
+            None
+        }
+    }
+
+    /// The cause where the `k`-th agent of the cooperation breaks a definition rule.
+    fn rule_refused(&self, coop: CoopId, k: u32) -> Option<Refusal>
+        requires coop { IsCoopOf self.now.scene coop }
+        requires agent { k < (coop_of self.now.scene coop).count }
+        ensures { result ≡ refused_rule self.now.scene (agents_of self.now.scene coop) k }
+    {
+        let agent = self.agent_at(coop, k);
+        match self.scene.definition_fault(agent) {
+            Some(fault) => Some(Refusal::Definition(agent, fault)),
+            None => None,
+        }
+    }
+
+    /// Tells whether the `k`-th agent of the cooperation has no slot: those of the agents that are registered and of
+    /// the agents before it fill its dispatcher.
+    fn lacks_slot(&self, coop: CoopId, k: u32) -> bool
+        requires coop { IsCoopOf self.now.scene coop }
+        requires agent { k < (coop_of self.now.scene coop).count }
+        ensures { result ≡ lacks_slot self.now.scene (standing self.now false) (agents_from (coop_of self.now.scene coop).first k) (agent_at self.now.scene coop k) }
+    {
+        let disp = self.scene.agent(self.agent_at(coop, k)).disp;
+        let filled = self.slots_taken(disp) + self.bound_before(disp, coop, k);
+        self.scene.dispatcher(disp).slots <= filled
     }
 
     /// How many slots of a dispatcher are taken by agents that are registered.
@@ -120,19 +146,40 @@ impl<'a> Coops<'a> {
         taken
     }
 
-    /// How many of so many agents, from `first` on, are bound to a dispatcher.
-    fn bound_from(&self, disp: DispId, first: AgentId, count: u32) -> u32
-        requires { first.0 + count ≤ length self.now.scene.agents }
-        ensures value { result ≡ count_by (is_bound self.now.scene disp) (agents_from first count) }
-        ensures few { result ≤ count }
+    /// How many of the first `count` agents of the cooperation are bound to a dispatcher.
+    fn bound_before(&self, disp: DispId, coop: CoopId, count: u32) -> u32
+        requires coop { IsCoopOf self.now.scene coop }
+        requires agents { count ≤ (coop_of self.now.scene coop).count }
+        ensures value { result ≡ count_by (is_bound self.now.scene disp) (agents_from (coop_of self.now.scene coop).first count) }
+        ensures few { result ≤ 4096 }
     {
+        let _parts = self.scene.parts();
         let mut bound = 0;
         for k in 0..count {
-            if self.is_bound(disp, AgentId(first.0 + k)) {
+            if self.is_bound(disp, self.agent_at(coop, k)) {
                 bound += 1;
             }
         }
         bound
+    }
+
+    /// How many agents the cooperation has.
+    fn size(&self, coop: CoopId) -> u32
+        requires { IsCoopOf self.now.scene coop }
+        ensures { result ≡ (coop_of self.now.scene coop).count }
+    {
+        self.scene.coop(coop).count
+    }
+
+    /// The `k`-th agent of the cooperation.
+    fn agent_at(&self, coop: CoopId, k: u32) -> AgentId
+        requires coop { IsCoopOf self.now.scene coop }
+        requires agent { k < (coop_of self.now.scene coop).count }
+        ensures value { result ≡ agent_at self.now.scene coop k }
+        ensures range { IsAgentOf self.now.scene result }
+    {
+        let _parts = self.scene.parts();
+        AgentId(self.scene.coop(coop).first.0 + k)
     }
 
     /// Tells whether the agent has a slot of the dispatcher: it is bound to it, and is registered.

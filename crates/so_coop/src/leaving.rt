@@ -28,8 +28,9 @@ impl<'a> Coops<'a> {
         ensures { result ≡ left_next self.now }
     {
         for k in 0..self.scene.coops() {
-            if self.has_ended(CoopId(k)) {
-                return Some(CoopId(k));
+            let ended = self.ended_at(CoopId(k));
+            if ended.is_some() {
+                return ended;
             }
         }
         None
@@ -85,6 +86,17 @@ impl<'a> Coops<'a> {
         match parent {
             None => false,
             Some(parent) => self.stands(parent).leaving,
+        }
+    }
+
+    /// The cooperation, if it has ended.
+    fn ended_at(&self, coop: CoopId) -> Option<CoopId>
+        ensures { result ≡ ended_at self.now coop.0 }
+    {
+        if self.has_ended(coop) {
+            Some(coop)
+        } else {
+            None
         }
     }
 
