@@ -1,1 +1,3 @@
+pub mod AdmissionLaws
 pub mod AgentLaws
+pub mod LeavingLaws

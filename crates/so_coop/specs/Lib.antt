@@ -1,1 +1,2 @@
 pub mod Coops
+pub mod Laws

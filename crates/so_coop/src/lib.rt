@@ -3,6 +3,7 @@
 
 mod admission;
 mod coops;
+pub mod laws;
 mod leaving;
 
 pub use coops::{Coop, Coops};
