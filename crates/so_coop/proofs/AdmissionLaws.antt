@@ -5,7 +5,6 @@ use Rattle.std.proofs.lemmas.Map.Views.{exact_unsigned_eq}
 use Rattle.std.specs.Option.{option_map}
 use Rattle.std.proofs.lemmas.Bool.{eq-eqb, false≢true}
 use Rattle.std.proofs.lemmas.Option.{none-some}
-use Rattle.so_ids.specs.declared.AgentId.{AgentId}
 use Rattle.so_ids.specs.declared.CoopId.{CoopId}
 use Rattle.so_ids.specs.declared.DefFault.{DefFault}
 use Rattle.so_ids.specs.declared.Refusal.{Refusal}

@@ -1,10 +1,8 @@
 -- The agents of a cooperation by number.
-use Rattle.std.proofs.Common.{◌≡◌, ℕ, ◌+◌, ◌<◌, ◌≤◌, length, Bool, Option, Some, None, refl, arith}
+use Rattle.std.proofs.Common.{◌≡◌, ℕ, ◌<◌, length, Some, None, refl, arith}
 use Rattle.std.specs.Prelude.{◌==◌, if◌then◌else◌}
 use Rattle.std.specs.Option.{option_map}
-use Rattle.so_ids.specs.declared.AgentId.{AgentId}
 use Rattle.so_ids.specs.declared.CoopId.{CoopId}
-use Rattle.so_ids.specs.declared.Refusal.{Refusal}
 use Rattle.so_ids.specs.declared.Refusal.TheVariants as refusal
 use Rattle.so_lists.specs.Lists.{is_empty}
 use Rattle.so_lists.proofs.EachBelow.{length-each_below, take-each_below, slice_get-each_below, is_empty-each_below}

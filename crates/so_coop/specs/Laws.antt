@@ -1,5 +1,5 @@
 -- What the rules of registration and of leaving mean.
-use Rattle.std.specs.Prelude.{◌≡◌, ◌<◌, ℕ, length, true, false, Option, Some, None}
+use Rattle.std.specs.Prelude.{◌≡◌, ◌<◌, ℕ, length, true, false, Some, None}
 use Rattle.so_ids.specs.declared.AgentId.{AgentId}
 use Rattle.so_ids.specs.declared.CoopId.{CoopId}
 use Rattle.so_ids.specs.declared.DefFault.{DefFault}

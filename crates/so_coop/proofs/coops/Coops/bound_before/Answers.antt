@@ -1,5 +1,4 @@
-use Rattle.std.proofs.Common.{◌≡◌, ◌≤◌, false, arith, refl, sym, ap, subst, ◌∙◌, count_by}
-use Rattle.so_lists.specs.Lists.{each_below}
+use Rattle.std.proofs.Common.{arith, sym, ap, subst, ◌∙◌}
 use Rattle.so_lists.proofs.Counts.{count-none, count-more, count-same}
 use Rattle.so_scene.specs.Lanes.{is_bound}
 use Rattle.so_scene.specs.Checked.{IsScene}

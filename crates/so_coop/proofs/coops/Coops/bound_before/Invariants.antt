@@ -1,4 +1,4 @@
-use Rattle.std.proofs.Common.{◌≡◌, ◌≤◌, false, count_by}
+use Rattle.std.proofs.Common.{◌≡◌, ◌≤◌, count_by}
 use Rattle.so_lists.specs.Lists.{each_below}
 use Rattle.so_scene.specs.Lanes.{is_bound}
 use Rattle.so_coop.specs.Coops.{agent_at}

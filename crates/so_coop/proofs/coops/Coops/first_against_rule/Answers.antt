@@ -1,9 +1,8 @@
-use Rattle.std.proofs.Common.{◌≡◌, ◌<◌, length, false, ap, sym, ◌∙◌, arith}
+use Rattle.std.proofs.Common.{◌≡◌, ◌<◌, length, ap, sym, ◌∙◌, arith}
 use Rattle.so_lists.specs.Lists.{first_below}
 use Rattle.so_scene.proofs.FirstFault.{stops_here, goes_on}
 use Rattle.so_scene.specs.Parts.{agents_of}
 use Rattle.so_scene.specs.Cooperations.{refused_rule}
-use Rattle.so_coop.specs.Coops.{standing}
 use Rattle.so_coop.proofs.AgentLaws.{many_agents}
 use Rattle.so_coop.proofs.coops.Coops.first_against_rule.Goals as goal
 

@@ -1,8 +1,7 @@
-use Rattle.std.proofs.Common.{◌≡◌, false, None}
+use Rattle.std.proofs.Common.{◌≡◌, None}
 use Rattle.so_lists.specs.Lists.{first_below}
 use Rattle.so_scene.specs.Parts.{agents_of}
 use Rattle.so_scene.specs.Cooperations.{refused_rule}
-use Rattle.so_coop.specs.Coops.{standing}
 use Rattle.so_coop.proofs.coops.Coops.first_against_rule.Given as goal
 
 abbrev pub invariant-loop-k : goal.invariant-loop-k

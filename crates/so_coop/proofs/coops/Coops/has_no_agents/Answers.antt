@@ -1,4 +1,4 @@
-use Rattle.std.proofs.Common.{◌≡◌, sym}
+use Rattle.std.proofs.Common.{sym}
 use Rattle.so_coop.proofs.AgentLaws.{no_agents}
 use Rattle.so_coop.proofs.coops.Coops.has_no_agents.Goals as goal
 

@@ -1,4 +1,4 @@
-use Rattle.std.proofs.Common.{◌≡◌, ◌<◌, length, false, ap, sym, ◌∙◌, arith}
+use Rattle.std.proofs.Common.{◌≡◌, ◌<◌, length, ap, sym, ◌∙◌, arith}
 use Rattle.so_lists.specs.Lists.{first_below}
 use Rattle.so_scene.proofs.FirstFault.{stops_here, goes_on}
 use Rattle.so_coop.specs.Coops.{CoopTable, ended_at}

@@ -1,4 +1,4 @@
-use Rattle.std.proofs.Common.{◌≡◌, false, None}
+use Rattle.std.proofs.Common.{◌≡◌, None}
 use Rattle.so_lists.specs.Lists.{first_below}
 use Rattle.so_coop.specs.Coops.{ended_at}
 use Rattle.so_coop.proofs.coops.Coops.left_next.Given as goal

@@ -1,6 +1,6 @@
 use Rattle.std.proofs.Common.{◌≡◌, Some, None, refl, sym, ap, ◌∙◌}
 use Rattle.so_scene.specs.Definition.{definition_fault}
-use Rattle.so_coop.specs.Coops.{CoopTable, agent_at}
+use Rattle.so_coop.specs.Coops.{CoopTable}
 use Rattle.so_coop.proofs.AgentLaws.{rule_refused}
 use Rattle.so_coop.proofs.coops.Coops.rule_refused.Goals as goal
 

@@ -1,7 +1,5 @@
-use Rattle.std.proofs.Common.{◌≡◌, true, false, refl, sym, ◌∙◌}
-use Rattle.so_scene.specs.Parts.{coop_of, agents_from}
-use Rattle.so_scene.specs.Cooperations.{lacks_slot}
-use Rattle.so_coop.specs.Coops.{standing, agent_at}
+use Rattle.std.proofs.Common.{false, refl, sym, ◌∙◌}
+use Rattle.so_coop.specs.Coops.{standing}
 use Rattle.so_coop.proofs.AgentLaws.{slot_refused}
 use Rattle.so_coop.proofs.coops.Coops.slot_refused.Goals as goal
 

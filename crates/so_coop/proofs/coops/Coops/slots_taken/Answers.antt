@@ -1,5 +1,4 @@
-use Rattle.std.proofs.Common.{◌≡◌, ◌≤◌, false, arith, refl, sym, ap, ◌∙◌, count_by}
-use Rattle.so_lists.specs.Lists.{each_below}
+use Rattle.std.proofs.Common.{false, arith, sym, ◌∙◌}
 use Rattle.so_lists.proofs.Counts.{count-none, count-more, count-same}
 use Rattle.so_scene.specs.Lanes.{agent_number}
 use Rattle.so_scene.specs.Cooperations.{has_slot}
