@@ -1,2 +1,3 @@
 pub mod Coops
+pub mod Family
 pub mod Laws

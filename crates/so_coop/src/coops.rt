@@ -84,6 +84,13 @@ impl<'a> Coops<'a> {
         Ok(Coops { scene, coops })
     }
 
+    /// The scene that it was made for.
+    pub fn scene(&self) -> &'a Scene
+        ensures { result.now ≡ self.now.scene }
+    {
+        self.scene
+    }
+
     /// How a cooperation stands. One that isn't the scene's is not registered.
     pub fn stands(&self, coop: CoopId) -> Coop
         ensures { result ≡ standing_at self.now coop }

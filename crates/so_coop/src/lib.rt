@@ -3,6 +3,7 @@
 
 mod admission;
 mod coops;
+mod example;
 pub mod laws;
 mod leaving;
 
