@@ -3,8 +3,11 @@
 
 mod admission;
 mod coops;
+#[cfg(test)]
 mod example;
 pub mod laws;
 mod leaving;
+#[cfg(test)]
+mod tests;
 
 pub use coops::{Coop, Coops};
