@@ -115,7 +115,7 @@ fn cause(coops: &Coops, case: Case) -> Option<Refusal>
 }
 
 /// A registration before a stop.
-fn case(steps: &'static [Step], coop: u32, cause: Option<Refusal>) -> Case {
+fn before_stop(steps: &'static [Step], coop: u32, cause: Option<Refusal>) -> Case {
     Case {
         steps,
         stopped: false,
@@ -127,25 +127,25 @@ fn case(steps: &'static [Step], coop: u32, cause: Option<Refusal>) -> Case {
 #[test]
 fn a_registration_is_refused_for_the_first_cause(rt: HostRuntime) {
     let cases = [
-        case(&[], PARENT, None),
-        case(&[], EMPTY, Some(Refusal::Empty)),
-        case(&[], CHILD, Some(Refusal::Parent)),
-        case(&[Step::Enter(PARENT)], CHILD, None),
-        case(&[Step::Enter(PARENT)], PARENT, Some(Refusal::Present)),
-        case(
+        before_stop(&[], PARENT, None),
+        before_stop(&[], EMPTY, Some(Refusal::Empty)),
+        before_stop(&[], CHILD, Some(Refusal::Parent)),
+        before_stop(&[Step::Enter(PARENT)], CHILD, None),
+        before_stop(&[Step::Enter(PARENT)], PARENT, Some(Refusal::Present)),
+        before_stop(
             &[Step::Enter(PARENT), Step::Leave(PARENT)],
             CHILD,
             Some(Refusal::Parent),
         ),
         // the first agent takes the slot, and the second has none
-        case(&[], BIG, Some(Refusal::Binding(AgentId(3)))),
-        case(&[], SMALL, None),
-        case(
+        before_stop(&[], BIG, Some(Refusal::Binding(AgentId(3)))),
+        before_stop(&[], SMALL, None),
+        before_stop(
             &[Step::Enter(SMALL)],
             BIG,
             Some(Refusal::Binding(AgentId(2))),
         ),
-        case(&[Step::Enter(SMALL), Step::Left(SMALL)], SMALL, None),
+        before_stop(&[Step::Enter(SMALL), Step::Left(SMALL)], SMALL, None),
     ];
     for case in cases {
         assert_eq!(rt; is_answered(rt.alloc(), case), Ok(true), "{case:?}");
@@ -155,10 +155,10 @@ fn a_registration_is_refused_for_the_first_cause(rt: HostRuntime) {
 #[test]
 fn a_stop_refuses_the_children_of_the_root(rt: HostRuntime) {
     let cases = [
-        case(&[], EMPTY, Some(Refusal::Empty)),
-        case(&[], PARENT, Some(Refusal::Parent)),
-        case(&[Step::Enter(PARENT)], PARENT, Some(Refusal::Parent)),
-        case(&[Step::Enter(PARENT)], CHILD, None),
+        before_stop(&[], EMPTY, Some(Refusal::Empty)),
+        before_stop(&[], PARENT, Some(Refusal::Parent)),
+        before_stop(&[Step::Enter(PARENT)], PARENT, Some(Refusal::Parent)),
+        before_stop(&[Step::Enter(PARENT)], CHILD, None),
     ];
     for before in cases {
         let case = Case {

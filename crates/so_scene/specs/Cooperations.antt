@@ -1,10 +1,9 @@
 -- Which cooperations may be registered, which have a reason to leave, and which have children: by how they stand.
-use Rattle.std.specs.Prelude.{ℕ, ◌+◌, List, [], length, take, slice_get, nat_le, Bool, true, false, not, ◌&&◌, ◌||◌, ◌==◌, Option, Some, None, if◌then◌else◌, count_by}
+use Rattle.std.specs.Prelude.{ℕ, ◌+◌, List, length, take, slice_get, nat_le, Bool, false, not, ◌&&◌, ◌||◌, ◌==◌, Option, Some, None, if◌then◌else◌, count_by}
 use Rattle.std.specs.List.{list_any}
 use Rattle.std.specs.Option.{option_map, option_and_then}
 use Rattle.so_ids.specs.declared.AgentId.{AgentId}
 use Rattle.so_ids.specs.declared.CoopId.{CoopId}
-use Rattle.so_ids.specs.declared.DefFault.{DefFault}
 use Rattle.so_ids.specs.declared.DispId.{DispId}
 use Rattle.so_ids.specs.declared.Reason.{Reason}
 use Rattle.so_ids.specs.declared.Reason.TheVariants as reason
