@@ -2,4 +2,10 @@
 #![tactic(auto)]
 
 #[cfg(test)]
+mod classes;
+#[cfg(test)]
+mod priorities;
+#[cfg(test)]
 mod tests;
+#[cfg(test)]
+mod thread_safe;

@@ -30,7 +30,7 @@ const SCENES: [&str; 3] = [ONE_QUEUE, THREE_QUEUES, OWN_LANES];
 
 /// A call on the queues.
 #[derive(Clone, Copy, Debug)]
-enum Step {
+pub(crate) enum Step {
     /// A demand of this place for a queue, with a priority.
     Push(u32, u8, u32),
     /// The first demand of a queue and priority is taken.
@@ -94,7 +94,7 @@ fn end(queues: &mut Queues, key: KeyId, safe: bool)
 }
 
 /// Makes a call where it may be made.
-fn make(queues: &mut Queues, count: u32, step: Step)
+pub(crate) fn make(queues: &mut Queues, count: u32, step: Step)
     requires { keys_of queues.old ≡ count }
     ensures { keys_of queues.new ≡ count }
 {
@@ -192,13 +192,13 @@ fn compare(rt: &impl Abort, scene: &Scene, queues: &Queues)
     }
 }
 
-fn next_random(seed: u64) -> u64 {
+pub(crate) fn next_random(seed: u64) -> u64 {
     seed.wrapping_mul(6364136223846793005)
         .wrapping_add(1442695040888963407)
 }
 
 /// A call that is drawn.
-fn drawn(draw: u32, place: u32, count: u32) -> Step
+pub(crate) fn drawn(draw: u32, place: u32, count: u32) -> Step
     requires { 0 < count }
 {
     let key = draw % count;
