@@ -115,32 +115,32 @@ acts_fault allowed place (Some ds) = if nat_le (items_len ds) 256 then acts_from
 
 -- of a field of this object
 abbrev pub form_fault : Form → Place → Data → Data → Option SceneFault
-form_fault form.One place object d = version_fault place (as_number d)
-form_fault form.Name place object d = trouble_at place (trouble (name_of d))
-form_fault (form.NameIn s) place object d = trouble_at place (trouble (name_of d))
-form_fault form.StateName place object d = trouble_at place (state_name_trouble (name_of d))
-form_fault form.DeclaredState place object d = trouble_at place (trouble (name_of d))
-form_fault form.AnyState place object d = trouble_at place (trouble (name_of d))
-form_fault form.History place object d = trouble_at place (trouble (history_of d))
-form_fault (form.Mboxes limit) place object d = trouble_at place (list_trouble (Some limit) name_trouble (as_array d))
-form_fault form.MessageKind place object d = trouble_at place (kind_trouble (as_str d))
-form_fault form.DispKind place object d = trouble_at place (trouble (disp_kind_of d))
-form_fault form.Fifo place object d = trouble_at place (trouble (fifo_of d))
-form_fault form.Quotes place object d = trouble_at place (fixed_trouble 8 quote_trouble (as_array d))
-form_fault form.Flag place object d = trouble_at place (trouble (flag_of d))
-form_fault form.OnlyTrue place object d = trouble_at place (trouble (only_true d))
-form_fault form.Cmp place object d = trouble_at place (trouble (cmp_of d))
-form_fault form.AnyNumber place object d = trouble_at place (number_trouble d)
-form_fault (form.Number low high) place object d = trouble_at place (trouble (number_of low high d))
-form_fault (form.Numbers limit) place object d = trouble_at place (list_trouble (Some limit) number_trouble (as_array d))
-form_fault (form.Objects kind limit) place object d = trouble_at place (list_trouble limit object_trouble (as_array d))
-form_fault (form.Acts allowed) place object d = acts_fault allowed place (as_array d)
+form_fault form.One place owner d = version_fault place (as_number d)
+form_fault form.Name place owner d = trouble_at place (trouble (name_of d))
+form_fault (form.NameIn s) place owner d = trouble_at place (trouble (name_of d))
+form_fault form.StateName place owner d = trouble_at place (state_name_trouble (name_of d))
+form_fault form.DeclaredState place owner d = trouble_at place (trouble (name_of d))
+form_fault form.AnyState place owner d = trouble_at place (trouble (name_of d))
+form_fault form.History place owner d = trouble_at place (trouble (history_of d))
+form_fault (form.Mboxes limit) place owner d = trouble_at place (list_trouble (Some limit) name_trouble (as_array d))
+form_fault form.MessageKind place owner d = trouble_at place (kind_trouble (as_str d))
+form_fault form.DispKind place owner d = trouble_at place (trouble (disp_kind_of d))
+form_fault form.Fifo place owner d = trouble_at place (trouble (fifo_of d))
+form_fault form.Quotes place owner d = trouble_at place (fixed_trouble 8 quote_trouble (as_array d))
+form_fault form.Flag place owner d = trouble_at place (trouble (flag_of d))
+form_fault form.OnlyTrue place owner d = trouble_at place (trouble (only_true d))
+form_fault form.Cmp place owner d = trouble_at place (trouble (cmp_of d))
+form_fault form.AnyNumber place owner d = trouble_at place (number_trouble d)
+form_fault (form.Number low high) place owner d = trouble_at place (trouble (number_of low high d))
+form_fault (form.Numbers limit) place owner d = trouble_at place (list_trouble (Some limit) number_trouble (as_array d))
+form_fault (form.Objects kind limit) place owner d = trouble_at place (list_trouble limit object_trouble (as_array d))
+form_fault (form.Acts allowed) place owner d = acts_fault allowed place (as_array d)
 form_fault form.Handler place row d = acts_fault (handler_acts row) place (as_array d)
-form_fault form.Later place object d = Some (fault.NotBuilt place)
+form_fault form.Later place owner d = Some (fault.NotBuilt place)
 
 abbrev pub field_fault : Rule → Place → Data → Option Data → Option SceneFault
-field_fault rule place object None = if rule.required then Some (fault.Missing place) else None
-field_fault rule place object (Some d) = form_fault rule.form place object d
+field_fault rule place owner None = if rule.required then Some (fault.Missing place) else None
+field_fault rule place owner (Some d) = form_fault rule.form place owner d
 
 -- ---- what the fields of an object need of each other
 
