@@ -105,4 +105,26 @@ fn sixty_three_dispatchers_may_be_declared(rt: HostRuntime) -> Result<(), Fail> 
     Ok(())
 }
 
+#[test]
+fn a_thousand_and_twenty_four_cooperations_may_be_declared(rt: HostRuntime) -> Result<(), Fail> {
+    for (count, fault) in [(1024, false), (1025, true)] {
+        let mut text = String::new(rt.alloc());
+        let mut mark = "{\"version\":1,\"coops\":[{\"name\":\"c";
+        for k in 0..count {
+            text.push_str(mark)?;
+            text.push(DIGITS[k / 512])?;
+            text.push(DIGITS[k / 64 % 8])?;
+            text.push(DIGITS[k / 8 % 8])?;
+            text.push(DIGITS[k % 8])?;
+            text.push_str("\",\"agents\":[]}")?;
+            mark = ",{\"name\":\"c";
+        }
+        text.push_str("]}")?;
+        let line = "out_of_range at /coops";
+        assert!(rt; has_fault(rt.alloc(), text.as_bytes(), line) == fault);
+        assert!(rt; read_scene(rt.alloc(), text.as_bytes()).is_err() == fault);
+    }
+    Ok(())
+}
+
 static DIGITS: [char; 9] = ['0', '1', '2', '3', '4', '5', '6', '7', '8'];
