@@ -21,7 +21,7 @@ use Rattle.so_history.specs.Turns.{move_of}
 use Rattle.so_history.specs.Steps.{NamesEffect, answer_of, answer_to_register, IsMove, Legal}
 use Rattle.so_history.specs.declared.entry.Entry.{Entry}
 use Rattle.so_scene.specs.declared.parts.SceneParts.{SceneParts}
-use Rattle.so_history.proofs.SoundLaws.{IsSound, agent_code, moved_waits, moved_frame, names_parts, answer_fits, course_sound}
+use Rattle.so_kernel.proofs.SoundLaws.{IsSound, agent_code, moved_waits, moved_frame, names_parts, answer_fits, course_sound}
 use Rattle.so_kernel.specs.declared.answers.Turn.{Turn}
 use Rattle.so_kernel.specs.Shapes.{Core}
 use Rattle.so_history.specs.declared.entry.EntryKind.{EntryKind}
@@ -29,8 +29,8 @@ use Rattle.so_history.specs.declared.entry.EntryKind.TheVariants.{Register, Refu
 use Rattle.so_scene.specs.Cooperations.{admission}
 use Rattle.so_history.specs.Coops.{standing}
 use Rattle.so_history.specs.Chain.{registering}
-use Rattle.so_history.proofs.TurnLaws.{turn_looked_up}
-use Rattle.so_history.proofs.TextLaws.{beginner_of}
+use Rattle.so_kernel.proofs.TurnLaws.{turn_looked_up}
+use Rattle.so_kernel.proofs.TextLaws.{beginner_of}
 use Rattle.so_kernel.specs.Gates.{HasMoved, IsActOf, IsAnsweredBy, act_entry, answer_for}
 use Rattle.so_kernel.proofs.HeldLaws.{held_whose}
 

@@ -1,5 +1,5 @@
 -- In a legal history the agents that are registered keep the rules of definition, and so do those of demands and of turns.
-use Rattle.std.proofs.Common.{◌≡◌, ℕ, ◌<◌, List, [], ◌∷◌, ◌++◌, length, Bool, true, false, ◌||◌, cond, Option, Some, None, arith, refl, sym, ◌∙◌, ap, subst, inl, inr}
+use Rattle.std.proofs.Common.{◌≡◌, ℕ, ◌+◌, ◌<◌, List, [], ◌∷◌, ◌++◌, length, Bool, true, false, ◌||◌, cond, Option, Some, None, arith, refl, sym, ◌∙◌, ap, subst, inl, inr}
 use Rattle.std.specs.List.{filter, list_any, AllByRecursion}
 use Rattle.std.specs.Option.{option_map, option_and_then}
 use Rattle.std.proofs.lemmas.Bool.{or_cases, eqb-true}
@@ -18,7 +18,7 @@ use Rattle.so_code.specs.declared.effect.Effect.{Effect}
 use Rattle.so_code.specs.declared.effect.Effect.TheVariants as effect
 use Rattle.so_lists.specs.Lists.{is_empty, or_else, first_below}
 use Rattle.so_lists.proofs.EachBelow.{length-each_below, all-each_below, slice_get-each_below}
-use Rattle.so_lists.proofs.Filters.{each-append, each-filter, found}
+use Rattle.so_kernel.proofs.Filters.{each-append, each-filter, found}
 use Rattle.so_lists.proofs.First.{or_else-none, none-first_below, option_map-none}
 use Rattle.so_scene.specs.declared.parts.SceneParts.{SceneParts}
 use Rattle.so_scene.specs.Cooperations.{lacks_parent, refused_slot, refused_rule, admission}
@@ -35,14 +35,14 @@ use Rattle.so_history.specs.Demands.{Asked, asked_by, demands_from, queued_by, d
 use Rattle.so_history.specs.Order.{pick, opening_of, skipped, may_take}
 use Rattle.so_history.specs.Turns.{Started, started_by, turns, running, turn_at}
 use Rattle.so_history.specs.Steps.{IsTaking, IsRow, IsMove, IsStep, Legal}
-use Rattle.so_history.proofs.AskedLaws.{delivered_of, asked_of_each}
-use Rattle.so_history.proofs.CoopLaws.{AsksSo, of_none, to_handle, to_start, to_finish, asks_so}
-use Rattle.so_history.proofs.DemandLaws.{picked}
-use Rattle.so_history.proofs.PresenceLaws.{Enters, as_main, as_act, enters_admitted, leaves_present}
-use Rattle.so_history.proofs.RosterLaws.{there_too, each_registered}
-use Rattle.so_history.proofs.TakingLaws.{begins_as}
-use Rattle.so_history.proofs.TextLaws.{beginner_of}
-use Rattle.so_history.proofs.TurnLaws.{turn_looked_up}
+use Rattle.so_kernel.proofs.AskedLaws.{delivered_of, asked_of_each}
+use Rattle.so_kernel.proofs.CoopLaws.{AsksSo, of_none, to_handle, to_start, to_finish, asks_so}
+use Rattle.so_kernel.proofs.DemandLaws.{picked}
+use Rattle.so_kernel.proofs.PresenceLaws.{leaves_present}
+use Rattle.so_kernel.proofs.RosterLaws.{joins, joins_admitted, there_too, each_registered}
+use Rattle.so_kernel.proofs.TakingLaws.{begins_as}
+use Rattle.so_kernel.proofs.TextLaws.{beginner_of}
+use Rattle.so_kernel.proofs.TurnLaws.{turn_looked_up}
 use Rattle.so_kernel.specs.Gates.{IsActOf}
 
 abbrev pub KeepsRules : SceneParts → AgentId → Type 0
@@ -71,17 +71,17 @@ agents_keep s h c admitted =
     let its : refused_rule s all k ≡ None = none-first_below (refused_rule s all) (length all) none k (omega (arith, l, length-each_below member count)) in
     option_map-none (refusal.Definition (member k)) (definition_fault s (member k)) (sym (ap (option_and_then (λ a. option_map (refusal.Definition a) (definition_fault s a))) (slice_get-each_below member count k l)) ∙ its))
 
-coop_keeps : (s : SceneParts) (h : List Entry) (by : PartyId) (kind : EntryKind) (c : CoopId) → IsRow s h by kind → Enters kind c → CoopKeeps s c
-coop_keeps s h by kind c row enters = agents_keep s h c (enters_admitted s h by kind c row enters)
+coop_keeps : (s : SceneParts) (h : List Entry) (by : PartyId) (kind : EntryKind) (c : CoopId) → IsRow s h by kind → joins kind ≡ Some c → CoopKeeps s c
+coop_keeps s h by kind c row its = agents_keep s h c (joins_admitted s h by kind c row its)
 
 -- ---- those that are present
 
 act_keeps : (s : SceneParts) (h : List Entry) (by : PartyId) (turn : Place) (x : Effect) (a : Answer) → IsRow s h by (Act turn x a) → AllByRecursion (CoopKeeps s) (roster h) → AllByRecursion (CoopKeeps s) (roster_by (Act turn x a) (roster h))
-act_keeps s h by turn (effect.Register c) answer.Okay row all = each-append (CoopKeeps s) (roster h) (c ∷ []) all (coop_keeps s h by _ c row (as_act turn refl), tt)
+act_keeps s h by turn (effect.Register c) answer.Okay row all = each-append (CoopKeeps s) (roster h) (c ∷ []) all (coop_keeps s h by (Act turn (effect.Register c) answer.Okay) c row refl, tt)
 act_keeps s h by turn x a row all = all
 
 entry_keeps : (s : SceneParts) (h : List Entry) (by : PartyId) (kind : EntryKind) → IsRow s h by kind → AllByRecursion (CoopKeeps s) (roster h) → AllByRecursion (CoopKeeps s) (roster_by kind (roster h))
-entry_keeps s h by (Register c) row all = each-append (CoopKeeps s) (roster h) (c ∷ []) all (coop_keeps s h by (Register c) c row (as_main refl), tt)
+entry_keeps s h by (Register c) row all = each-append (CoopKeeps s) (roster h) (c ∷ []) all (coop_keeps s h by (Register c) c row refl, tt)
 entry_keeps s h by (Left c) row all = each-filter (CoopKeeps s) (is_other c) (roster h) all
 entry_keeps s h by (Act turn x a) row all = act_keeps s h by turn x a row all
 entry_keeps s h by other row all = all

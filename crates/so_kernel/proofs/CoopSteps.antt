@@ -32,15 +32,16 @@ use Rattle.so_history.specs.Leaves.{is_of}
 use Rattle.so_history.specs.Order.{opening_of}
 use Rattle.so_history.specs.Steps.{yes_where, IsRow, Legal}
 use Rattle.so_history.specs.Turns.{Started, turn_at}
-use Rattle.so_history.proofs.CoopLaws.{may_leave_parts}
-use Rattle.so_history.proofs.LeavingLaws.{none_unfinished}
-use Rattle.so_history.proofs.PresenceLaws.{Enters, as_main, as_act, absent_before, enters_admitted, present_now, leaves_present, leaving_present}
-use Rattle.so_history.proofs.RosterLaws.{present_within, absent_leaving, absent_mark}
-use Rattle.so_history.proofs.UnfinishedLaws.{Spares, unfinished-same, unfinished-leaving, unfinished-leaving_other, unfinished-begun, unfinished-skipped, unfinished-finished, unfinished-ended, unfinished-absent}
+use Rattle.so_kernel.proofs.CoopLaws.{may_leave_parts}
+use Rattle.so_kernel.proofs.LeavingLaws.{none_unfinished}
+use Rattle.so_kernel.proofs.PresenceLaws.{present_now, leaves_present}
+use Rattle.so_kernel.proofs.RosterLaws.{present_within, leaving_present, absent_leaving, absent_mark}
+use Rattle.so_kernel.proofs.Entering.{Enters, as_main, as_act, it_joins, was_open, entered_known}
+use Rattle.so_kernel.proofs.UnfinishedLaws.{Spares, unfinished-same, unfinished-leaving, unfinished-leaving_other, unfinished-begun, unfinished-skipped, unfinished-finished, unfinished-ended, unfinished-absent}
 use Rattle.so_coop.specs.declared.coops.Coop.{Coop}
 use Rattle.so_coop.specs.Coops.{absent, entered, standing_at, with_coop, after_enter, may_mark as table_may_mark, marked, after_mark, begun_to_leave, after_leave_begin, one_finished, after_finished, after_left}
 use Rattle.so_kernel.specs.Tables.{coop_at, coops_of, finished_turn}
-use Rattle.so_kernel.proofs.CoopTableLaws.{coops-same, coops-set, coop_found, entered_known, may_mark-table, not_same, present_pushed, present_gone, present_spared, stand_as}
+use Rattle.so_kernel.proofs.CoopTableLaws.{coops-same, coops-set, coop_found, may_mark-table, not_same, present_pushed, present_gone, present_spared, stand_as}
 
 -- how a cooperation stands after an entry that leaves it as it was
 stays : (s : SceneParts) (h : List Entry) (e : Entry) (k : ℕ) → present (e ∷ h) (coop_number k) ≡ present h (coop_number k) → leaving_by e.kind (coop_number k) (leaving h (coop_number k)) ≡ leaving h (coop_number k) →
@@ -77,10 +78,10 @@ entering_spares kind coop (as_act turn is) = rw is tt
 
 pub coops-entered : (s : SceneParts) (h : List Entry) (e : Entry) (coop : CoopId) → IsScene s → Legal s (e ∷ h) → Enters e.kind coop → coops_of s (e ∷ h) ≡ after_enter coop (coops_of s h)
 coops-entered s h e coop scene legal its =
-    let gone : present h coop ≡ false = absent_before s h coop (enters_admitted s h e.by e.kind coop legal.1.row its) in
+    let gone : present h coop ≡ false = (was_open s h e coop legal.1.row its).absent in
     let idle : leaving h coop ≡ false = absent_leaving s h coop legal.0 gone in
     coops-set s h e coop entered (entered_known s h e coop legal.1.row its)
-    (becomes s h e coop.0 entered (present_now e h coop its)
+    (becomes s h e coop.0 entered (present_now e h coop (it_joins e.kind coop its))
     (entering_leaving e.kind coop coop (leaving h coop) its ∙ idle)
     (entering_mark e.kind coop coop (mark h coop) its ∙ absent_mark s h coop legal.0 gone)
     (unfinished-same s h e coop legal.0 (entering_spares e.kind coop its) ∙ unfinished-absent s h coop scene legal.0 idle))

@@ -13,7 +13,7 @@ use Rattle.so_ids.specs.declared.DemandId.{DemandId}
 use Rattle.so_ids.specs.declared.Reason.{Reason}
 use Rattle.so_ids.specs.declared.Reason.TheVariants as reason
 use Rattle.so_lists.specs.Lists.{is_empty, or_else, each_below, first_below}
-use Rattle.so_lists.proofs.Counts.{count-none, count-more, count-same}
+use Rattle.so_kernel.proofs.Counts.{count-none, count-more, count-same}
 use Rattle.so_lists.proofs.EachBelow.{length-each_below, get_or-each_below, each_below-same, each_below-set, each_below-replicate, each_below-none}
 use Rattle.so_lists.proofs.First.{some-first_below}
 use Rattle.so_scene.specs.declared.parts.SceneParts.{SceneParts}
@@ -25,18 +25,18 @@ use Rattle.so_history.specs.declared.entry.Entry.{Entry}
 use Rattle.so_history.specs.declared.entry.EntryKind.{EntryKind}
 use Rattle.so_history.specs.declared.entry.EntryKind.TheVariants.{Left}
 use Rattle.so_history.specs.Coops.{is_same, is_other, roster, roster_by, present, leaving, leaving_by, mark, mark_by, may_mark, tried, tried_by, to_try, next_coop, stopped, standing}
-use Rattle.so_history.specs.Demands.{queued_by, takes, waiting}
+use Rattle.so_history.specs.Demands.{queued_by, takes, demands, waiting}
 use Rattle.so_history.specs.Finishing.{is_finish, finishes, unfinished, IsQuiet}
 use Rattle.so_history.specs.Steps.{may_leave, left_at, left_next, IsRow, Legal}
-use Rattle.so_history.specs.Turns.{Started, started_by, ends, running}
-use Rattle.so_history.proofs.DemandLaws.{waiting-same}
-use Rattle.so_history.proofs.TurnLaws.{running-same}
-use Rattle.so_history.proofs.PresenceLaws.{Enters, as_main, as_act, present_now, absent_before, enters_admitted}
-use Rattle.so_history.proofs.RosterLaws.{admitted_open, open_within, present_within, absent_leaving, absent_mark}
-use Rattle.so_history.proofs.UnfinishedLaws.{may_leave-unfinished}
+use Rattle.so_history.specs.Turns.{started_by, ends, turns, running}
+use Rattle.so_kernel.proofs.DemandLaws.{waiting-same}
+use Rattle.so_kernel.proofs.TurnLaws.{running-same}
+use Rattle.so_kernel.proofs.RosterLaws.{present_within, absent_leaving, absent_mark}
+use Rattle.so_kernel.proofs.UnfinishedLaws.{may_leave-unfinished}
 use Rattle.so_coop.specs.declared.coops.Coop.{Coop}
 use Rattle.so_coop.specs.Coops.{CoopTable, absent, entered, nobody, standing_at, standing as table_standing, is_present, present as how_many, with_coop, after_enter, may_mark as table_may_mark, begun_to_leave, after_leave_begin, after_left, has_ended, ended_at, left_next as table_left_next}
-use Rattle.so_kernel.specs.Tables.{coop_at, coops_of, AttemptTable, tried_at, attempts_of, none_tried, after_attempt, untried_at, next_attempt}
+use Rattle.so_kernel.specs.Attempts.{none_tried, after_attempt, untried_at, next_attempt}
+use Rattle.so_kernel.specs.Tables.{coop_at, coops_of, tried_at, attempts_of}
 
 -- ---- the table after an entry
 
@@ -136,10 +136,6 @@ unfolding next_coop
 next-table s h =
     first_alike (untried_at (attempts_of s h)) (to_try s h) (length s.coops)
     (λ k l. ap (λ b. cond ((coop_of s (coop_number k)).at_start && not b) (Some (coop_number k)) None) (get_or-each_below (tried_at h) (length s.coops) k false l))
-
--- one that is registered
-pub entered_known : (s : SceneParts) (h : List Entry) (e : Entry) (c : CoopId) → IsRow s h e.by e.kind → Enters e.kind c → c.0 < length s.coops
-entered_known s h e c row its = open_within s (standing h) c (admitted_open s (standing h) c (enters_admitted s h e.by e.kind c row its))
 
 -- how they stand
 module _ (s : SceneParts) (h : List Entry) (legal : Legal s h) where

@@ -22,13 +22,13 @@ use Rattle.so_code.specs.declared.effect.Answer.{Answer}
 use Rattle.so_code.specs.declared.effect.Answer.TheVariants as answer
 use Rattle.so_code.specs.declared.effect.Effect.{Effect}
 use Rattle.so_code.specs.declared.effect.Effect.TheVariants as effect
-use Rattle.so_lists.proofs.Filters.{filter-short}
+use Rattle.so_kernel.proofs.Filters.{filter-short}
 use Rattle.so_scene.specs.declared.parts.SceneParts.{SceneParts}
 use Rattle.so_scene.specs.Checked.{IsScene}
 use Rattle.so_scene.specs.Cooperations.{admission}
 use Rattle.so_scene.specs.Delivery.{Outcome, is_subscribed, outcome_for, outcomes, events}
 use Rattle.so_scene.specs.Lanes.{lanes}
-use Rattle.so_scene.proofs.AgentLaws.{coop_within}
+use Rattle.so_kernel.proofs.AgentLaws.{coop_within}
 use Rattle.so_history.specs.declared.entry.Demand.{Demand}
 use Rattle.so_history.specs.declared.entry.DemandKind.TheVariants.{Start}
 use Rattle.so_history.specs.declared.entry.Entry.{Entry}
@@ -43,11 +43,11 @@ use Rattle.so_history.specs.Order.{pick, opening_of, skipped, taking_as, taking}
 use Rattle.so_history.specs.Steps.{NamesEffect, IsSigner, IsTaking, IsRow, Legal, answer_of, answer_to_register, answer_to_switch, choice_for, yes_where, may_subscribe, is_active}
 use Rattle.so_history.specs.Turns.{move_of}
 use Rattle.so_history.specs.Units.{cost}
-use Rattle.so_history.proofs.DemandLaws.{length-asked, registered_of}
-use Rattle.so_history.proofs.NameLaws.{length-demands_from}
-use Rattle.so_history.proofs.RosterLaws.{registered_once}
-use Rattle.so_history.proofs.MoveLaws.{acts_so}
-use Rattle.so_history.proofs.SoundLaws.{names_parts, course_sound}
+use Rattle.so_kernel.proofs.DemandLaws.{length-asked, registered_of}
+use Rattle.so_kernel.proofs.NameLaws.{length-demands_from}
+use Rattle.so_kernel.proofs.RosterLaws.{registered_once}
+use Rattle.so_kernel.proofs.MoveLaws.{acts_so}
+use Rattle.so_kernel.proofs.SoundLaws.{names_parts, course_sound}
 use Rattle.so_mbox.specs.Table.{IsAgentOf}
 use Rattle.so_mbox.proofs.TableLaws.{few_agents}
 use Rattle.so_kernel.specs.Gates.{NamesCoop, queued_by_act}
@@ -87,10 +87,6 @@ delivered_few s h mbox msg payload scene legal =
 
 -- ---- what an act costs by its answer
 
-sent_in : Answer → Sent → Sent
-sent_in (answer.Sent sent) other = sent
-sent_in a other = other
-
 -- what an act queues
 pub record IsQueued (s : SceneParts) (h : List Entry) (x : Effect) (said : Answer) : Type 0 where
   pub count : length (asked_by_effect s h x said) ≡ queued_by_act s x said
@@ -115,8 +111,8 @@ none_queued : (s : SceneParts) (h : List Entry) (x : Effect) (said known : Answe
 none_queued s h x said known none zero e = subst (IsQueued s h x) (same_Some known said e) (record { count = ap length none ∙ sym zero; few = omega (arith, zero) })
 
 yes_queued : (s : SceneParts) (h : List Entry) (x : Effect) (said : Answer) (b : Bool) → ((a : Answer) → asked_by_effect s h x a ≡ []) → queued_by_act s x answer.Yes ≡ 0 → queued_by_act s x answer.No ≡ 0 → Some (yes_where b) ≡ Some said → IsQueued s h x said
-yes_queued s h x said true none yes nay e = none_queued s h x said answer.Yes (none answer.Yes) yes e
-yes_queued s h x said false none yes nay e = none_queued s h x said answer.No (none answer.No) nay e
+yes_queued s h x said true none one two e = none_queued s h x said answer.Yes (none answer.Yes) one e
+yes_queued s h x said false none one two e = none_queued s h x said answer.No (none answer.No) two e
 
 switch_queued : (s : SceneParts) (h : List Entry) (to : StateId) (said : Answer) (o : Option Plan) → Some (answer_to_switch o) ≡ Some said → IsQueued s h (effect.Switch to) said
 switch_queued s h to said None e = none_queued s h (effect.Switch to) said answer.Same refl refl e

@@ -9,7 +9,7 @@ use Rattle.std.proofs.lemmas.Bool.{ne_eqb, eq-eqb, eqb-true, cases_Bool, cases_e
 use Rattle.so_ids.specs.declared.KeyId.{KeyId}
 use Rattle.so_ids.specs.declared.Place.{Place}
 use Rattle.so_lists.proofs.EachBelow.{get_or-each_below, each_below-same, each_below-set}
-use Rattle.so_lists.proofs.Filters.{each-weaker, filter_none, filter-swap, filter-short}
+use Rattle.so_kernel.proofs.Filters.{each-weaker, filter_none, filter-swap, filter-short}
 use Rattle.so_scene.specs.declared.parts.SceneParts.{SceneParts}
 use Rattle.so_scene.specs.Lanes.{keys, key_of}
 use Rattle.so_scene.proofs.LaneLaws.{key_in_range}
@@ -18,7 +18,7 @@ use Rattle.so_history.specs.declared.entry.EntryKind.TheVariants.{End}
 use Rattle.so_history.specs.Order.{runs_safe}
 use Rattle.so_history.specs.Turns.{Started, started_by, ends, ended, turns, running, running_at, running_with, key_number, turn_at}
 use Rattle.so_history.specs.Steps.{Legal}
-use Rattle.so_history.proofs.TurnLaws.{Frees, started_here, few_started, running_early, running_at-begun, running_at-same, running_at-ended, running_at-other, alone, turn_found}
+use Rattle.so_kernel.proofs.TurnLaws.{Frees, started_here, few_started, running_early, running_at-begun, running_at-same, running_at-ended, running_at-other, alone, turn_found}
 use Rattle.so_events.specs.Events.{EventTable, one_more, one_less, turns_with, turns_of, after_start, after_end}
 use Rattle.so_kernel.specs.Tables.{is_other, counts, events_of}
 

@@ -2,16 +2,17 @@
 use Rattle.std.proofs.Common.{◌≡◌, ℕ, ◌<◌, List, [], ◌∷◌, Bool, true, false, ◌||◌, cond, refl, sym, ◌∙◌, ap, length}
 use Rattle.std.specs.Prelude.{◌==◌, slice_set}
 use Rattle.std.specs.List.{list_any, AllByRecursion}
-use Rattle.std.proofs.lemmas.Bool.{ne_eqb, eq-eqb}
+use Rattle.std.proofs.lemmas.Bool.{ne_eqb, eq-eqb, eqb-true}
 use Rattle.so_ids.specs.declared.AgentId.{AgentId}
 use Rattle.so_ids.specs.declared.CoopId.{CoopId}
 use Rattle.so_ids.specs.declared.Vars.{Vars}
 use Rattle.so_lists.specs.Lists.{each_below}
 use Rattle.so_lists.proofs.EachBelow.{each_below-set, each_below-same}
+use Rattle.so_lists.proofs.Filters.{each-weaker}
 use Rattle.so_scene.specs.declared.parts.SceneParts.{SceneParts}
-use Rattle.so_scene.specs.Parts.{agents_of, vars_of}
+use Rattle.so_scene.specs.Parts.{agent_of, agents_of, vars_of}
 use Rattle.so_scene.specs.Checked.{IsScene}
-use Rattle.so_scene.proofs.AgentLaws.{among_agents, agents_in_range}
+use Rattle.so_kernel.proofs.AgentLaws.{among_agents, agents_are_of, agents_in_range}
 use Rattle.so_history.specs.Leaves.{is_of}
 use Rattle.so_kernel.specs.Tables.{set_back}
 
@@ -46,6 +47,10 @@ set_each-below v f (a ∷ agents) n known =
     ∙ each_below-same _ _ n (λ k l. both_sets (k == a.0) (among agents k) (v k) (f k)))
 
 -- ---- the agents of a cooperation
+
+pub agents_its : (s : SceneParts) (c : CoopId) → IsScene s → AllByRecursion (λ (a : AgentId). (agent_of s a).coop ≡ c) (agents_of s c)
+agents_its s c scene =
+    each-weaker (λ (a : AgentId). ((agent_of s a).coop.0 == c.0) ≡ true) (λ (a : AgentId). (agent_of s a).coop ≡ c) (λ a is. ap (λ n. record { 0 = n }) (eqb-true (agent_of s a).coop.0 c.0 is)) (agents_of s c) (agents_are_of s c scene)
 
 pub among_its : (s : SceneParts) (c : CoopId) (a : AgentId) → IsScene s → a.0 < length s.agents → among (agents_of s c) a.0 ≡ is_of s c a
 among_its s c a scene known = among_agents s c a scene known

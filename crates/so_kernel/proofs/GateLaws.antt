@@ -9,7 +9,7 @@ use Rattle.so_history.specs.Units.{fits}
 use Rattle.so_history.specs.declared.entry.EntryKind.{EntryKind}
 use Rattle.so_history.specs.declared.entry.EntryKind.TheVariants.{Register, Refuse, Begin, Skip, Act, End, Leaving, Left, Stop, Abort}
 use Rattle.so_history.specs.Steps.{is_over}
-use Rattle.so_history.proofs.ChainLaws.{IsTidying}
+use Rattle.so_kernel.proofs.ChainLaws.{IsTidying}
 use Rattle.so_history.specs.Chain.{registering, first, fitting, next_entry}
 use Rattle.so_kernel.specs.declared.answers.Refused.{Refused}
 use Rattle.so_kernel.specs.declared.answers.Refused.TheVariants.{Nothing, Full, Over}

@@ -41,9 +41,9 @@ use Rattle.so_history.specs.Demands.{message_of, event_of}
 use Rattle.so_history.specs.Order.{runs_safe, pick, opening_for, opening_of, skipped, taking_as, taking}
 use Rattle.so_history.specs.Steps.{finished, answer_of, Legal}
 use Rattle.so_history.specs.Chain.{registering, registration, tidying, turn_on, turn_entry, lane_entry, first}
-use Rattle.so_history.proofs.TurnLaws.{running_at-begun, running_at-same, running_at-ended, alone, turn_found, turn-begun, turn-spared, turn_of, turn_looked_up, turn_agent, lanes_free}
-use Rattle.so_history.proofs.CourseLaws.{acts_for, course-spared, course-acted, course-begun, has_course}
-use Rattle.so_history.proofs.ChainLaws.{registered, tidied, IsTidying, first-turn, lane_entry-turn, lane_entry-free, has_move}
+use Rattle.so_kernel.proofs.TurnLaws.{running_at-begun, running_at-same, running_at-ended, alone, turn_found, turn-begun, turn-spared, turn_of, turn_looked_up, turn_agent, lanes_free}
+use Rattle.so_kernel.proofs.CourseLaws.{acts_for, course-spared, course-acted, course-begun, has_course}
+use Rattle.so_kernel.proofs.ChainLaws.{registered, tidied, IsTidying, first-turn, lane_entry-turn, lane_entry-free, has_move}
 use Rattle.so_kernel.specs.declared.answers.Turn.{Turn}
 use Rattle.so_kernel.specs.declared.answers.Refused.{Refused}
 use Rattle.so_kernel.specs.declared.answers.Refused.TheVariants.{Nothing, Full, Over}

@@ -27,16 +27,17 @@ use Rattle.so_history.specs.Units.{units, cost, fits}
 use Rattle.so_history.specs.Coops.{aborted}
 use Rattle.so_history.specs.Steps.{finished, is_over, IsRow, Legal}
 use Rattle.so_history.specs.Demands.{demands, queued_by}
-use Rattle.so_history.proofs.DemandLaws.{demands_early, waiting-units}
+use Rattle.so_kernel.proofs.DemandLaws.{demands_early, waiting-units}
 use Rattle.so_kernel.specs.declared.answers.Refused.TheVariants.{Full, Over}
 use Rattle.so_kernel.specs.declared.tables.Tables.{Tables}
 use Rattle.so_kernel.specs.Shapes.{Core}
 use Rattle.so_kernel.specs.Tables.{tables_of, AreFor, HasRoom, IsLater}
-use Rattle.so_history.proofs.CoopLaws.{may_leave_parts}
-use Rattle.so_history.proofs.PresenceLaws.{Enters, absent_before, enters_admitted, leaves_present, leaving_present}
-use Rattle.so_history.proofs.RosterLaws.{present_within}
-use Rattle.so_history.proofs.TextLaws.{next_within}
-use Rattle.so_kernel.proofs.CoopTableLaws.{coop_found, entered_known}
+use Rattle.so_kernel.proofs.CoopLaws.{may_leave_parts}
+use Rattle.so_kernel.proofs.PresenceLaws.{leaves_present}
+use Rattle.so_kernel.proofs.RosterLaws.{present_within, leaving_present}
+use Rattle.so_kernel.proofs.Entering.{Enters, was_open, entered_known}
+use Rattle.so_kernel.proofs.TextLaws.{next_within}
+use Rattle.so_kernel.proofs.CoopTableLaws.{coop_found}
 use Rattle.so_kernel.proofs.MboxLaws.{nobody_entered}
 use Rattle.so_ids.specs.declared.Place.{Place}
 use Rattle.so_kernel.specs.Kept.{IsKept, IsReady}
@@ -134,11 +135,11 @@ module _ {s : SceneParts} {limit : ℕ} {h : List Entry} {t : Tables} {full : Bo
   entering_absent its =
       rw kept.tables (
         ap (λ (x : Coop). x.present) (coop_found s h coop (entered_known s h e coop ready.step.row its))
-        ∙ absent_before s h coop (enters_admitted s h e.by e.kind coop ready.step.row its)
+        ∙ (was_open s h e coop ready.step.row its).absent
       )
 
   pub entering_nobody : Enters e.kind coop → All (λ (a : AgentId). is_entered t.mboxes a ≡ false) (agents_of s coop)
-  entering_nobody its = rw kept.tables (nobody_entered s h coop kept.scene (absent_before s h coop (enters_admitted s h e.by e.kind coop ready.step.row its)))
+  entering_nobody its = rw kept.tables (nobody_entered s h coop kept.scene ((was_open s h e coop ready.step.row its).absent))
 
 pub tables_for : {s : SceneParts} {limit : ℕ} {h : List Entry} {t : Tables} {full : Bool} → IsKept s limit h t full → AreFor s t
 tables_for kept = rw kept.tables (record { events = refl; mboxes = refl; coops = refl })

@@ -21,7 +21,7 @@ use Rattle.so_code.specs.declared.effect.Answer.{Answer}
 use Rattle.so_code.specs.declared.effect.Effect.{Effect}
 use Rattle.so_lists.specs.Lists.{each_below, first_below}
 use Rattle.so_lists.proofs.EachBelow.{length-each_below, get_or-each_below, each_below-same, each_below-set, all-each_below}
-use Rattle.so_lists.proofs.Filters.{each-weaker, each-filter, both_each, filter_keeps, filter_none, filter-filter}
+use Rattle.so_kernel.proofs.Filters.{each-weaker, each-filter, both_each, filter_keeps, filter_none, filter-filter}
 use Rattle.so_lists.proofs.First.{or_else-none, none-first_below}
 use Rattle.so_scene.specs.declared.parts.AgentDef.{AgentDef}
 use Rattle.so_scene.specs.declared.parts.SceneParts.{SceneParts}
@@ -30,7 +30,7 @@ use Rattle.so_scene.specs.Checked.{IsScene}
 use Rattle.so_scene.specs.Definition.{is_not_owner, row_fault, row_fault_after, filter_fault, filter_fault_of, definition_fault}
 use Rattle.so_scene.specs.Delivery.{Outcome, events, is_subscribed, passes_with, outcome_for, outcomes}
 use Rattle.so_scene.specs.Subscriptions.{no_row, row_of, no_filter, filter_of, rows_first, filters_first}
-use Rattle.so_scene.proofs.AgentLaws.{agents_its, agents_in_range}
+use Rattle.so_kernel.proofs.AgentLaws.{agents_in_range}
 use Rattle.so_history.specs.declared.entry.Demand.{Demand}
 use Rattle.so_history.specs.declared.entry.Entry.{Entry}
 use Rattle.so_history.specs.declared.entry.EntryKind.TheVariants.{Act, Left}
@@ -40,10 +40,9 @@ use Rattle.so_history.specs.Leaves.{is_of, is_turn_of}
 use Rattle.so_history.specs.Delivery.{agents_of_each, registered, rows_by, rows_by_effect, active_rows, filters_by, filters_by_effect, active_filters, receivers, is_leaving, delivered}
 use Rattle.so_history.specs.Demands.{ask, demands_from}
 use Rattle.so_history.specs.Steps.{is_active}
-use Rattle.so_history.proofs.AskedLaws.{delivered_of}
-use Rattle.so_history.proofs.DemandLaws.{registered_of}
-use Rattle.so_history.proofs.RosterLaws.{registered_is}
-use Rattle.so_history.proofs.PresenceLaws.{Enters, as_main, as_act}
+use Rattle.so_kernel.proofs.AskedLaws.{delivered_of}
+use Rattle.so_kernel.proofs.DemandLaws.{registered_of}
+use Rattle.so_kernel.proofs.RosterLaws.{registered_is}
 use Rattle.so_coop.specs.declared.coops.Coop.{Coop}
 use Rattle.so_coop.specs.Coops.{absent, is_leaving as table_leaving}
 use Rattle.so_mbox.specs.Table.{active_rows as table_rows, active_filters as table_filters, receivers as table_receivers, passes as table_passes, Subscriptions, nobody, none_active, same_agent, is_entered, after_enter, after_leave, entered, departed}
@@ -51,7 +50,8 @@ use Rattle.so_mbox.proofs.OrderLaws.{order-entered, order-departed}
 use Rattle.so_deliver.specs.Planned.{outcomes_of}
 use Rattle.so_events.proofs.Asking.{agents_from-next}
 use Rattle.so_kernel.specs.Tables.{rows_after, filters_after, subscriptions_of, coop_at, coops_of}
-use Rattle.so_kernel.proofs.EachLaws.{set_each, among, among_its, each-its}
+use Rattle.so_kernel.proofs.EachLaws.{set_each, among_its, agents_its, each-its}
+use Rattle.so_kernel.proofs.Entering.{Enters, as_main, as_act}
 
 -- ---- agents that enter one after the other
 

@@ -18,11 +18,11 @@ use Rattle.so_code.specs.declared.effect.Answer.{Answer}
 use Rattle.so_scene.specs.declared.parts.SceneParts.{SceneParts}
 use Rattle.so_scene.specs.Parts.{agent_of, coop_of, states_of}
 use Rattle.so_scene.specs.Checked.{IsMember, IsScene}
-use Rattle.so_scene.proofs.AgentLaws.{one_coop}
+use Rattle.so_kernel.proofs.AgentLaws.{its_coop}
 use Rattle.so_history.specs.declared.entry.Entry.{Entry}
 use Rattle.so_history.specs.declared.entry.EntryKind.TheVariants.{Act}
 use Rattle.so_history.specs.Leaves.{is_of, leaves_by_effect, leaves_by, leaves}
-use Rattle.so_history.proofs.PresenceLaws.{Enters, as_main, as_act}
+use Rattle.so_kernel.proofs.Entering.{Enters, as_main, as_act}
 use Rattle.so_kernel.specs.declared.states.Standing.{Standing}
 use Rattle.so_kernel.specs.States.{nowhere, Stands, AreNew, AllStand, none_entered, is_between, with_none, with_entered}
 use Rattle.so_kernel.specs.Gates.{is_quiet, IsActOf, IsQuietActOf}
@@ -119,27 +119,26 @@ stands_more s from k leaves xs x within new all = record {
 between_true : (from to k : ℕ) → from ≤ k → k < to → is_between from to k ≡ true
 between_true from to k after before = rw (le-leb from k after, lt-ltb k to before) refl
 
-between_case : (s : SceneParts) (c : CoopId) (a : AgentId) (b : Bool) → IsScene s → a.0 < length s.agents → is_of s c a ≡ b → is_between (coop_of s c).first.0 ((coop_of s c).first.0 + (coop_of s c).count) a.0 ≡ b
-between_case s c a true scene known is =
+between_case : (s : SceneParts) (c : CoopId) (a : AgentId) (b : Bool) → IsScene s → c.0 < length s.coops → a.0 < length s.agents → is_of s c a ≡ b → is_between (coop_of s c).first.0 ((coop_of s c).first.0 + (coop_of s c).count) a.0 ≡ b
+between_case s c a true scene within known is =
     let same : (agent_of s a).coop ≡ c = ap (λ n. record { 0 = n }) (eqb-true (agent_of s a).coop.0 c.0 is) in
     let member : IsMember (coop_of s c) a = subst (λ x. IsMember (coop_of s x) a) same (scene.members a known) in
     between_true _ _ a.0 member.0 member.1
-between_case s c a false scene known is =
+between_case s c a false scene within known is =
     false_from_ne_true _
     (λ between.
     let both = and_parts (nat_le (coop_of s c).first.0 a.0) _ between in
     let member : IsMember (coop_of s c) a = (leb-true (coop_of s c).first.0 a.0 both.0, ltb-true a.0 _ both.1) in
-    let same : (agent_of s a).coop ≡ c = one_coop s (agent_of s a).coop c a scene (scene.members a known) member in
-    false≢true (sym is ∙ eq-eqb (agent_of s a).coop.0 c.0 (ap (λ (x : CoopId). x.0) same)))
+    false≢true (sym is ∙ eq-eqb (agent_of s a).coop.0 c.0 (its_coop s c a scene within known member)))
 
 -- a registration
-pub stands_entered_coop : (s : SceneParts) (h : List Entry) (e : Entry) (coop : CoopId) (xs : List Standing) → IsScene s → Enters e.kind coop →
+pub stands_entered_coop : (s : SceneParts) (h : List Entry) (e : Entry) (coop : CoopId) (xs : List Standing) → IsScene s → coop.0 < length s.coops → Enters e.kind coop →
     AllStand s (with_none (coop_of s coop).first.0 ((coop_of s coop).first.0 + (coop_of s coop).count) (leaves s h)) xs → AllStand s (leaves s (e ∷ h)) xs
 unfolding leaves
-stands_entered_coop s h e coop xs scene (as_main is) all =
-    stands_as s _ (leaves s (e ∷ h)) xs (λ a known. rw is (ap (λ b. cond b [] (leaves s h a)) (sym (between_case s coop a (is_of s coop a) scene known refl)))) all
-stands_entered_coop s h e coop xs scene (as_act turn is) all =
-    stands_as s _ (leaves s (e ∷ h)) xs (λ a known. rw is (ap (λ b. cond b [] (leaves s h a)) (sym (between_case s coop a (is_of s coop a) scene known refl)))) all
+stands_entered_coop s h e coop xs scene within (as_main is) all =
+    stands_as s _ (leaves s (e ∷ h)) xs (λ a known. rw is (ap (λ b. cond b [] (leaves s h a)) (sym (between_case s coop a (is_of s coop a) scene within known refl)))) all
+stands_entered_coop s h e coop xs scene within (as_act turn is) all =
+    stands_as s _ (leaves s (e ∷ h)) xs (λ a known. rw is (ap (λ b. cond b [] (leaves s h a)) (sym (between_case s coop a (is_of s coop a) scene within known refl)))) all
 
 -- at the start
 pub stands_fresh : (s : SceneParts) (xs : List Standing) → AllStand s none_entered xs → AllStand s (leaves s []) xs

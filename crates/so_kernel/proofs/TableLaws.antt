@@ -55,10 +55,10 @@ use Rattle.so_history.specs.Heads.{round}
 use Rattle.so_history.specs.Safety.{is_safe}
 use Rattle.so_history.specs.Order.{runs_safe, pick, opening_of, skipped, taking_as, taking}
 use Rattle.so_history.specs.Steps.{Legal, yes_where, may_subscribe, is_active}
-use Rattle.so_history.proofs.DemandLaws.{waiting-queued, waiting-same, waiting-taken, picked}
-use Rattle.so_history.proofs.NameLaws.{length-demands_from}
-use Rattle.so_history.proofs.PresenceLaws.{Enters, as_main, as_act}
-use Rattle.so_history.proofs.TurnLaws.{Frees, running_at-begun, running_at-same, running_at-ended, running_at-other, alone, turn_found, running_nowhere, running_at-nil, lanes_free}
+use Rattle.so_kernel.proofs.DemandLaws.{waiting-queued, waiting-same, waiting-taken, picked}
+use Rattle.so_kernel.proofs.NameLaws.{length-demands_from}
+use Rattle.so_kernel.proofs.Entering.{Enters, as_main, as_act}
+use Rattle.so_kernel.proofs.TurnLaws.{Frees, running_at-begun, running_at-same, running_at-ended, running_at-other, alone, turn_found, running_nowhere, running_at-nil, lanes_free}
 use Rattle.so_mbox.specs.Table.{after_unsubscribe, after_set_filter, after_drop_filter}
 use Rattle.so_events.specs.Events.{after_taking, after_start as turn_started, after_end as turn_ended}
 use Rattle.so_kernel.specs.Gates.{is_skip, is_quiet, IsActOf, IsQuietActOf}
@@ -248,7 +248,7 @@ module _ (s : SceneParts) (room : ℕ) (h : List Entry) (e : Entry) (turn : Plac
       ) refl
 
 -- those of an agent's own states, rows and filters, and those that tell or choose
-is_own : Effect → Bool
+abbrev is_own : Effect → Bool
 is_own (effect.Subscribe row) = true
 is_own (effect.Unsubscribe row) = true
 is_own (effect.SetFilter filter) = true
@@ -260,7 +260,6 @@ is_own effect.Choose = true
 is_own other = false
 
 own_still : (s : SceneParts) (h : List Entry) (x : Effect) (said : Answer) → is_own x ≡ true → IsStill s h x said
-unfolding is_own
 own_still s h (effect.Subscribe row) said own = record { same_vars = λ a v. refl; asks_none = refl; same_roster = refl; same_marks = λ c m. refl; no_stop = refl }
 own_still s h (effect.Unsubscribe row) said own = record { same_vars = λ a v. refl; asks_none = refl; same_roster = refl; same_marks = λ c m. refl; no_stop = refl }
 own_still s h (effect.SetFilter filter) said own = record { same_vars = λ a v. refl; asks_none = refl; same_roster = refl; same_marks = λ c m. refl; no_stop = refl }

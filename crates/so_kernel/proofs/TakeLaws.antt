@@ -12,7 +12,7 @@ use Rattle.so_ids.specs.declared.Opening.TheVariants as opening
 use Rattle.so_ids.specs.Ids.{same_demand}
 use Rattle.so_lists.specs.Lists.{is_empty}
 use Rattle.so_lists.proofs.EachBelow.{get_or-each_below, each_below-same, each_below-set}
-use Rattle.so_lists.proofs.Filters.{found, both_each}
+use Rattle.so_kernel.proofs.Filters.{found, both_each}
 use Rattle.so_lists.proofs.Found.{find_narrower}
 use Rattle.so_scene.specs.declared.lanes.Queue.{Queue}
 use Rattle.so_scene.specs.declared.parts.DispKind.{DispKind}
@@ -35,9 +35,9 @@ use Rattle.so_history.specs.Heads.{has_rounds, takes_on, round, first_of_priorit
 use Rattle.so_history.specs.Order.{opening_of, skipped, runs_safe, is_allowed_beside, is_allowed, may_take, pick, taking}
 use Rattle.so_history.specs.Safety.{kind_of, lets_overlap, is_safe}
 use Rattle.so_history.specs.Turns.{Started, running_with}
-use Rattle.so_history.proofs.DemandLaws.{demands_of, picked_of, waiting_of, waiting_named}
-use Rattle.so_history.proofs.HeadLaws.{is_ranked_with, picked_first}
-use Rattle.so_history.proofs.RoundLaws.{takes_on-taking, picked_lane, round-kept, round-taken}
+use Rattle.so_kernel.proofs.DemandLaws.{demands_of, picked_of, waiting_of, waiting_named}
+use Rattle.so_kernel.proofs.HeadLaws.{is_ranked_with, picked_first}
+use Rattle.so_kernel.proofs.RoundLaws.{takes_on-taking, picked_lane, round-kept, round-taken}
 use Rattle.so_events.specs.Events.{allows, may_take_by, place_of, is_beside}
 use Rattle.so_events.specs.Tied.{overlaps}
 use Rattle.so_kernel.specs.Tables.{is_other, round_at, rounds, events_of}

@@ -1,5 +1,5 @@
 -- The tables of a history, and what each entry makes of them.
-use Rattle.std.specs.Prelude.{ℕ, ◌+◌, ◌<◌, ◌≤◌, ◌^◌, List, [], ◌∷◌, length, Bool, true, false, not, ◌&&◌, Option, Some, None, is_ok, if◌then◌else◌, slice_index_or, slice_set, replicate}
+use Rattle.std.specs.Prelude.{◌≡◌, ℕ, ◌+◌, ◌<◌, ◌≤◌, ◌^◌, List, [], ◌∷◌, length, Bool, true, false, not, Option, Some, None, is_ok, if◌then◌else◌, slice_set, replicate}
 use Rattle.std.specs.List.{filter, AllByRecursion}
 use Rattle.so_ids.specs.declared.AgentId.{AgentId}
 use Rattle.so_ids.specs.declared.CoopId.{CoopId}
@@ -9,9 +9,9 @@ use Rattle.so_ids.specs.declared.Place.{Place}
 use Rattle.so_ids.specs.declared.Reason.TheVariants as reason
 use Rattle.so_ids.specs.declared.RowId.{RowId}
 use Rattle.so_ids.specs.declared.Vars.{Vars}
-use Rattle.so_lists.specs.Lists.{each_below, first_below}
+use Rattle.so_lists.specs.Lists.{each_below}
 use Rattle.so_scene.specs.declared.parts.SceneParts.{SceneParts}
-use Rattle.so_scene.specs.Parts.{agents_of, coop_of, vars_of}
+use Rattle.so_scene.specs.Parts.{agents_of, vars_of}
 use Rattle.so_scene.specs.Cooperations.{coop_number}
 use Rattle.so_scene.specs.Lanes.{lanes, keys}
 use Rattle.so_scene.specs.declared.round.Round.{Round}
@@ -31,6 +31,7 @@ use Rattle.so_history.specs.Coops.{tried, present, leaving, mark, some_left, sto
 use Rattle.so_history.specs.Finishing.{unfinished}
 use Rattle.so_coop.specs.declared.coops.Coop.{Coop}
 use Rattle.so_coop.specs.Coops.{CoopTable, nobody as nobody_registered, after_enter as coop_entered, after_mark, after_leave_begin, after_finished, after_left as coop_left}
+use Rattle.so_kernel.specs.Attempts.{AttemptTable, none_tried, after_attempt}
 use Rattle.so_kernel.specs.declared.tables.Marks.{Marks}
 use Rattle.so_kernel.specs.declared.tables.Tables.{Tables}
 
@@ -85,28 +86,11 @@ abbrev pub coops_of : SceneParts → List Entry → CoopTable
 coops_of s h = record { scene = s; coops = each_below (coop_at s h) (length s.coops) }
 
 -- which cooperations main has tried to register
-pub record AttemptTable : Type 0 where
-  pub scene : SceneParts
-  pub tried : List Bool
-
 abbrev pub tried_at : List Entry → ℕ → Bool
 tried_at h k = tried h (coop_number k)
 
 abbrev pub attempts_of : SceneParts → List Entry → AttemptTable
 attempts_of s h = record { scene = s; tried = each_below (tried_at h) (length s.coops) }
-
-abbrev pub none_tried : SceneParts → AttemptTable
-none_tried s = record { scene = s; tried = replicate (length s.coops) false }
-
-abbrev pub after_attempt : CoopId → AttemptTable → AttemptTable
-after_attempt c t = record t { tried = slice_set t.tried c.0 true }
-
--- main's next: the least that it is to register at the start, and has not tried
-abbrev pub untried_at : AttemptTable → ℕ → Option CoopId
-untried_at t k = if (coop_of t.scene (coop_number k)).at_start && not (slice_index_or t.tried k false) then Some (coop_number k) else None
-
-abbrev pub next_attempt : AttemptTable → Option CoopId
-next_attempt t = first_below (untried_at t) (length t.scene.coops)
 
 -- the variables of each agent, after a history and at the start
 abbrev pub variables_of : SceneParts → List Entry → List Vars

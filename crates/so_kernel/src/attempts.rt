@@ -1,7 +1,7 @@
 //! Which cooperations main has tried to register, and which is next.
 
 ghost use Rattle.std.specs.Prelude.{◌≡◌, ◌<◌, length, IfOk};
-ghost use Rattle.so_kernel.specs.Tables.{none_tried, after_attempt, untried_at, next_attempt};
+ghost use Rattle.so_kernel.specs.Attempts.{none_tried, after_attempt, untried_at, next_attempt};
 
 use so_ids::{CoopId, NoMemory};
 use so_scene::Scene;
@@ -19,7 +19,7 @@ pub struct Attempts<'a> {
 
 impl<'a> Model for Attempts<'a> {
     ghost use Rattle.std.specs.Prelude.{◌≡◌, length};
-    ghost use Rattle.so_kernel.specs.Tables.{AttemptTable, next_attempt};
+    ghost use Rattle.so_kernel.specs.Attempts.{AttemptTable, next_attempt};
 
     ghost Value = { AttemptTable };
 

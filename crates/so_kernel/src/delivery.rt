@@ -10,7 +10,6 @@ ghost use Rattle.so_history.specs.Steps.{NamesEffect, answer_of, answer_to_regis
 
 use crate::kernel::Kernel;
 use so_code::{Answer, Effect};
-use so_deliver::plan_delivery;
 use so_history::EventSource;
 use so_ids::{AgentId, CoopId, FilterId, MboxId, MsgId, Payload, RowId, Sent, StateId, Target};
 use so_scene::is_twice;
@@ -86,16 +85,7 @@ impl<'a> Kernel<'a> {
         ensures value { result ≡ sent self.old.scene self.old.history mbox msg payload }
         ensures same { self.new ≡ self.old }
     {
-        let target = Target::Mbox(mbox);
-        let planned = plan_delivery(
-            &self.tables.mboxes,
-            &self.tables.coops,
-            target,
-            msg,
-            payload,
-            &mut self.outcomes,
-        );
-        planned.sent()
+        self.tables.plan(mbox, msg, payload, &mut self.outcomes)
     }
 
     /// Tells whether a row of the agent may become active.

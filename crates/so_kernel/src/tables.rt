@@ -1,12 +1,14 @@
 //! What the steps look up: tables that stand for what the history says. A table knows no history.
 
-ghost use Rattle.std.specs.Prelude.{◌≡◌, ◌<◌, ◌≤◌, ◌+◌, ◌-◌, ◌^◌, [], length, map, true, None, Some, IfOk};
+ghost use Rattle.std.specs.Prelude.{◌≡◌, ◌<◌, ◌≤◌, ◌+◌, ◌-◌, ◌^◌, length, map, true, false, None, Some, IfOk};
 ghost use Rattle.std.specs.List.{All, find};
 ghost use Rattle.so_ids.specs.declared.Queued.{Queued as Event};
 ghost use Rattle.so_scene.specs.Lanes.{lanes, keys};
 ghost use Rattle.so_events.specs.Events.{turns_of, is_beside};
 ghost use Rattle.so_events.specs.Tied.{overlaps};
-ghost use Rattle.so_scene.specs.Parts.{agent_of, agents_from, agents_of, coop_of, rows_of, filters_of};
+ghost use Rattle.so_scene.specs.Parts.{agent_of, agents_from, agents_of, coop_of, mboxes, rows_of, filters_of};
+ghost use Rattle.so_scene.specs.Delivery.{events, sent_of};
+ghost use Rattle.so_deliver.specs.Planned.{outcomes_of, with_queued};
 ghost use Rattle.so_scene.specs.Definition.{filter_fault_of};
 ghost use Rattle.so_scene.specs.Subscriptions.{filter_of};
 ghost use Rattle.so_ids.specs.declared.AgentId.{AgentId as AnyAgent};
@@ -17,10 +19,13 @@ use crate::attempts::Attempts;
 use crate::slots::Slots;
 use crate::variables::Variables;
 use so_coop::Coops;
-use so_deliver::Outcomes;
+use so_deliver::{Outcomes, plan_delivery};
 use so_events::Events;
 use so_history::{Demand, DemandKind};
-use so_ids::{AgentId, CoopId, FilterId, KeyId, LaneId, NoMemory, Place, Reason, RowId, Vars};
+use so_ids::{
+    AgentId, CoopId, FilterId, KeyId, LaneId, MboxId, MsgId, NoMemory, Payload, Place, Reason,
+    RowId, Sent, Target, Vars,
+};
 use so_mbox::Table;
 use so_scene::Scene;
 use std::alloc::Global;
@@ -158,6 +163,26 @@ impl<'a> Tables<'a> {
         ensures { self.new ≡ after_act self.old }
     {
         self.units += 1;
+    }
+
+    /// Plans the delivery of a message that is sent through a mbox, and says what becomes of it.
+    pub fn plan(
+        &self,
+        mbox: MboxId,
+        msg: MsgId,
+        payload: Payload,
+        outcomes: &mut Outcomes,
+    ) -> Sent
+        requires scene { self.now.coops.scene ≡ self.now.mboxes.scene }
+        requires mbox { mbox.0 < mboxes self.now.mboxes.scene }
+        requires msg { msg.0 < length self.now.mboxes.scene.messages }
+        requires room { length self.now.mboxes.scene.agents ≤ outcomes.old.room }
+        ensures events { outcomes.new ≡ with_queued (events (outcomes_of self.now.mboxes self.now.coops mbox msg payload)) outcomes.old }
+        ensures answer { result ≡ sent_of (outcomes_of self.now.mboxes self.now.coops mbox msg payload) }
+    {
+        let target = Target::Mbox(mbox);
+        let planned = plan_delivery(&self.mboxes, &self.coops, target, msg, payload, outcomes);
+        planned.sent()
     }
 
     /// After the send of a message whose delivery queues these events.

@@ -25,7 +25,6 @@ use crate::answers::Turn;
 use crate::decide::{asks_finish, payload_of, source_of};
 use crate::kernel::Kernel;
 use so_code::{Answer, Effect, Frame};
-use so_deliver::plan_delivery;
 use so_history::{Demand, Entry, EntryKind};
 use so_ids::{
     AgentId, CoopId, FilterId, LaneId, MboxId, MsgId, Payload, Place, RowId, StateId, Target,
@@ -206,15 +205,7 @@ impl<'a> Kernel<'a> {
         ensures { self.new ≡ core_after self.old (Ok entry) }
     {
         let place = Place(self.history.len());
-        let target = Target::Mbox(mbox);
-        let _planned = plan_delivery(
-            &self.tables.mboxes,
-            &self.tables.coops,
-            target,
-            msg,
-            payload,
-            &mut self.outcomes,
-        );
+        let _sent = self.tables.plan(mbox, msg, payload, &mut self.outcomes);
         self.tables.delivered(place, &self.outcomes);
         self.history.push(entry);
     }

@@ -1,7 +1,7 @@
 use Rattle.std.proofs.Common.{◌≡◌, ◌<◌, length, ap, sym, ◌∙◌, arith}
 use Rattle.so_lists.specs.Lists.{first_below}
 use Rattle.so_scene.proofs.FirstFault.{stops_here, goes_on}
-use Rattle.so_kernel.specs.Tables.{AttemptTable, untried_at}
+use Rattle.so_kernel.specs.Attempts.{AttemptTable, untried_at}
 use Rattle.so_kernel.proofs.attempts.first_untried.Goals as goal
 
 pub returns-then-is_some : goal.returns-then-is_some

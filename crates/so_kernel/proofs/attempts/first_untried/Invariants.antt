@@ -1,6 +1,6 @@
 use Rattle.std.proofs.Common.{◌≡◌, None}
 use Rattle.so_lists.specs.Lists.{first_below}
-use Rattle.so_kernel.specs.Tables.{untried_at}
+use Rattle.so_kernel.specs.Attempts.{untried_at}
 use Rattle.so_kernel.proofs.attempts.first_untried.Given as goal
 
 abbrev pub invariant-loop-k : goal.invariant-loop-k

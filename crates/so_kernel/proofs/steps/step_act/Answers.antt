@@ -1,6 +1,6 @@
 use Rattle.std.proofs.Common.{◌≡◌, Some, sym, ◌∙◌, ap}
 use Rattle.so_code.specs.declared.effect.Move.TheVariants.{Do}
-use Rattle.so_history.proofs.ChainLaws.{answered_named}
+use Rattle.so_kernel.proofs.ChainLaws.{answered_named}
 use Rattle.so_kernel.specs.declared.answers.Acted.TheVariants as acted_answer
 use Rattle.so_kernel.specs.Gates.{act_entry, acted, gated, core_after, stepped}
 use Rattle.so_kernel.proofs.GateLaws.{act_full, act_over}

@@ -5,8 +5,8 @@ use Rattle.so_history.specs.Order.{pick, opening_of, taking}
 use Rattle.so_history.specs.Safety.{is_safe}
 use Rattle.so_history.specs.Turns.{vars}
 use Rattle.so_history.specs.Demands.{payload_of}
-use Rattle.so_history.proofs.OrderLaws.{message_picked, event_picked}
-use Rattle.so_history.proofs.DemandLaws.{picked_of}
+use Rattle.so_kernel.proofs.OrderLaws.{message_picked, event_picked}
+use Rattle.so_kernel.proofs.DemandLaws.{picked_of}
 use Rattle.so_kernel.specs.Shapes.{Core}
 use Rattle.so_kernel.specs.Gates.{is_skip}
 use Rattle.so_kernel.proofs.KeptLaws.{kept_after, has_room, has_place, next_legal, begun_lane, going}

@@ -5,7 +5,7 @@ use Rattle.so_code.specs.declared.frame.Frame.{Frame}
 use Rattle.so_history.specs.Turns.{Course, move_of}
 use Rattle.so_lists.proofs.EachBelow.{length-each_below}
 use Rattle.so_scene.specs.Lanes.{lanes, key_of}
-use Rattle.so_history.proofs.TurnLaws.{turn_in_range, turn_agent}
+use Rattle.so_kernel.proofs.TurnLaws.{turn_in_range, turn_agent}
 use Rattle.so_kernel.specs.Shapes.{Core}
 use Rattle.so_kernel.specs.Tables.{after_end}
 use Rattle.so_kernel.specs.Gates.{HasMoved}

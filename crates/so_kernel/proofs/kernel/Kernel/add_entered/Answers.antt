@@ -3,13 +3,13 @@ use Rattle.so_lists.proofs.EachBelow.{length-each_below}
 use Rattle.so_scene.specs.declared.parts.CoopDef.{CoopDef}
 use Rattle.so_history.specs.declared.entry.DemandKind.TheVariants.{Start}
 use Rattle.so_history.specs.Leaves.{leaves}
-use Rattle.so_history.proofs.DemandLaws.{cost-asked}
-use Rattle.so_history.proofs.PresenceLaws.{as_act}
+use Rattle.so_kernel.proofs.DemandLaws.{cost-asked}
+use Rattle.so_kernel.proofs.Entering.{as_act}
 use Rattle.so_kernel.specs.declared.tables.Tables.{Tables}
 use Rattle.so_kernel.specs.States.{AllStand, with_none}
 use Rattle.so_kernel.specs.Shapes.{Core}
 use Rattle.so_kernel.specs.Kept.{IsReady}
-use Rattle.so_kernel.proofs.CoopTableLaws.{entered_known}
+use Rattle.so_kernel.proofs.Entering.{entered_known}
 use Rattle.so_kernel.proofs.KeptLaws.{is_later, kept_after, has_room, has_place, next_legal, entering_absent, entering_nobody, tables_for, going}
 use Rattle.so_kernel.proofs.TableLaws.{tables-registering}
 use Rattle.so_kernel.proofs.StateLaws.{stands_entered_coop}
@@ -55,4 +55,4 @@ invariant_of-self c =
     ∙ rw (c.len.ensures.value, c.self.invariant.0.tables)
     (sym (tables-registering s c.self.inside.history.limit h c.args.entry c.args.coop c.requires.is.0 c.requires.is.1 (next_legal c.args.entry c.self.invariant.0 (rw c.self.view_is c.requires.ready)) c.self.invariant.0.scene (going c.args.entry c.self.invariant.0 (rw c.self.view_is c.requires.ready))))) in
     let stand = subst (λ (d : CoopDef). AllStand s (with_none d.first.0 (d.first.0 + d.count) (leaves s h)) c.set_back.new.self) c.coop-def.ensures.value (c.set_back.ensures (leaves s h) c.self.invariant.2) in
-    rw (c.push.ensures.entries, c.push.ensures.limit) (kept, c.self.invariant.1, stands_entered_coop s h c.args.entry c.args.coop c.set_back.new.self c.self.invariant.0.scene (as_act c.requires.is.0 c.requires.is.1) stand)
+    rw (c.push.ensures.entries, c.push.ensures.limit) (kept, c.self.invariant.1, stands_entered_coop s h c.args.entry c.args.coop c.set_back.new.self c.self.invariant.0.scene (entered_known s h c.args.entry c.args.coop (subst (λ (k : Core). IsReady k c.args.entry) (sym c.self.view_is) c.requires.ready).step.row (as_act c.requires.is.0 c.requires.is.1)) (as_act c.requires.is.0 c.requires.is.1) stand)

@@ -1,6 +1,6 @@
 use Rattle.std.proofs.Common.{refl, sym, ◌∙◌}
 use Rattle.so_history.specs.declared.entry.DemandKind.TheVariants.{Finish}
-use Rattle.so_history.proofs.DemandLaws.{cost-asked}
+use Rattle.so_kernel.proofs.DemandLaws.{cost-asked}
 use Rattle.so_kernel.proofs.KeptLaws.{is_later, kept_after, has_room, has_place, next_legal, leaving_coop, tables_for, going}
 use Rattle.so_kernel.proofs.TableLaws.{tables-leaving}
 use Rattle.so_kernel.proofs.StateLaws.{stands_same}

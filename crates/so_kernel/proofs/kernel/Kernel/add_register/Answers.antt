@@ -3,8 +3,8 @@ use Rattle.so_lists.proofs.EachBelow.{length-each_below}
 use Rattle.so_scene.specs.declared.parts.CoopDef.{CoopDef}
 use Rattle.so_history.specs.declared.entry.DemandKind.TheVariants.{Start}
 use Rattle.so_history.specs.Leaves.{leaves}
-use Rattle.so_history.proofs.DemandLaws.{cost-asked}
-use Rattle.so_history.proofs.PresenceLaws.{as_main}
+use Rattle.so_kernel.proofs.DemandLaws.{cost-asked}
+use Rattle.so_kernel.proofs.Entering.{as_main}
 use Rattle.so_kernel.specs.declared.tables.Tables.{Tables}
 use Rattle.so_kernel.specs.States.{AllStand, with_none}
 use Rattle.so_kernel.specs.Tables.{after_trying}
@@ -57,4 +57,4 @@ invariant_of-self c =
     ∙ rw (c.len.ensures.value, c.self.invariant.0.tables)
     (sym (tables-register s c.self.inside.history.limit h c.args.entry c.args.coop c.requires.is (next_legal c.args.entry c.self.invariant.0 (rw c.self.view_is c.requires.ready)) c.self.invariant.0.scene (registered_coop c.args.entry c.args.coop c.self.invariant.0 (rw c.self.view_is c.requires.ready) c.requires.is) (going c.args.entry c.self.invariant.0 (rw c.self.view_is c.requires.ready)))))) in
     let stand = subst (λ (d : CoopDef). AllStand s (with_none d.first.0 (d.first.0 + d.count) (leaves s h)) c.set_back.new.self) c.coop-def.ensures.value (c.set_back.ensures (leaves s h) c.self.invariant.2) in
-    rw (c.push.ensures.entries, c.push.ensures.limit) (kept, c.self.invariant.1, stands_entered_coop s h c.args.entry c.args.coop c.set_back.new.self c.self.invariant.0.scene (as_main c.requires.is) stand)
+    rw (c.push.ensures.entries, c.push.ensures.limit) (kept, c.self.invariant.1, stands_entered_coop s h c.args.entry c.args.coop c.set_back.new.self c.self.invariant.0.scene (registered_coop c.args.entry c.args.coop c.self.invariant.0 (rw c.self.view_is c.requires.ready) c.requires.is) (as_main c.requires.is) stand)

@@ -3,7 +3,7 @@ use Rattle.so_scene.specs.Cooperations.{admission}
 use Rattle.so_history.specs.declared.entry.Entry.{Entry}
 use Rattle.so_history.specs.Coops.{standing}
 use Rattle.so_kernel.proofs.ActLaws.{registers_main}
-use Rattle.so_history.proofs.ChainLaws.{registered}
+use Rattle.so_kernel.proofs.ChainLaws.{registered}
 use Rattle.so_kernel.proofs.kernel.Kernel.add_registration.Goals as goal
 
 pub unreachable-requires : goal.unreachable-requires

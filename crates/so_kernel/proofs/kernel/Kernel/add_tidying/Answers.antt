@@ -1,4 +1,4 @@
-use Rattle.so_history.proofs.ChainLaws.{tidied, not_tidied}
+use Rattle.so_kernel.proofs.ChainLaws.{tidied, not_tidied}
 use Rattle.so_kernel.proofs.kernel.Kernel.add_tidying.Goals as goal
 
 pub unreachable-requires : goal.unreachable-requires

@@ -1,13 +1,13 @@
-use Rattle.std.proofs.Common.{◌<◌, length, sym, arith, subst}
+use Rattle.std.proofs.Common.{◌<◌, ◌≤◌, length, sym, arith, subst}
 use Rattle.so_history.specs.declared.entry.DemandKind.TheVariants.{Start, Finish}
 use Rattle.so_history.specs.declared.entry.EntryKind.TheVariants.{Register, Leaving}
-use Rattle.so_history.proofs.DemandLaws.{cost-asked}
-use Rattle.so_history.proofs.PresenceLaws.{leaves_present}
-use Rattle.so_history.proofs.RosterLaws.{present_within}
+use Rattle.so_kernel.proofs.DemandLaws.{cost-asked}
+use Rattle.so_kernel.proofs.PresenceLaws.{leaves_present}
+use Rattle.so_kernel.proofs.RosterLaws.{present_within}
 use Rattle.so_history.specs.Steps.{IsRow}
 use Rattle.so_kernel.specs.Shapes.{Core}
-use Rattle.so_kernel.specs.Gates.{NamesCoop}
-use Rattle.so_history.proofs.TextLaws.{next_within}
+use Rattle.so_kernel.specs.Gates.{NamesCoop, queued_by_act}
+use Rattle.so_kernel.proofs.TextLaws.{next_within}
 use Rattle.so_kernel.proofs.CostLaws.{cost_told, act_coop}
 use Rattle.so_kernel.proofs.kernel.Kernel.cost.Goals as goal
 
@@ -23,8 +23,8 @@ pub returns-in-Register-clause-value : goal.returns-in-Register-clause-value
 returns-in-Register-clause-value c =
     rw (← c.self.view_is) (rw (c.coop.ensures.value, c.in-Register.is) (sym (cost-asked c.self.inside.scene.now c.self.inside.history.entries c.in-Register.coop Start)))
 
-pub coop-in-Leaving-requires : goal.coop-in-Leaving-requires
-coop-in-Leaving-requires c =
+pub coop-requires-in-Leaving : goal.coop-requires-in-Leaving
+coop-requires-in-Leaving c =
     let R : Core → Type 0 = λ k. IsRow k.scene k.history c.args.entry.by c.args.entry.kind in
     let s = c.self.inside.scene.now in
     let h = c.self.inside.history.entries in
@@ -47,7 +47,8 @@ overflow_add-result-in-Act c =
     let R : Core → Type 0 = λ k. IsRow k.scene k.history c.args.entry.by c.args.entry.kind in
     let row = subst R (sym c.self.view_is) c.requires in
     let told = cost_told c.self.inside.scene.now c.self.inside.history.entries c.args.entry c.in-Act.turn c.in-Act.effect c.in-Act.answer c.self.invariant.0.scene c.self.invariant.0.legal row c.in-Act.is in
-    rw (← c.self.view_is) at c.queued_by_act.ensures (omega (arith, c.queued_by_act.ensures, told.1))
+    let F : Core → Type 0 = λ k. queued_by_act k.scene c.in-Act.effect c.in-Act.answer ≤ 4096 in
+    omega (arith, c.queued_by_act.ensures, subst F c.self.view_is told.1)
 
 pub returns-in-Act-clause-value : goal.returns-in-Act-clause-value
 returns-in-Act-clause-value c =
@@ -61,4 +62,5 @@ returns-in-Act-clause-few c =
     let R : Core → Type 0 = λ k. IsRow k.scene k.history c.args.entry.by c.args.entry.kind in
     let row = subst R (sym c.self.view_is) c.requires in
     let told = cost_told c.self.inside.scene.now c.self.inside.history.entries c.args.entry c.in-Act.turn c.in-Act.effect c.in-Act.answer c.self.invariant.0.scene c.self.invariant.0.legal row c.in-Act.is in
-    omega (arith, c.queued_by_act.ensures, told.1)
+    let F : Core → Type 0 = λ k. queued_by_act k.scene c.in-Act.effect c.in-Act.answer ≤ 4096 in
+    omega (arith, c.queued_by_act.ensures, subst F c.self.view_is told.1)

@@ -1,6 +1,6 @@
 use Rattle.std.proofs.Common.{sym, ◌∙◌, arith}
 use Rattle.std.proofs.lemmas.Bool.{false≢true}
-use Rattle.so_history.proofs.DemandLaws.{units-nil}
+use Rattle.so_kernel.proofs.DemandLaws.{units-nil}
 use Rattle.so_kernel.proofs.TableLaws.{tables-fresh}
 use Rattle.so_kernel.proofs.StateLaws.{stands_fresh}
 use Rattle.so_kernel.proofs.kernel.Kernel.make.Goals as goal

@@ -4,7 +4,7 @@ use Rattle.so_history.specs.declared.entry.Entry.{Entry}
 use Rattle.so_history.specs.Coops.{standing}
 use Rattle.so_kernel.specs.Gates.{added, gated, stepped}
 use Rattle.so_kernel.proofs.GateLaws.{added_registered}
-use Rattle.so_history.proofs.ChainLaws.{registered}
+use Rattle.so_kernel.proofs.ChainLaws.{registered}
 use Rattle.so_kernel.proofs.kernel.Kernel.register_next.Goals as goal
 
 pub add_registration-requires-clause-is : goal.add_registration-requires-clause-is

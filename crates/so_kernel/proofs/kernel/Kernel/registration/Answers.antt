@@ -1,5 +1,5 @@
 use Rattle.std.proofs.Common.{sym, ◌∙◌, ap, Some}
-use Rattle.so_history.proofs.TextLaws.{next_within}
+use Rattle.so_kernel.proofs.TextLaws.{next_within}
 use Rattle.so_kernel.proofs.DecideLaws.{registration_made, registration_over, registering_row}
 use Rattle.so_kernel.proofs.kernel.Kernel.registration.Goals as goal
 

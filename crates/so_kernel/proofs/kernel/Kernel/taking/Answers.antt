@@ -1,5 +1,5 @@
 use Rattle.std.proofs.Common.{sym, ◌∙◌}
-use Rattle.so_history.proofs.DemandLaws.{picked_of}
+use Rattle.so_kernel.proofs.DemandLaws.{picked_of}
 use Rattle.so_kernel.proofs.CostLaws.{taking_row}
 use Rattle.so_kernel.proofs.kernel.Kernel.taking.Goals as goal
 

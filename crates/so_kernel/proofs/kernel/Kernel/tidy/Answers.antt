@@ -1,5 +1,5 @@
 use Rattle.std.proofs.Common.{sym, ◌∙◌, ap}
-use Rattle.so_history.proofs.ChainLaws.{tidied}
+use Rattle.so_kernel.proofs.ChainLaws.{tidied}
 use Rattle.so_kernel.specs.Gates.{stepped, gated}
 use Rattle.so_kernel.proofs.KeptLaws.{gated_next}
 use Rattle.so_kernel.proofs.GateLaws.{added_tidied}
