@@ -18,7 +18,7 @@ use Rattle.so_ids.specs.declared.Reason.TheVariants as reason
 use Rattle.so_lists.specs.Lists.{is_empty, or_else, head, first_below}
 use Rattle.so_kernel.proofs.Filters.{each-weaker}
 use Rattle.so_lists.proofs.Found.{not_missed}
-use Rattle.so_lists.proofs.Last.{Last, nobody, somebody, last_of, last_passes}
+use Rattle.so_kernel.proofs.Last.{Last, nobody, somebody, last_of, last_passes}
 use Rattle.so_state.proofs.Lists.{find-keeps}
 use Rattle.so_lists.proofs.First.{or_else-none, or_else-swap, first_below-none, none-first_below, first_below-some, option_map-none}
 use Rattle.so_scene.specs.declared.parts.SceneParts.{SceneParts}

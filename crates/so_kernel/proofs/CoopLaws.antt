@@ -13,13 +13,12 @@ use Rattle.so_ids.specs.declared.Reason.{Reason}
 use Rattle.so_ids.specs.declared.Refusal.{Refusal}
 use Rattle.so_ids.specs.declared.MboxId.{MboxId}
 use Rattle.so_ids.specs.declared.MsgId.{MsgId}
-use Rattle.so_ids.specs.declared.Place.{Place}
 use Rattle.so_ids.specs.declared.Payload.{Payload}
 use Rattle.so_code.specs.declared.effect.Effect.{Effect}
 use Rattle.so_code.specs.declared.effect.Effect.TheVariants as effect
 use Rattle.so_code.specs.declared.effect.Answer.{Answer}
 use Rattle.so_code.specs.declared.effect.Answer.TheVariants as answer
-use Rattle.so_lists.specs.Lists.{is_empty, head, each_below}
+use Rattle.so_lists.specs.Lists.{is_empty}
 use Rattle.so_lists.proofs.First.{empty-list}
 use Rattle.so_kernel.proofs.Filters.{each-weaker, each-filter, filter_keeps, filter_none}
 use Rattle.so_lists.proofs.Any.{any-each_below}
@@ -28,7 +27,7 @@ use Rattle.so_scene.specs.declared.parts.SceneParts.{SceneParts}
 use Rattle.so_scene.specs.Checked.{IsScene}
 use Rattle.so_scene.specs.Parts.{no_coop, agent_of, agents_of, coop_of}
 use Rattle.so_scene.specs.Delivery.{events}
-use Rattle.so_scene.specs.Cooperations.{coop_number, is_parent, is_child, has_child}
+use Rattle.so_scene.specs.Cooperations.{coop_number, is_child, has_child}
 use Rattle.so_kernel.proofs.AgentLaws.{is_agent, agents_are_of, among_agents}
 use Rattle.so_history.specs.declared.entry.Entry.{Entry}
 use Rattle.so_history.specs.declared.entry.EntryKind.{EntryKind}

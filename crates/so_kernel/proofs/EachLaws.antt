@@ -8,7 +8,7 @@ use Rattle.so_ids.specs.declared.CoopId.{CoopId}
 use Rattle.so_ids.specs.declared.Vars.{Vars}
 use Rattle.so_lists.specs.Lists.{each_below}
 use Rattle.so_lists.proofs.EachBelow.{each_below-set, each_below-same}
-use Rattle.so_lists.proofs.Filters.{each-weaker}
+use Rattle.so_kernel.proofs.Filters.{each-weaker}
 use Rattle.so_scene.specs.declared.parts.SceneParts.{SceneParts}
 use Rattle.so_scene.specs.Parts.{agent_of, agents_of, vars_of}
 use Rattle.so_scene.specs.Checked.{IsScene}

@@ -1,51 +1,44 @@
 -- A cooperation that is leaving: nothing is left of its agents once their finish turns are over, and how many of these are still
 -- to come or still run, after one more entry.
-use Rattle.std.proofs.Common.{◌≡◌, ℕ, ◌+◌, ◌<◌, ◌≤◌, List, [], ◌∷◌, ◌++◌, length, Bool, true, false, not, ◌&&◌, cond, inl, inr, map, Option, Some, None, arith, refl, sym, ◌∙◌, ap, subst, count_by}
+use Rattle.std.proofs.Common.{◌≡◌, ◌+◌, ◌<◌, List, [], ◌∷◌, ◌++◌, length, Bool, true, false, not, cond, inl, inr, Option, Some, None, arith, refl, sym, ◌∙◌, ap, subst, count_by}
 use Rattle.std.specs.Prelude.{◌==◌}
-use Rattle.std.specs.List.{filter, find, last_or, AllByRecursion}
+use Rattle.std.specs.List.{filter, last_or, AllByRecursion}
 use Rattle.std.proofs.lemmas.List.{append-nil}
-use Rattle.std.proofs.lemmas.List.Elements.{filter-append, filter_agree}
-use Rattle.std.proofs.lemmas.Bool.{cases_Bool, and_parts, and_left, and_right, and_from, ne_eqb, eq-eqb, eqb-true, false≢true, false_from_ne_true}
+use Rattle.std.proofs.lemmas.List.Elements.{filter-append}
+use Rattle.std.proofs.lemmas.Bool.{cases_Bool, ne_eqb, eq-eqb, eqb-true, false≢true}
 use Rattle.std.proofs.lemmas.Option.{same_Some}
 use Rattle.so_ids.specs.declared.AgentId.{AgentId}
 use Rattle.so_ids.specs.declared.CoopId.{CoopId}
 use Rattle.so_ids.specs.declared.DemandId.{DemandId}
-use Rattle.so_ids.specs.declared.KeyId.{KeyId}
 use Rattle.so_ids.specs.declared.LaneId.{LaneId}
 use Rattle.so_ids.specs.declared.Opening.{Opening}
 use Rattle.so_ids.specs.declared.Opening.TheVariants as opening
-use Rattle.so_ids.specs.declared.PartyId.{PartyId}
-use Rattle.so_ids.specs.declared.Place.{Place}
 use Rattle.so_ids.specs.declared.Reason.{Reason}
-use Rattle.so_ids.specs.Ids.{same_demand}
-use Rattle.so_lists.specs.Lists.{is_empty}
-use Rattle.so_kernel.proofs.Filters.{each-append, each-weaker, each-filter, filter_keeps, filter_none, both_each, each-from_filter, each-to_filter, none_left}
+use Rattle.so_kernel.proofs.Filters.{each-append, each-weaker, each-filter, both_each, each-from_filter, each-to_filter, none_left}
 use Rattle.so_lists.proofs.Found.{find_narrower}
-use Rattle.so_kernel.proofs.Counts.{count-append, count-filter, count-parts, count-all, count-zero, none-counted}
+use Rattle.so_kernel.proofs.Counts.{none-counted}
 use Rattle.so_scene.specs.declared.parts.SceneParts.{SceneParts}
 use Rattle.so_scene.specs.Checked.{IsScene}
 use Rattle.so_scene.specs.Lanes.{key_of, queue_of}
-use Rattle.so_scene.specs.Parts.{agent_of, agents_of, coop_of, priority_of}
-use Rattle.so_scene.specs.Cooperations.{has_child}
+use Rattle.so_scene.specs.Parts.{priority_of}
 use Rattle.so_history.specs.declared.entry.Entry.{Entry}
 use Rattle.so_history.specs.declared.entry.EntryKind.{EntryKind}
-use Rattle.so_history.specs.declared.entry.EntryKind.TheVariants.{Register, Refuse, Begin, Skip, Act, End, Leaving, Left, Stop, Abort}
+use Rattle.so_history.specs.declared.entry.EntryKind.TheVariants.{Begin, Skip, Leaving}
 use Rattle.so_history.specs.declared.entry.Demand.{Demand}
-use Rattle.so_history.specs.declared.entry.DemandKind.{DemandKind}
-use Rattle.so_history.specs.declared.entry.DemandKind.TheVariants.{Start, Finish}
+use Rattle.so_history.specs.declared.entry.DemandKind.TheVariants.{Finish}
 use Rattle.so_history.specs.declared.entry.SkipWhy.{SkipWhy}
 use Rattle.so_history.specs.Leaves.{is_of}
-use Rattle.so_history.specs.Demands.{queued_by, takes, waiting, without, named}
+use Rattle.so_history.specs.Demands.{queued_by, takes, waiting, without}
 use Rattle.so_history.specs.Safety.{is_safe}
-use Rattle.so_history.specs.Turns.{Started, started_by, turns, ends, running, running_with, key_number}
-use Rattle.so_history.specs.Order.{pick, opening_for, opening_of, skipped, taking}
-use Rattle.so_history.specs.Coops.{leaving, leaving_by, standing}
-use Rattle.so_history.specs.Steps.{waiting_for, running_for, may_leave, IsTaking, IsRow, Legal}
+use Rattle.so_history.specs.Turns.{Started, started_by, ends, running, running_with, key_number}
+use Rattle.so_history.specs.Order.{pick, opening_for, opening_of, skipped}
+use Rattle.so_history.specs.Coops.{leaving, leaving_by}
+use Rattle.so_history.specs.Steps.{waiting_for, running_for, IsTaking, IsRow, Legal}
 use Rattle.so_history.specs.Finishing.{asks_finish, is_finish, is_finishing, finishes, unfinished, IsQuiet}
 use Rattle.so_history.specs.Facts.{ShareOrder, IsLast}
-use Rattle.so_kernel.proofs.NameLaws.{named_alone, first_with_rest, rest_spared}
+use Rattle.so_kernel.proofs.NameLaws.{first_with_rest, rest_spared}
 use Rattle.so_kernel.proofs.TakingLaws.{takes-taking, begins_as, skips_as}
-use Rattle.so_kernel.proofs.DemandLaws.{waiting_sorted, waiting_of, waiting-queued, waiting-taken, waiting-same}
+use Rattle.so_kernel.proofs.DemandLaws.{waiting_sorted, waiting_of, waiting-queued, waiting-taken}
 use Rattle.so_kernel.proofs.HeadLaws.{is_in_order_with, picked_in_order, picked_waits}
 use Rattle.so_kernel.proofs.OrderLaws.{in_order_with}
 use Rattle.so_kernel.proofs.TurnLaws.{running-begun, running-ended, running-same, begins_alone, running_of}

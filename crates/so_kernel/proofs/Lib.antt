@@ -40,3 +40,4 @@ pub mod OpeningLaws
 pub mod Distinct
 pub mod RefusalLaws
 pub mod Entering
+pub mod Last

@@ -1,11 +1,9 @@
 -- Where cooperations were registered, which entry lets one go, and when one begins and ceases to leave.
 use Rattle.std.proofs.Common.{◌≡◌, ℕ, ◌<◌, List, [], ◌∷◌, length, Bool, true, false, not, ◌&&◌, cond, Option, Some, None, arith, refl, sym, ◌∙◌, ap, inl, inr}
-use Rattle.std.specs.Prelude.{◌==◌}
 use Rattle.std.proofs.lemmas.Bool.{cases_Bool, cases_lt, or_cases, or_left, or_right, and_parts, eq-eqb, eqb-true, false≢true}
 use Rattle.std.proofs.lemmas.Option.{same_Some}
 use Rattle.so_ids.specs.declared.CoopId.{CoopId}
 use Rattle.so_ids.specs.declared.PartyId.{PartyId}
-use Rattle.so_ids.specs.declared.Place.{Place}
 use Rattle.so_ids.specs.declared.Reason.{Reason}
 use Rattle.so_code.specs.declared.effect.Effect.TheVariants as effect
 use Rattle.so_code.specs.declared.effect.Answer.TheVariants as answer
@@ -17,7 +15,7 @@ use Rattle.so_history.specs.Places.{entry_at, before}
 use Rattle.so_history.specs.Coops.{is_same, is_other, present, leaving, leaving_by}
 use Rattle.so_history.specs.Steps.{IsRow}
 use Rattle.so_history.specs.Facts.{StandsAt, RegistersAt, by_main, by_act}
-use Rattle.so_kernel.proofs.RosterLaws.{joins, change_of, Change, one_joins, one_goes, all_stay, present-joined, present-left, present-kept}
+use Rattle.so_kernel.proofs.RosterLaws.{joins, change_of, one_joins, one_goes, all_stay, present-joined, present-left, present-kept}
 use Rattle.so_kernel.proofs.PlaceLaws.{inside, entry_at-last, entry_at-early, before-entry}
 
 -- ---- what stands at a place, with one entry more and among those before a place

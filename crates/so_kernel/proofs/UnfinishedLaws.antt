@@ -1,10 +1,9 @@
 -- How many finish turns of a cooperation's agents are still to come or still run, after one more entry.
-use Rattle.std.proofs.Common.{◌≡◌, ℕ, ◌+◌, ◌<◌, ◌≤◌, List, [], ◌∷◌, ◌++◌, length, Bool, true, false, not, ◌&&◌, ◌||◌, cond, inl, inr, map, Option, Some, None, arith, refl, sym, ◌∙◌, ap, subst}
+use Rattle.std.proofs.Common.{◌≡◌, ℕ, ◌+◌, ◌<◌, ◌≤◌, List, [], ◌∷◌, ◌++◌, length, Bool, true, false, not, ◌&&◌, ◌||◌, cond, inl, inr, map, Option, Some, arith, refl, sym, ◌∙◌, ap, subst}
 use Rattle.std.specs.Prelude.{◌==◌, ◌⊎◌}
 use Rattle.std.specs.List.{count_by, filter, AllByRecursion}
-use Rattle.std.proofs.lemmas.List.{append-nil}
 use Rattle.std.proofs.lemmas.List.Elements.{filter_agree}
-use Rattle.std.proofs.lemmas.Bool.{cases_Bool, and_right, and_left, and_from, ne_eqb, eq-eqb, eqb-true, false≢true, false_from_ne_true}
+use Rattle.std.proofs.lemmas.Bool.{cases_Bool, and_right, and_left, and_from, ne_eqb, eq-eqb, eqb-true, false≢true}
 use Rattle.so_ids.specs.declared.AgentId.{AgentId}
 use Rattle.so_ids.specs.declared.CoopId.{CoopId}
 use Rattle.so_ids.specs.declared.DemandId.{DemandId}
@@ -21,12 +20,12 @@ use Rattle.so_kernel.proofs.Filters.{each-weaker, filter_none}
 use Rattle.so_kernel.proofs.Counts.{count-append, count-filter, count-parts, count-all, count-zero}
 use Rattle.so_scene.specs.declared.parts.SceneParts.{SceneParts}
 use Rattle.so_scene.specs.Checked.{IsScene}
-use Rattle.so_scene.specs.Parts.{agent_of, agents_of, coop_of}
+use Rattle.so_scene.specs.Parts.{agents_of, coop_of}
 use Rattle.so_scene.specs.Cooperations.{has_child}
 use Rattle.so_kernel.proofs.AgentLaws.{agents_are_of}
 use Rattle.so_history.specs.declared.entry.Entry.{Entry}
 use Rattle.so_history.specs.declared.entry.EntryKind.{EntryKind}
-use Rattle.so_history.specs.declared.entry.EntryKind.TheVariants.{Register, Refuse, Begin, Skip, Act, End, Leaving, Left, Stop, Abort}
+use Rattle.so_history.specs.declared.entry.EntryKind.TheVariants.{Begin, Skip, End, Leaving, Left}
 use Rattle.so_history.specs.declared.entry.Demand.{Demand}
 use Rattle.so_history.specs.declared.entry.DemandKind.{DemandKind}
 use Rattle.so_history.specs.declared.entry.DemandKind.TheVariants.{Start, Finish, Event}
@@ -37,15 +36,14 @@ use Rattle.so_history.specs.Turns.{Started, started_by, turns, ends, running, ru
 use Rattle.so_history.specs.Order.{pick, opening_for, opening_of, skipped}
 use Rattle.so_history.specs.Coops.{leaving, leaving_by, standing}
 use Rattle.so_history.specs.Steps.{waiting_for, running_for, may_leave, IsTaking, IsRow, Legal}
-use Rattle.so_history.specs.Finishing.{asks_finish, is_finish, is_finishing, finishes, unfinished, IsQuiet}
+use Rattle.so_history.specs.Finishing.{asks_finish, is_finish, is_finishing, finishes, unfinished}
 use Rattle.so_kernel.proofs.NameLaws.{length-demands_from, named_alone, filter-without}
 use Rattle.so_kernel.proofs.TakingLaws.{begins_as, skips_as}
-use Rattle.so_kernel.proofs.AskedLaws.{asked_of_each}
 use Rattle.so_kernel.proofs.DemandLaws.{waiting_sorted, waiting-queued, waiting-same, length-asked}
 use Rattle.so_kernel.proofs.HeadLaws.{picked_waits}
 use Rattle.so_kernel.proofs.TurnLaws.{Frees, started_here, running_early, running-begun, running-ended, running-same, alone, turn_found}
 use Rattle.so_kernel.proofs.PresenceLaws.{stops_leaving, leaves_present}
-use Rattle.so_kernel.proofs.CoopLaws.{AsksSo, of_none, to_handle, to_start, to_finish, asks_so, others_asked, MayLeave, may_leave_parts}
+use Rattle.so_kernel.proofs.CoopLaws.{AsksSo, of_none, to_handle, to_start, to_finish, asks_so, others_asked, may_leave_parts}
 use Rattle.so_kernel.proofs.LeavingLaws.{Takes, what_takes, finishes_all, none_unfinished}
 
 -- ---- both counts
