@@ -1,5 +1,5 @@
 -- The scene of the tests is a scene.
-use Rattle.std.proofs.Common.{◌≡◌, ℕ, zero, suc, ◌<◌, ◌+◌, get_or, inl, List, [], ◌∷◌, map, None, arith, refl, sym, rules}
+use Rattle.std.proofs.Common.{◌≡◌, ℕ, zero, suc, ◌<◌, ◌+◌, get_or, inl, List, [], ◌∷◌, map, arith, refl, sym, rules}
 use Rattle.std.specs.Prelude.{ℤ, Bool, true, ◌≤◌}
 use Rattle.std.specs.List.{AllByRecursion, IsDistinct}
 use Rattle.std.proofs.lemmas.Bool.{true≢false}
@@ -11,16 +11,15 @@ use Rattle.so_code.specs.declared.instr.Cmp.{Cmp}
 use Rattle.so_code.specs.Shape.{IsCode}
 use Rattle.so_state.specs.declared.choice.Row.{Row}
 use Rattle.so_state.specs.declared.choice.RowKind.{RowKind}
-use Rattle.so_scene.specs.Checked.{IsScene, IsAgent, IsRow, IsKind, HasNoLimit, has_handler, IsFilter, IsCoop, IsDisp, AreGroups, NamesParts}
+use Rattle.so_scene.specs.Checked.{IsScene, IsAgent, IsRow, IsKind, HasNoLimit, has_handler, IsFilter, IsCoop, IsMember, IsDisp, AreGroups, NamesParts}
 use Rattle.so_scene.proofs.DispLaws.{default_is_disp}
 use Rattle.so_scene.specs.Words.{is_name, is_text}
 use Rattle.so_scene.specs.Written.{is_state_name, HasParent, IsNumber, IsWritten}
-use Rattle.so_scene.specs.Parts.{message_name, no_agent}
+use Rattle.so_scene.specs.Parts.{message_name, no_agent, agent_of, coop_of}
 use Rattle.so_scene.specs.Lanes.{lanes, lane_list}
 use Rattle.so_state.specs.States.{default_state}
 use Rattle.so_state.proofs.TreeFacts.{IsTree-flat}
-use Rattle.so_scene.specs.Definition.{definition_fault}
-use Rattle.so_deliver.specs.Board.{idle_code, row_for, field_test, agent, board}
+use Rattle.so_deliver.specs.Board.{idle_code, row_for, field_test, agent, coop, board}
 
 rising : (k : ℕ) → k + 1 < 2 → (get_or (0 ∷ 1 ∷ []) k 0) < (get_or (0 ∷ 1 ∷ []) (k + 1) 0)
 rising zero l = search rules
@@ -35,13 +34,6 @@ idle_is_code = record {
   each = (tt, (tt, (tt, (tt, tt))));
 }
 
-admitted_at : (n : ℕ) → n < 3 → definition_fault board (record { 0 = n }) ≡ None
-unfolding definition_fault
-admitted_at zero l = refl
-admitted_at (suc zero) l = refl
-admitted_at (suc (suc zero)) l = refl
-admitted_at (suc (suc (suc n))) l = absurd (omega arith)
-
 is_row : (mbox msg : ℕ) (kind : RowKind) (active : Bool) → mbox < 5 → msg < 3 → IsKind 0 default_state kind → IsRow board 0 (row_for mbox msg kind active)
 is_row mbox msg kind active m g k = record { mbox = m; msg = g; state = search rules; kind = k; safe = λ e. absurd (true≢false (sym e)) }
 
@@ -53,12 +45,12 @@ all_zero : AllByRecursion IsNumber no_agent.vars.0
 all_zero = (refl, (refl, (refl, (refl, (refl, (refl, (refl, (refl, (refl, (refl, (refl, (refl, (refl, (refl, (refl, (refl, tt))))))))))))))))
 
 -- an agent of two rows and two filters without an id
-is_agent : (name : List ℕ) (r r' : Row) (mbox msg : ℕ) (cmp : Cmp) (value : ℤ) (active : Bool) (mbox' msg' : ℕ) (cmp' : Cmp) (value' : ℤ) (active' : Bool) → is_name name ≡ true → has_handler r.kind ≡ true → has_handler r'.kind ≡ true → IsRow board 0 r → IsRow board 0 r' → mbox < 5 → msg < 3 → IsNumber value → mbox' < 5 → msg' < 3 → IsNumber value' →
-    IsAgent board (agent name (r ∷ r' ∷ []) (field_test mbox msg cmp value active ∷ field_test mbox' msg' cmp' value' active' ∷ []))
+is_agent : (name : List ℕ) (c : ℕ) (r r' : Row) (mbox msg : ℕ) (cmp : Cmp) (value : ℤ) (active : Bool) (mbox' msg' : ℕ) (cmp' : Cmp) (value' : ℤ) (active' : Bool) → is_name name ≡ true → c < 2 → has_handler r.kind ≡ true → has_handler r'.kind ≡ true → IsRow board 0 r → IsRow board 0 r' → mbox < 5 → msg < 3 → IsNumber value → mbox' < 5 → msg' < 3 → IsNumber value' →
+    IsAgent board (agent name c (r ∷ r' ∷ []) (field_test mbox msg cmp value active ∷ field_test mbox' msg' cmp' value' active' ∷ []))
 unfolding IsDistinct
-is_agent name r r' mbox msg cmp value active mbox' msg' cmp' value' active' n h h' a b m g k m' g' k' = record {
+is_agent name c r r' mbox msg cmp value active mbox' msg' cmp' value' active' n l h h' a b m g k m' g' k' = record {
   named = n;
-  coop = refl;
+  coop = l;
   disp = search rules;
   group = refl;
   vars = refl;
@@ -80,7 +72,7 @@ is_agent name r r' mbox msg cmp value active mbox' msg' cmp' value' active' n h 
   each_filter_id_once = tt;
   code = idle_is_code;
   bodies = rw (h, h') refl;
-  parts = All-from_recursion (NamesParts board (agent name (r ∷ r' ∷ []) (field_test mbox msg cmp value active ∷ field_test mbox' msg' cmp' value' active' ∷ []))) idle_code (tt, (tt, (tt, (tt, tt))));
+  parts = All-from_recursion (NamesParts board (agent name c (r ∷ r' ∷ []) (field_test mbox msg cmp value active ∷ field_test mbox' msg' cmp' value' active' ∷ []))) idle_code (tt, (tt, (tt, (tt, tt))));
   written = All-from_recursion (IsWritten board) idle_code (tt, (tt, (tt, (tt, tt))));
   short = refl;
   safe = (λ m. refl, (λ m. refl, (λ m. refl, (λ m. refl, tt))));
@@ -88,15 +80,26 @@ is_agent name r r' mbox msg cmp value active mbox' msg' cmp' value' active' n h 
 
 are_agents : AllByRecursion (IsAgent board) board.agents
 are_agents = (
-  is_agent _ _ _ _ _ _ _ _ _ _ _ _ _ refl refl refl (is_row _ _ _ _ (search rules) (search rules) tt) (is_row _ _ _ _ (search rules) (search rules) tt) (search rules) (search rules) refl (search rules) (search rules) refl,
+  is_agent _ _ _ _ _ _ _ _ _ _ _ _ _ _ refl (search rules) refl refl (is_row _ _ _ _ (search rules) (search rules) tt) (is_row _ _ _ _ (search rules) (search rules) tt) (search rules) (search rules) refl (search rules) (search rules) refl,
   (
-    is_agent _ _ _ _ _ _ _ _ _ _ _ _ _ refl refl refl (is_row _ _ _ _ (search rules) (search rules) tt) (is_row _ _ _ _ (search rules) (search rules) refl) (search rules) (search rules) refl (search rules) (search rules) refl,
+    is_agent _ _ _ _ _ _ _ _ _ _ _ _ _ _ refl (search rules) refl refl (is_row _ _ _ _ (search rules) (search rules) tt) (is_row _ _ _ _ (search rules) (search rules) refl) (search rules) (search rules) refl (search rules) (search rules) refl,
     (
-      is_agent _ _ _ _ _ _ _ _ _ _ _ _ _ refl refl refl (is_row _ _ _ _ (search rules) (search rules) refl) (is_row _ _ _ _ (search rules) (search rules) tt) (search rules) (search rules) refl (search rules) (search rules) refl,
+      is_agent _ _ _ _ _ _ _ _ _ _ _ _ _ _ refl (search rules) refl refl (is_row _ _ _ _ (search rules) (search rules) refl) (is_row _ _ _ _ (search rules) (search rules) tt) (search rules) (search rules) refl (search rules) (search rules) refl,
       tt,
     ),
   ),
 )
+
+-- ---- its cooperations
+
+is_coop : (name : List ℕ) (first count : ℕ) → is_name name ≡ true → IsCoop board (coop name first count)
+is_coop name first count n = record { named = n; parent = tt }
+
+member_at : (n : ℕ) → n < 3 → IsMember (coop_of board (agent_of board (record { 0 = n })).coop) (record { 0 = n })
+member_at zero l = (search rules, search rules)
+member_at (suc zero) l = (search rules, search rules)
+member_at (suc (suc zero)) l = (search rules, search rules)
+member_at (suc (suc (suc n))) l = absurd (omega arith)
 
 -- ---- its one dispatcher
 
@@ -130,12 +133,13 @@ board_is_scene = record {
   all_groups = refl;
   groups = groups_at;
   few_lanes = few_lanes;
-  one_coop = refl;
-  coops = All-from_recursion (IsCoop board) board.coops (record { named = refl; first = refl; count = refl }, tt);
-  some_agent = search rules;
+  few_coops = search rules;
+  coops = All-from_recursion (IsCoop board) board.coops (is_coop _ 0 2 refl, (is_coop _ 2 1 refl, tt));
+  coop_names = ((refl, tt), (tt, tt));
+  consecutive = (refl, (refl, refl));
+  members = λ a l. member_at a.0 l;
   few_agents = search rules;
   agents = All-from_recursion (IsAgent board) board.agents are_agents;
-  admitted = λ a l. admitted_at a.0 l;
   names = ((refl, (refl, (refl, (refl, tt)))), ((refl, (refl, (refl, tt))), ((refl, (refl, tt)), ((refl, tt), (tt, tt)))));
   few_texts = search rules;
   texts = All-nil (λ t. is_text t ≡ true);

@@ -1,13 +1,12 @@
 -- The events of a delivery are put into the queues one after the other.
-use Rattle.std.proofs.Common.{◌≡◌, ℕ, zero, suc, ◌+◌, ◌<◌, ◌≤◌, List, [], ◌∷◌, ◌++◌, length, drop, get_or, Some, None, true, arith, refl, sym, ◌∙◌, ap, subst, inl, inr, zero-le}
+use Rattle.std.proofs.Common.{◌≡◌, ℕ, zero, suc, ◌+◌, ◌<◌, ◌≤◌, List, [], ◌∷◌, ◌++◌, length, drop, get_or, Some, None, true, arith, refl, sym, ◌∙◌, ap, subst, inl, inr}
 use Rattle.std.specs.Prelude.{slice_set, slice_get}
 use Rattle.std.specs.List.{All}
-use Rattle.std.proofs.lemmas.Bool.{cases_lt, lt-ltb}
+use Rattle.std.proofs.lemmas.Bool.{cases_lt}
 use Rattle.std.proofs.lemmas.List.{set_past, drop_all}
 use Rattle.so_ids.specs.declared.AgentId.{AgentId}
 use Rattle.so_ids.specs.declared.DemandId.{DemandId}
 use Rattle.so_ids.specs.declared.Place.{Place}
-use Rattle.so_ids.specs.declared.Priority.{Priority}
 use Rattle.so_ids.specs.declared.Queued.{Queued}
 use Rattle.so_ids.specs.Ids.{is_earlier}
 use Rattle.so_scene.specs.declared.parts.SceneParts.{SceneParts}

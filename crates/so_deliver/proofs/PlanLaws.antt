@@ -7,11 +7,12 @@ use Rattle.so_ids.specs.declared.MsgId.{MsgId}
 use Rattle.so_ids.specs.declared.Payload.{Payload}
 use Rattle.so_ids.specs.declared.Queued.{Queued}
 use Rattle.so_scene.specs.Delivery.{Outcome, outcome_for, outcomes, events, is_lost, is_subscribed, receivers_among}
+use Rattle.so_coop.specs.Coops.{CoopTable, is_leaving}
 use Rattle.so_mbox.specs.Table.{Subscriptions, active_rows, passes}
 
 -- what becomes of it for those of these agents that receive it
-abbrev pub outcomes_among : Subscriptions → Bool → MboxId → MsgId → Payload → List AgentId → List Outcome
-outcomes_among t closed mbox msg payload agents = outcomes (passes t mbox msg payload) (λ a. closed) mbox msg payload (receivers_among t.scene (active_rows t) mbox msg agents)
+abbrev pub outcomes_among : Subscriptions → CoopTable → MboxId → MsgId → Payload → List AgentId → List Outcome
+outcomes_among t coops mbox msg payload agents = outcomes (passes t mbox msg payload) (is_leaving coops) mbox msg payload (receivers_among t.scene (active_rows t) mbox msg agents)
 
 abbrev pub event_for : MboxId → MsgId → Payload → AgentId → Queued
 event_for mbox msg payload a = record { agent = a; mbox = mbox; msg = msg; payload = payload }
@@ -48,67 +49,67 @@ one_losses true true false f a event agents e = rw e (omega arith)
 one_losses true false closed f a event agents e = rw e (omega arith)
 one_losses false passed closed f a event agents e = omega arith
 
-pub events-cons : (t : Subscriptions) (closed : Bool) (mbox : MboxId) (msg : MsgId) (payload : Payload) (a : AgentId) (agents : List AgentId) →
-    events (outcomes_among t closed mbox msg payload (a ∷ agents)) ≡ first_event (lets_in t mbox msg payload a) closed (event_for mbox msg payload a) ++ events (outcomes_among t closed mbox msg payload agents)
-events-cons t closed mbox msg payload a agents =
-    one_events (is_subscribed t.scene mbox msg a (active_rows t a)) (passes t mbox msg payload a) closed
-    (λ b. outcome_for (passes t mbox msg payload b) closed (event_for mbox msg payload b)) a (event_for mbox msg payload a)
+pub events-cons : (t : Subscriptions) (coops : CoopTable) (mbox : MboxId) (msg : MsgId) (payload : Payload) (a : AgentId) (agents : List AgentId) →
+    events (outcomes_among t coops mbox msg payload (a ∷ agents)) ≡ first_event (lets_in t mbox msg payload a) (is_leaving coops a) (event_for mbox msg payload a) ++ events (outcomes_among t coops mbox msg payload agents)
+events-cons t coops mbox msg payload a agents =
+    one_events (is_subscribed t.scene mbox msg a (active_rows t a)) (passes t mbox msg payload a) (is_leaving coops a)
+    (λ b. outcome_for (passes t mbox msg payload b) (is_leaving coops b) (event_for mbox msg payload b)) a (event_for mbox msg payload a)
     (receivers_among t.scene (active_rows t) mbox msg agents) refl
 
-pub losses-cons : (t : Subscriptions) (closed : Bool) (mbox : MboxId) (msg : MsgId) (payload : Payload) (a : AgentId) (agents : List AgentId) →
-    losses (outcomes_among t closed mbox msg payload (a ∷ agents)) ≡ first_loss (lets_in t mbox msg payload a) closed + losses (outcomes_among t closed mbox msg payload agents)
-losses-cons t closed mbox msg payload a agents =
-    one_losses (is_subscribed t.scene mbox msg a (active_rows t a)) (passes t mbox msg payload a) closed
-    (λ b. outcome_for (passes t mbox msg payload b) closed (event_for mbox msg payload b)) a (event_for mbox msg payload a)
+pub losses-cons : (t : Subscriptions) (coops : CoopTable) (mbox : MboxId) (msg : MsgId) (payload : Payload) (a : AgentId) (agents : List AgentId) →
+    losses (outcomes_among t coops mbox msg payload (a ∷ agents)) ≡ first_loss (lets_in t mbox msg payload a) (is_leaving coops a) + losses (outcomes_among t coops mbox msg payload agents)
+losses-cons t coops mbox msg payload a agents =
+    one_losses (is_subscribed t.scene mbox msg a (active_rows t a)) (passes t mbox msg payload a) (is_leaving coops a)
+    (λ b. outcome_for (passes t mbox msg payload b) (is_leaving coops b) (event_for mbox msg payload b)) a (event_for mbox msg payload a)
     (receivers_among t.scene (active_rows t) mbox msg agents) refl
 
 -- ---- the agents from a place of the list on
 
-abbrev pub events_from : Subscriptions → Bool → MboxId → MsgId → Payload → ℕ → List Queued
-events_from t closed mbox msg payload i = events (outcomes_among t closed mbox msg payload (drop i t.order))
+abbrev pub events_from : Subscriptions → CoopTable → MboxId → MsgId → Payload → ℕ → List Queued
+events_from t coops mbox msg payload i = events (outcomes_among t coops mbox msg payload (drop i t.order))
 
-abbrev pub losses_from : Subscriptions → Bool → MboxId → MsgId → Payload → ℕ → ℕ
-losses_from t closed mbox msg payload i = losses (outcomes_among t closed mbox msg payload (drop i t.order))
+abbrev pub losses_from : Subscriptions → CoopTable → MboxId → MsgId → Payload → ℕ → ℕ
+losses_from t coops mbox msg payload i = losses (outcomes_among t coops mbox msg payload (drop i t.order))
 
-events-next : (t : Subscriptions) (closed : Bool) (mbox : MboxId) (msg : MsgId) (payload : Payload) (i : ℕ) (a d : AgentId) (b off : Bool) → i < length t.order → a ≡ get_or t.order i d → lets_in t mbox msg payload a ≡ b → closed ≡ off →
-    events_from t closed mbox msg payload i ≡ first_event b off (event_for mbox msg payload a) ++ events_from t closed mbox msg payload (i + 1)
-events-next t closed mbox msg payload i a d b off l is lets e =
-    ap (λ xs. events (outcomes_among t closed mbox msg payload xs)) (drop-cons t.order i d l) ∙
-    (rw (← is, add-one) (events-cons t closed mbox msg payload a (drop (suc i) t.order) ∙
-    ap (λ xs. xs ++ events (outcomes_among t closed mbox msg payload (drop (suc i) t.order))) (ap (λ x. first_event x closed (event_for mbox msg payload a)) lets ∙ ap (λ x. first_event b x (event_for mbox msg payload a)) e)))
+events-next : (t : Subscriptions) (coops : CoopTable) (mbox : MboxId) (msg : MsgId) (payload : Payload) (i : ℕ) (a d : AgentId) (b off : Bool) → i < length t.order → a ≡ get_or t.order i d → lets_in t mbox msg payload a ≡ b → is_leaving coops a ≡ off →
+    events_from t coops mbox msg payload i ≡ first_event b off (event_for mbox msg payload a) ++ events_from t coops mbox msg payload (i + 1)
+events-next t coops mbox msg payload i a d b off l is lets e =
+    ap (λ xs. events (outcomes_among t coops mbox msg payload xs)) (drop-cons t.order i d l) ∙
+    (rw (← is, add-one) (events-cons t coops mbox msg payload a (drop (suc i) t.order) ∙
+    ap (λ xs. xs ++ events (outcomes_among t coops mbox msg payload (drop (suc i) t.order))) (ap (λ x. first_event x (is_leaving coops a) (event_for mbox msg payload a)) lets ∙ ap (λ x. first_event b x (event_for mbox msg payload a)) e)))
 
-losses-next : (t : Subscriptions) (closed : Bool) (mbox : MboxId) (msg : MsgId) (payload : Payload) (i : ℕ) (a d : AgentId) (b off : Bool) → i < length t.order → a ≡ get_or t.order i d → lets_in t mbox msg payload a ≡ b → closed ≡ off →
-    losses_from t closed mbox msg payload i ≡ first_loss b off + losses_from t closed mbox msg payload (i + 1)
-losses-next t closed mbox msg payload i a d b off l is lets e =
-    ap (λ xs. losses (outcomes_among t closed mbox msg payload xs)) (drop-cons t.order i d l) ∙
-    (rw (← is, add-one) (losses-cons t closed mbox msg payload a (drop (suc i) t.order) ∙
-    ap (λ n. n + losses (outcomes_among t closed mbox msg payload (drop (suc i) t.order))) (ap (λ x. first_loss x closed) lets ∙ ap (first_loss b) e)))
+losses-next : (t : Subscriptions) (coops : CoopTable) (mbox : MboxId) (msg : MsgId) (payload : Payload) (i : ℕ) (a d : AgentId) (b off : Bool) → i < length t.order → a ≡ get_or t.order i d → lets_in t mbox msg payload a ≡ b → is_leaving coops a ≡ off →
+    losses_from t coops mbox msg payload i ≡ first_loss b off + losses_from t coops mbox msg payload (i + 1)
+losses-next t coops mbox msg payload i a d b off l is lets e =
+    ap (λ xs. losses (outcomes_among t coops mbox msg payload xs)) (drop-cons t.order i d l) ∙
+    (rw (← is, add-one) (losses-cons t coops mbox msg payload a (drop (suc i) t.order) ∙
+    ap (λ n. n + losses (outcomes_among t coops mbox msg payload (drop (suc i) t.order))) (ap (λ x. first_loss x (is_leaving coops a)) lets ∙ ap (first_loss b) e)))
 
 -- what is left runs as the whole did, after an agent that gets the message, to whom it is lost, and who doesn't get it
-pub record Goes (t : Subscriptions) (closed : Bool) (mbox : MboxId) (msg : MsgId) (payload : Payload) (queued : List Queued) (lost : ℕ) (i : ℕ) (all : List Queued) (total : ℕ) : Type 0 where
-  pub events : queued ++ events_from t closed mbox msg payload i ≡ all
-  pub losses : lost + losses_from t closed mbox msg payload i ≡ total
+pub record Goes (t : Subscriptions) (coops : CoopTable) (mbox : MboxId) (msg : MsgId) (payload : Payload) (queued : List Queued) (lost : ℕ) (i : ℕ) (all : List Queued) (total : ℕ) : Type 0 where
+  pub events : queued ++ events_from t coops mbox msg payload i ≡ all
+  pub losses : lost + losses_from t coops mbox msg payload i ≡ total
 
-pub goes-queued : (t : Subscriptions) (closed : Bool) (mbox : MboxId) (msg : MsgId) (payload : Payload) (queued all : List Queued) (lost total i : ℕ) (a d : AgentId) →
-    i < length t.order → a ≡ get_or t.order i d → lets_in t mbox msg payload a ≡ true → closed ≡ false →
-    Goes t closed mbox msg payload queued lost i all total → Goes t closed mbox msg payload (queued ++ event_for mbox msg payload a ∷ []) lost (i + 1) all total
-goes-queued t closed mbox msg payload queued all lost total i a d l is lets e g = record {
-  events = append_assoc queued (event_for mbox msg payload a ∷ []) (events_from t closed mbox msg payload (i + 1)) ∙ (ap (λ xs. queued ++ xs) (sym (events-next t closed mbox msg payload i a d true false l is lets e)) ∙ g.events);
-  losses = omega (arith, losses-next t closed mbox msg payload i a d true false l is lets e, g.losses);
+pub goes-queued : (t : Subscriptions) (coops : CoopTable) (mbox : MboxId) (msg : MsgId) (payload : Payload) (queued all : List Queued) (lost total i : ℕ) (a d : AgentId) →
+    i < length t.order → a ≡ get_or t.order i d → lets_in t mbox msg payload a ≡ true → is_leaving coops a ≡ false →
+    Goes t coops mbox msg payload queued lost i all total → Goes t coops mbox msg payload (queued ++ event_for mbox msg payload a ∷ []) lost (i + 1) all total
+goes-queued t coops mbox msg payload queued all lost total i a d l is lets e g = record {
+  events = append_assoc queued (event_for mbox msg payload a ∷ []) (events_from t coops mbox msg payload (i + 1)) ∙ (ap (λ xs. queued ++ xs) (sym (events-next t coops mbox msg payload i a d true false l is lets e)) ∙ g.events);
+  losses = omega (arith, losses-next t coops mbox msg payload i a d true false l is lets e, g.losses);
 }
 
-pub goes-lost : (t : Subscriptions) (closed : Bool) (mbox : MboxId) (msg : MsgId) (payload : Payload) (queued all : List Queued) (lost total i : ℕ) (a d : AgentId) →
-    i < length t.order → a ≡ get_or t.order i d → lets_in t mbox msg payload a ≡ true → closed ≡ true →
-    Goes t closed mbox msg payload queued lost i all total → Goes t closed mbox msg payload queued (lost + 1) (i + 1) all total
-goes-lost t closed mbox msg payload queued all lost total i a d l is lets e g = record {
-  events = ap (λ xs. queued ++ xs) (sym (events-next t closed mbox msg payload i a d true true l is lets e)) ∙ g.events;
-  losses = omega (arith, losses-next t closed mbox msg payload i a d true true l is lets e, g.losses);
+pub goes-lost : (t : Subscriptions) (coops : CoopTable) (mbox : MboxId) (msg : MsgId) (payload : Payload) (queued all : List Queued) (lost total i : ℕ) (a d : AgentId) →
+    i < length t.order → a ≡ get_or t.order i d → lets_in t mbox msg payload a ≡ true → is_leaving coops a ≡ true →
+    Goes t coops mbox msg payload queued lost i all total → Goes t coops mbox msg payload queued (lost + 1) (i + 1) all total
+goes-lost t coops mbox msg payload queued all lost total i a d l is lets e g = record {
+  events = ap (λ xs. queued ++ xs) (sym (events-next t coops mbox msg payload i a d true true l is lets e)) ∙ g.events;
+  losses = omega (arith, losses-next t coops mbox msg payload i a d true true l is lets e, g.losses);
 }
 
-pub goes-on : (t : Subscriptions) (closed : Bool) (mbox : MboxId) (msg : MsgId) (payload : Payload) (queued all : List Queued) (lost total i : ℕ) (a d : AgentId) →
+pub goes-on : (t : Subscriptions) (coops : CoopTable) (mbox : MboxId) (msg : MsgId) (payload : Payload) (queued all : List Queued) (lost total i : ℕ) (a d : AgentId) →
     i < length t.order → a ≡ get_or t.order i d → lets_in t mbox msg payload a ≡ false →
-    Goes t closed mbox msg payload queued lost i all total → Goes t closed mbox msg payload queued lost (i + 1) all total
-goes-on t closed mbox msg payload queued all lost total i a d l is lets g = record {
-  events = ap (λ xs. queued ++ xs) (sym (events-next t closed mbox msg payload i a d false closed l is lets refl)) ∙ g.events;
-  losses = omega (arith, losses-next t closed mbox msg payload i a d false closed l is lets refl, g.losses);
+    Goes t coops mbox msg payload queued lost i all total → Goes t coops mbox msg payload queued lost (i + 1) all total
+goes-on t coops mbox msg payload queued all lost total i a d l is lets g = record {
+  events = ap (λ xs. queued ++ xs) (sym (events-next t coops mbox msg payload i a d false (is_leaving coops a) l is lets refl)) ∙ g.events;
+  losses = omega (arith, losses-next t coops mbox msg payload i a d false (is_leaving coops a) l is lets refl, g.losses);
 }

@@ -1,5 +1,5 @@
--- What becomes of one delivery, over the subscriptions now.
-use Rattle.std.specs.Prelude.{ℕ, List, [], Bool}
+-- What becomes of one delivery, over the subscriptions and the cooperations now.
+use Rattle.std.specs.Prelude.{ℕ, List, []}
 use Rattle.so_ids.specs.declared.MboxId.{MboxId}
 use Rattle.so_ids.specs.declared.MsgId.{MsgId}
 use Rattle.so_ids.specs.declared.Payload.{Payload}
@@ -7,6 +7,7 @@ use Rattle.so_ids.specs.declared.Queued.{Queued}
 use Rattle.so_ids.specs.declared.Target.{Target}
 use Rattle.so_ids.specs.declared.Target.TheVariants.{Mbox, Chain}
 use Rattle.so_scene.specs.Delivery.{Outcome, outcomes}
+use Rattle.so_coop.specs.Coops.{CoopTable, is_leaving}
 use Rattle.so_mbox.specs.Table.{Subscriptions, receivers, passes}
 
 -- the events that a delivery queues, and for how many there is room
@@ -20,10 +21,10 @@ no_outcomes room = record { queued = []; room = room }
 abbrev pub with_queued : List Queued → OutcomeTable → OutcomeTable
 with_queued queued all = record all { queued = queued }
 
--- everybody is leaving exactly where the one cooperation is
-abbrev pub outcomes_of : Subscriptions → Bool → MboxId → MsgId → Payload → List Outcome
-outcomes_of t closed mbox msg payload = outcomes (passes t mbox msg payload) (λ a. closed) mbox msg payload (receivers t mbox msg)
+-- the message is lost to those whose own cooperation is leaving
+abbrev pub outcomes_of : Subscriptions → CoopTable → MboxId → MsgId → Payload → List Outcome
+outcomes_of t coops mbox msg payload = outcomes (passes t mbox msg payload) (is_leaving coops) mbox msg payload (receivers t mbox msg)
 
-abbrev pub outcomes_at : Subscriptions → Bool → Target → MsgId → Payload → List Outcome
-outcomes_at t closed (Mbox mbox) msg payload = outcomes_of t closed mbox msg payload
-outcomes_at t closed (Chain chain) msg payload = []
+abbrev pub outcomes_at : Subscriptions → CoopTable → Target → MsgId → Payload → List Outcome
+outcomes_at t coops (Mbox mbox) msg payload = outcomes_of t coops mbox msg payload
+outcomes_at t coops (Chain chain) msg payload = []

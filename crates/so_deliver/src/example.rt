@@ -1,9 +1,9 @@
-//! The scene of the tests: three agents, with subscriptions and filters on the mbox `b`.
+//! The scene of the tests: three agents in two cooperations, with subscriptions and filters on the mbox `b`.
 
 ghost use Rattle.std.specs.Prelude.{◌≡◌, true, IfOk};
 ghost use Rattle.so_scene.specs.Parts.{no_agent, default_disp};
 ghost use Rattle.so_scene.specs.Words.{is_name};
-ghost use Rattle.so_deliver.specs.Board.{idle_code, message, row_for, field_test, agent, the_coop, board};
+ghost use Rattle.so_deliver.specs.Board.{idle_code, message, row_for, field_test, agent, coop, board};
 
 use so_code::{Body, Cmp, Code, Instr};
 use so_ids::{AgentId, CoopId, DispId, MboxId, MsgId, NoMemory, Priority, RowId, StateId, Vars};
@@ -26,7 +26,12 @@ pub(crate) const SIGNAL: u32 = 1;
 
 pub(crate) const OTHER: u32 = 2;
 
-/// The agents.
+/// The cooperations.
+pub(crate) const M: u32 = 0;
+
+pub(crate) const W: u32 = 1;
+
+/// The agents: two of the first cooperation, and one of the second.
 pub(crate) const R: u32 = 0;
 
 pub(crate) const Q: u32 = 1;
@@ -113,16 +118,17 @@ fn lowest() -> Priority
 fn agent(
     alloc: Global,
     text: &str,
+    coop: u32,
     rows: [Row; 2],
     filters: [FilterDef; 2],
 ) -> Result<AgentDef, AllocError>
     requires { is_name text.now ≡ true }
-    ensures { IfOk result (λ def. def ≡ agent text.now rows filters) }
+    ensures { IfOk result (λ def. def ≡ agent text.now coop rows filters) }
 {
     let priority = lowest();
     Ok(AgentDef {
         name: name(text),
-        coop: CoopId(0),
+        coop: CoopId(coop),
         disp: DispId(0),
         group: None,
         priority,
@@ -142,6 +148,7 @@ fn agents(alloc: Global) -> Result<Items<AgentDef>, AllocError>
     let r = agent(
         alloc,
         "r",
+        M,
         [
             row_for(BOARD, NUM, RowKind::Run, true),
             row_for(BOARD, NUM, RowKind::Run, false),
@@ -154,6 +161,7 @@ fn agents(alloc: Global) -> Result<Items<AgentDef>, AllocError>
     let q = agent(
         alloc,
         "q",
+        M,
         [
             row_for(BOARD, NUM, RowKind::Run, true),
             row_for(BOARD, OTHER, RowKind::Dead, true),
@@ -166,6 +174,7 @@ fn agents(alloc: Global) -> Result<Items<AgentDef>, AllocError>
     let d = agent(
         alloc,
         "d",
+        W,
         [
             row_for(BOARD, NUM, RowKind::Dead, true),
             row_for(BOARD, NUM, RowKind::Run, false),
@@ -178,13 +187,16 @@ fn agents(alloc: Global) -> Result<Items<AgentDef>, AllocError>
     Ok(Items::from_vec(Vec::from_array(alloc, [r, q, d])?))
 }
 
-fn the_coop() -> CoopDef
-    ensures { result ≡ the_coop }
+fn coop(text: &str, first: u32, count: u32) -> CoopDef
+    requires { is_name text.now ≡ true }
+    ensures { result ≡ coop text.now first count }
 {
     CoopDef {
-        name: name("m"),
-        first: AgentId(0),
-        count: 3,
+        name: name(text),
+        parent: None,
+        at_start: true,
+        first: AgentId(first),
+        count,
     }
 }
 
@@ -211,9 +223,10 @@ fn parts(alloc: Global) -> Result<SceneParts, AllocError>
         mboxes: Items::from_vec(Vec::from_array(alloc, [name("b"), name("s")])?),
         dispatchers: Items::from_vec(Vec::from_array(alloc, [default_disp()])?),
         groups: Items::from_vec(Vec::from_array(alloc, [Items::from_vec(Vec::new(alloc))])?),
-        coops: Items::from_vec(Vec::from_array(alloc, [the_coop()])?),
+        coops: Items::from_vec(Vec::from_array(alloc, [coop("m", R, 2), coop("w", D, 1)])?),
         agents: agents(alloc)?,
         texts: Items::from_vec(Vec::new(alloc)),
+        autoshutdown: true,
     })
 }
 

@@ -10,6 +10,7 @@ ghost use Rattle.so_deliver.specs.declared.plan.Planned.TheVariants.{Fits};
 ghost use Rattle.so_deliver.specs.Planned.{with_queued, outcomes_of, outcomes_at};
 
 use crate::outcomes::Outcomes;
+use so_coop::Coops;
 use so_ids::{AgentId, MboxId, MsgId, Payload, Queued, Sent, Target};
 use so_mbox::Table;
 
@@ -32,26 +33,27 @@ impl Planned {
 }
 
 /// What becomes of a message that is sent to a mbox. Each agent with an active row for the type from the mbox
-/// gets it, in order of registration, where its filter passes it. It is lost to one whose cooperation is
-/// leaving, which is so of all exactly where `closed`, and queued for the others. A message that a filter
-/// refuses isn't lost. It takes no memory, and changes nothing but the outcomes.
+/// gets it, in order of registration, where its filter passes it. It is lost to one whose own cooperation is
+/// leaving, and queued for the others. A message that a filter refuses isn't lost. It takes no memory, and changes
+/// nothing but the outcomes.
 pub fn plan_delivery(
     table: &Table,
-    closed: bool,
+    coops: &Coops,
     target: Target,
     msg: MsgId,
     payload: Payload,
     outcomes: &mut Outcomes,
 ) -> Planned
+    requires scene { coops.now.scene ≡ table.now.scene }
     requires target { IsTarget (mboxes table.now.scene) target }
     requires msg { msg.0 < length table.now.scene.messages }
     requires room { length table.now.scene.agents ≤ outcomes.old.room }
-    ensures events { outcomes.new ≡ with_queued (events (outcomes_at table.now closed target msg payload)) outcomes.old }
-    ensures answer { result ≡ Fits (sent_of (outcomes_at table.now closed target msg payload)) }
+    ensures events { outcomes.new ≡ with_queued (events (outcomes_at table.now coops.now target msg payload)) outcomes.old }
+    ensures answer { result ≡ Fits (sent_of (outcomes_at table.now coops.now target msg payload)) }
 {
     match target {
         Target::Mbox(mbox) => {
-            let lost = queue_each(table, closed, mbox, msg, payload, outcomes);
+            let lost = queue_each(table, coops, mbox, msg, payload, outcomes);
             Planned::Fits(Sent {
                 queued: outcomes.len(),
                 lost,
@@ -66,21 +68,22 @@ pub fn plan_delivery(
 /// Queues the message for each that gets it, in place of what was queued, and tells to how many it is lost.
 fn queue_each(
     table: &Table,
-    closed: bool,
+    coops: &Coops,
     mbox: MboxId,
     msg: MsgId,
     payload: Payload,
     outcomes: &mut Outcomes,
 ) -> u32
-    requires { length table.now.scene.agents ≤ outcomes.old.room }
-    ensures events { outcomes.new ≡ with_queued (events (outcomes_of table.now closed mbox msg payload)) outcomes.old }
-    ensures lost { result ≡ length (filter is_lost (outcomes_of table.now closed mbox msg payload)) }
+    requires scene { coops.now.scene ≡ table.now.scene }
+    requires room { length table.now.scene.agents ≤ outcomes.old.room }
+    ensures events { outcomes.new ≡ with_queued (events (outcomes_of table.now coops.now mbox msg payload)) outcomes.old }
+    ensures lost { result ≡ length (filter is_lost (outcomes_of table.now coops.now mbox msg payload)) }
 {
     outcomes.clear();
     let mut lost = 0;
     for agent in table.registered() {
         if is_let_through(table, *agent, mbox, msg, payload) {
-            if closed {
+            if coops.is_leaving(*agent) {
                 lost += 1;
             } else {
                 outcomes.queue(Queued {

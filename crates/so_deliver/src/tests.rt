@@ -1,12 +1,16 @@
 //! Deliveries on the mbox `b`, by the rules.
 
-ghost use Rattle.std.specs.Prelude.{◌≡◌, ◌<◌, length, true};
+ghost use Rattle.std.specs.Prelude.{◌≡◌, ◌<◌, length, true, IfOk};
 ghost use Rattle.so_scene.specs.Parts.{rows_of, filters_of};
 
-use crate::example::{BOARD, D, NUM, OTHER, Q, R, SIDE, SIGNAL, board};
+use crate::example::{BOARD, D, M, NUM, OTHER, Q, R, SIDE, SIGNAL, W, board};
 use crate::{Outcomes, Planned, plan_delivery};
-use so_ids::{AgentId, FilterId, MboxId, MsgId, NoMemory, Payload, Queued, RowId, Sent, Target};
+use so_coop::Coops;
+use so_ids::{
+    AgentId, CoopId, FilterId, MboxId, MsgId, NoMemory, Payload, Queued, RowId, Sent, Target,
+};
 use so_mbox::Table;
+use so_scene::Scene;
 use std::alloc::Global;
 use std::process::Abort;
 use std::test::Fail;
@@ -49,7 +53,9 @@ fn has_filter(table: &Table, agent: u32, filter: u32) -> bool
 }
 
 /// Makes the call where it may be made, and tells whether it was answered Ok or true.
-fn make(table: &mut Table, step: Step) -> bool {
+fn make(table: &mut Table, step: Step) -> bool
+    ensures { table.new.scene ≡ table.old.scene }
+{
     match step {
         Step::Enter(agent) if is_agent(table, agent) && !table.is_entered(AgentId(agent)) => {
             table.enter(AgentId(agent));
@@ -83,37 +89,38 @@ fn payload(field: i64) -> Payload {
     }
 }
 
-/// A delivery, and what becomes of it: the agents for which it is queued in order, and how many lose it.
+/// A delivery while these cooperations leave, and what becomes of it: the agents for which it is queued in order,
+/// and how many lose it.
 #[derive(Clone, Copy, Debug)]
 struct Case {
     steps: &'static [Step],
     mbox: u32,
     msg: u32,
     field: i64,
-    closed: bool,
+    leaving: &'static [u32],
     queued: &'static [u32],
     lost: u32,
 }
 
 const ALL: &'static [Step] = &[Step::Enter(R), Step::Enter(Q), Step::Enter(D)];
 
-const NONE: &'static [Step] = &[];
-
-/// A delivery of `NUM` to `BOARD`.
+/// A delivery of `NUM` to `BOARD`, while no cooperation leaves.
 fn num(steps: &'static [Step], field: i64, queued: &'static [u32]) -> Case {
     Case {
         steps,
         mbox: BOARD,
         msg: NUM,
         field,
-        closed: false,
+        leaving: &[],
         queued,
         lost: 0,
     }
 }
 
 /// Tells whether it becomes of the delivery what the case says.
-fn holds(alloc: Global, table: &Table, case: Case) -> Result<bool, NoMemory> {
+fn holds(alloc: Global, table: &Table, coops: &Coops, case: Case) -> Result<bool, NoMemory>
+    requires { coops.now.scene ≡ table.now.scene }
+{
     let scene = table.scene();
     let mut outcomes = Outcomes::with(alloc, scene.agents())?;
     if case.mbox >= scene.mboxes() || case.msg >= scene.messages() {
@@ -121,7 +128,7 @@ fn holds(alloc: Global, table: &Table, case: Case) -> Result<bool, NoMemory> {
     }
     let Planned::Fits(sent) = plan_delivery(
         table,
-        case.closed,
+        coops,
         Target::Mbox(MboxId(case.mbox)),
         MsgId(case.msg),
         payload(case.field),
@@ -157,18 +164,56 @@ fn event(case: Case, at: u32) -> Option<Queued> {
     })
 }
 
-/// Makes the steps on a new table, and then the delivery.
-fn runs(alloc: Global, case: Case) -> Result<bool, NoMemory> {
-    let Ok(scene) = board(alloc) else {
-        return Err(NoMemory);
-    };
-    let mut table = Table::with(alloc, &scene)?;
-    for step in case.steps {
-        if !make(&mut table, *step) {
-            return Ok(false);
+/// Makes the steps, and tells whether each was answered Ok or true.
+fn make_all(table: &mut Table, steps: &[Step]) -> bool
+    ensures { table.new.scene ≡ table.old.scene }
+{
+    for step in steps {
+        if !make(table, *step) {
+            return false;
         }
     }
-    holds(alloc, &table, case)
+    true
+}
+
+/// Both cooperations, of which these leave.
+fn coops<'a>(alloc: Global, scene: &'a Scene, leaving: &[u32]) -> Result<Coops<'a>, NoMemory>
+    ensures { IfOk result (λ coops. coops.scene ≡ scene.now) }
+{
+    let mut coops = Coops::with(alloc, scene)?;
+    register(&mut coops, M);
+    register(&mut coops, W);
+    for coop in leaving {
+        leave(&mut coops, *coop);
+    }
+    Ok(coops)
+}
+
+fn register(coops: &mut Coops, coop: u32)
+    ensures { coops.new.scene ≡ coops.old.scene }
+{
+    if coop < coops.scene().coops() && !coops.stands(CoopId(coop)).present {
+        coops.enter(CoopId(coop));
+    }
+}
+
+fn leave(coops: &mut Coops, coop: u32)
+    ensures { coops.new.scene ≡ coops.old.scene }
+{
+    if coop < coops.scene().coops() {
+        coops.leave_begin(CoopId(coop));
+    }
+}
+
+/// Makes the steps on a new table, and then the delivery.
+fn runs(alloc: Global, case: Case) -> Result<bool, NoMemory> {
+    let scene = board(alloc)?;
+    let mut table = Table::with(alloc, &scene)?;
+    let coops = coops(alloc, &scene, case.leaving)?;
+    if !make_all(&mut table, case.steps) {
+        return Ok(false);
+    }
+    holds(alloc, &table, &coops, case)
 }
 
 #[test]
@@ -245,7 +290,25 @@ fn a_message_that_a_filter_refuses_is_not_lost(rt: HostRuntime) {
         num(&[Step::Enter(R), Step::SetFilter(R, 1)], -1, &[R]),
         num(&[Step::Enter(R), Step::DropFilter(R, 0)], -1, &[R]),
         num(&[Step::Enter(Q), Step::DropFilter(Q, 1)], 3, &[Q]),
-        // a registration sets the filters back
+    ];
+    for case in cases {
+        assert_eq!(rt; runs(rt.alloc(), case), Ok(true), "{case:?}");
+    }
+}
+
+#[test]
+fn a_second_registration_sets_rows_and_filters_back(rt: HostRuntime) {
+    let cases = [
+        num(
+            &[
+                Step::Enter(R),
+                Step::Unsubscribe(R, 0),
+                Step::Leave(R),
+                Step::Enter(R),
+            ],
+            7,
+            &[R],
+        ),
         num(
             &[
                 Step::Enter(R),
@@ -256,22 +319,87 @@ fn a_message_that_a_filter_refuses_is_not_lost(rt: HostRuntime) {
             20,
             &[R],
         ),
+        num(
+            &[
+                Step::Enter(R),
+                Step::DropFilter(R, 0),
+                Step::Leave(R),
+                Step::Enter(R),
+            ],
+            -1,
+            &[],
+        ),
+        // the row that was active before isn't, and the other is again
+        num(
+            &[
+                Step::Enter(D),
+                Step::Subscribe(D, 1),
+                Step::Leave(D),
+                Step::Enter(D),
+                Step::Unsubscribe(D, 0),
+            ],
+            7,
+            &[],
+        ),
     ];
     for case in cases {
         assert_eq!(rt; runs(rt.alloc(), case), Ok(true), "{case:?}");
     }
 }
 
+const ONLY_M: &'static [u32] = &[M];
+
+const ONLY_W: &'static [u32] = &[W];
+
+const BOTH: &'static [u32] = &[M, W];
+
 #[test]
 fn a_leaving_cooperation_loses_what_its_filters_pass(rt: HostRuntime) {
-    for (steps, field, lost) in [(ALL, 7, 3), (ALL, 3, 2), (ALL, -1, 1), (NONE, 7, 0)] {
+    let cases: [(&'static [u32], i64, &'static [u32], u32); 12] = [
+        (&[], 7, &[R, Q, D], 0),
+        (&[], 3, &[R, D], 0),
+        (&[], -1, &[D], 0),
+        (ONLY_M, 7, &[D], 2),
+        (ONLY_M, 3, &[D], 1),
+        (ONLY_M, -1, &[D], 0),
+        (ONLY_W, 7, &[R, Q], 1),
+        (ONLY_W, 3, &[R], 1),
+        (ONLY_W, -1, &[], 1),
+        (BOTH, 7, &[], 3),
+        (BOTH, 3, &[], 2),
+        (BOTH, -1, &[], 1),
+    ];
+    for (leaving, field, queued, lost) in cases {
         let case = Case {
-            closed: true,
+            leaving,
             lost,
-            ..num(steps, field, &[])
+            ..num(ALL, field, queued)
         };
         assert_eq!(rt; runs(rt.alloc(), case), Ok(true), "{case:?}");
     }
+}
+
+#[test]
+fn the_others_get_it_in_order(rt: HostRuntime) {
+    let mixed = &[Step::Enter(R), Step::Enter(D), Step::Enter(Q)];
+    let one = Case {
+        leaving: ONLY_M,
+        lost: 2,
+        ..num(mixed, 7, &[D])
+    };
+    assert_eq!(rt; runs(rt.alloc(), one), Ok(true));
+    let other = Case {
+        leaving: ONLY_W,
+        lost: 1,
+        ..num(mixed, 7, &[R, Q])
+    };
+    assert_eq!(rt; runs(rt.alloc(), other), Ok(true));
+    // nobody is registered, so that nobody loses it
+    let none = Case {
+        leaving: BOTH,
+        ..num(&[], 7, &[])
+    };
+    assert_eq!(rt; runs(rt.alloc(), none), Ok(true));
 }
 
 /// Calls on one table, and what they are answered.

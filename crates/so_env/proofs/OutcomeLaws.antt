@@ -8,6 +8,7 @@ use Rattle.so_history.specs.Steps.{Legal}
 use Rattle.so_history.specs.Chain.{IsChain}
 use Rattle.so_history.specs.Text.{text}
 use Rattle.so_history.proofs.ChainLaws.{stops_at}
+use Rattle.so_history.proofs.FactLaws.{has_facts}
 use Rattle.so_env.specs.Prints.{Printed, HasRisen, Counts, IsSimulated, cause_of}
 use Rattle.so_env.specs.declared.outcome.Cause.{Cause}
 
@@ -24,6 +25,7 @@ simulated : (s : SceneParts) (n : ℕ) (mode : Mode) (h : List Entry) (cause : C
 simulated s n mode h cause failed p a b x y range parts = record {
   chain = parts.chain;
   legal = parts.legal;
+  facts = has_facts s h range parts.legal;
   failed = failed;
   is = parts.is;
   at_limit = stops_at s n h range parts.legal parts.chain.whole;

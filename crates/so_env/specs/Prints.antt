@@ -10,6 +10,7 @@ use Rattle.so_history.specs.declared.lines.Mode.{Mode}
 use Rattle.so_history.specs.Coops.{aborted}
 use Rattle.so_history.specs.Steps.{finished, is_over, Legal}
 use Rattle.so_history.specs.Chain.{IsChain, StopsAtLimit}
+use Rattle.so_history.specs.Facts.{HasFacts}
 use Rattle.so_history.specs.Text.{text, line_after}
 use Rattle.so_env.specs.declared.outcome.Cause.{Cause}
 use Rattle.so_env.specs.declared.outcome.Cause.TheVariants.{Done, Aborted, Limit, Write}
@@ -55,10 +56,11 @@ pub record Counts (s : SceneParts) (mode : Mode) (h : List Entry) (failed : Bool
 abbrev pub cause_of : SceneParts → List Entry → Bool → Cause
 cause_of s h failed = if failed then Write else (if finished s h then Done else (if aborted h then Aborted else Limit))
 
--- a simulation: its history is the chain of first steps, and the sink got its text
+-- a simulation: its history is the chain of first steps and has the facts, and the sink got its text
 pub record IsSimulated (s : SceneParts) (limit : ℕ) (mode : Mode) (h : List Entry) (cause : Cause) (n : ℕ) (old new : Option (List ℕ)) (before now : ℕ) : Type 0 where
   pub chain : IsChain s limit h
   pub legal : Legal s h
+  pub facts : HasFacts s h
   pub failed : Bool
   pub is : cause ≡ cause_of s h failed
   pub at_limit : is_over s h ≡ false → StopsAtLimit s limit h

@@ -29,7 +29,7 @@ tidy_first k = or_else (tidying k.scene k.history) (lanes_entry k (lanes k.scene
 
 -- the first step where no turn runs
 abbrev pub free_first : Core → Option Entry
-free_first k = or_else (registration k.history) (tidy_first k)
+free_first k = or_else (registration k.scene k.history) (tidy_first k)
 
 -- the first turn in hand is that of a lane
 pub record IsFirstHeld (ts : List (Option Turn)) (n lane : ℕ) : Type 0 where

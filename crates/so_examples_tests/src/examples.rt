@@ -1,7 +1,7 @@
 //! The scenes of `examples`, word for word. The gate compares them with the files.
 
 /// Each scene.
-pub const EXAMPLES: [&str; 16] = [
+pub const EXAMPLES: [&str; 19] = [
     r#"{
   "version": 1,
   "messages": [{"name": "reading"}, {"name": "relax", "kind": "signal"}, {"name": "again", "kind": "signal"}],
@@ -142,6 +142,13 @@ pub const EXAMPLES: [&str; 16] = [
     }
   ]
 }"#,
+    r#"{"version": 1,
+ "dispatchers": [{"name": "garage", "kind": "thread_pool", "threads": 2, "slots": 2}],
+ "coops": [
+   {"name": "trucks", "agents": [{"name": "t1", "disp": "garage"}, {"name": "t2", "disp": "garage"}, {"name": "t3", "disp": "garage"}]},
+   {"name": "bikes", "agents": [
+     {"name": "b1", "disp": "garage", "start": [["log", "parked"]]},
+     {"name": "b2", "disp": "garage", "start": [["log", "parked"]]}]}]}"#,
     r#"{
   "version": 1,
   "coops": [
@@ -325,6 +332,19 @@ pub const EXAMPLES: [&str; 16] = [
     }
   ]
 }"#,
+    r#"{"version": 1,
+ "messages": [{"name": "gone", "kind": "signal"}],
+ "coops": [
+   {"name": "plant", "agents": [
+     {"name": "foreman",
+      "start": [["register", "shift"]],
+      "on": [{"msg": "gone", "do": [
+        ["add", "v0", "v0", 1], ["log", "shifts over", "v0"],
+        ["if", "v0", "<", 3, 2], ["register", "shift"], ["skip", 1], ["deregister", "plant"]]}]}]},
+   {"name": "shift", "parent": "plant", "at_start": false, "agents": [
+     {"name": "hand", "vars": [10],
+      "start": [["add", "v0", "v0", 1], ["log", "pieces", "v0"], ["deregister", "shift"]],
+      "finish": [["send", "foreman", "gone"]]}]}]}"#,
     r#"{
   "version": 1,
   "messages": [{"name": "order"}, {"name": "count", "kind": "signal"}, {"name": "noise", "kind": "signal"}],
@@ -395,4 +415,16 @@ pub const EXAMPLES: [&str; 16] = [
     }
   ]
 }"#,
+    r#"{"version": 1,
+ "messages": [{"name": "job"}, {"name": "done"}, {"name": "note", "kind": "signal"}],
+ "coops": [
+   {"name": "office", "agents": [
+     {"name": "manager",
+      "start": [["send", "worker", "job", 3]],
+      "on": [{"msg": "done", "do": [["log", "done", "m0"], ["deregister", "office"]]}],
+      "finish": [["log", "locks up"]]}]},
+   {"name": "crew", "parent": "office", "agents": [
+     {"name": "worker",
+      "on": [{"msg": "job", "do": [["log", "works", "m0"], ["send", "manager", "done", "m0"]]}],
+      "finish": [["log", "packs up"]]}]}]}"#,
 ];

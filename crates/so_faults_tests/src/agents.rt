@@ -13,7 +13,7 @@ static AFTER: &str =
     "},{\"name\":\"b\",\"states\":[{\"name\":\"far\"}],\"on\":[{\"id\":\"theirs\",\"msg\":\"x\",\"do\":[]}]}]}]}";
 
 /// Fields of that agent, and how the fault of the scene is printed.
-static AGENT_FAULTS: [(&str, &str); 43] = [
+static AGENT_FAULTS: [(&str, &str); 37] = [
     (
         "\"on\":[{\"id\":\"r\",\"msg\":\"x\",\"do\":[]},{\"id\":\"r\",\"msg\":\"s\",\"do\":[]}]",
         "twice at /coops/0/agents/0/on/1/id",
@@ -39,10 +39,6 @@ static AGENT_FAULTS: [(&str, &str); 43] = [
         "wrong_shape at /coops/0/agents/0/on/0/mbox",
     ),
     (
-        "\"on\":[{\"msg\":\"x\",\"mbox\":\"b\",\"do\":[]}]",
-        "not_built at /coops/0",
-    ),
-    (
         "\"on\":[{\"msg\":\"x\",\"dead\":true}]",
         "wrong_shape at /coops/0/agents/0/on/0",
     ),
@@ -57,18 +53,6 @@ static AGENT_FAULTS: [(&str, &str); 43] = [
     (
         "\"on\":[{\"msg\":\"x\",\"active\":1,\"do\":[]}]",
         "wrong_shape at /coops/0/agents/0/on/0/active",
-    ),
-    (
-        "\"on\":[{\"msg\":\"x\",\"do\":[]},{\"msg\":\"x\",\"state\":\"default\",\"do\":[]}]",
-        "not_built at /coops/0",
-    ),
-    (
-        "\"on\":[{\"msg\":\"x\",\"do\":[]},{\"msg\":\"x\",\"mbox\":\"a\",\"do\":[]}]",
-        "not_built at /coops/0",
-    ),
-    (
-        "\"on\":[{\"msg\":\"x\",\"mbox\":\"box\",\"dead\":true,\"do\":[]},{\"msg\":\"x\",\"mbox\":\"box\",\"dead\":true,\"do\":[]}]",
-        "not_built at /coops/0",
     ),
     ("\"filters\":7", "wrong_shape at /coops/0/agents/0/filters"),
     (
@@ -124,14 +108,6 @@ static AGENT_FAULTS: [(&str, &str); 43] = [
         "wrong_shape at /coops/0/agents/0/filters/0/active",
     ),
     (
-        "\"filters\":[{\"mbox\":\"a\",\"msg\":\"x\",\"field\":0,\"cmp\":\"==\",\"value\":1}]",
-        "not_built at /coops/0",
-    ),
-    (
-        "\"filters\":[{\"mbox\":\"box\",\"msg\":\"s\",\"field\":0,\"cmp\":\"==\",\"value\":1}]",
-        "not_built at /coops/0",
-    ),
-    (
         "\"filters\":[{\"mbox\":\"post\",\"msg\":\"x\",\"field\":0,\"cmp\":\"==\",\"value\":1}],\"start\":[[\"subscribe\",\"q\"]]",
         "unknown_name at /coops/0/agents/0/filters/0/mbox",
     ),
@@ -185,8 +161,8 @@ static AGENT_FAULTS: [(&str, &str); 43] = [
     ),
 ];
 
-/// Fields of that agent with which the scene is read.
-static AGENTS: [&str; 8] = [
+/// Fields of that agent with which the scene is read. A registration would refuse some of them.
+static AGENTS: [&str; 14] = [
     "\"on\":[{\"msg\":\"x\",\"do\":[]},{\"msg\":\"x\",\"active\":false,\"do\":[]}]",
     "\"on\":[{\"msg\":\"x\",\"active\":false,\"do\":[]},{\"msg\":\"x\",\"do\":[]}]",
     "\"on\":[{\"msg\":\"x\",\"do\":[]},{\"msg\":\"x\",\"mbox\":\"box\",\"do\":[]}]",
@@ -195,6 +171,12 @@ static AGENTS: [&str; 8] = [
     "\"filters\":[{\"mbox\":\"box\",\"msg\":\"x\",\"field\":0,\"cmp\":\"==\",\"value\":1},{\"mbox\":\"box\",\"msg\":\"x\",\"field\":0,\"cmp\":\"==\",\"value\":1}]",
     "\"filters\":[{\"mbox\":\"box\",\"msg\":\"x\",\"field\":3,\"cmp\":\"==\",\"value\":-9223372036854775808,\"active\":false}]",
     "\"filters\":[{\"mbox\":\"box\",\"msg\":\"x\",\"field\":0,\"cmp\":\"==\",\"value\":1,\"id\":\"f\"}],\"on\":[{\"id\":\"f\",\"msg\":\"x\",\"do\":[]}]",
+    "\"on\":[{\"msg\":\"x\",\"mbox\":\"b\",\"do\":[]}]",
+    "\"on\":[{\"msg\":\"x\",\"do\":[]},{\"msg\":\"x\",\"state\":\"default\",\"do\":[]}]",
+    "\"on\":[{\"msg\":\"x\",\"do\":[]},{\"msg\":\"x\",\"mbox\":\"a\",\"do\":[]}]",
+    "\"on\":[{\"msg\":\"x\",\"mbox\":\"box\",\"dead\":true,\"do\":[]},{\"msg\":\"x\",\"mbox\":\"box\",\"dead\":true,\"do\":[]}]",
+    "\"filters\":[{\"mbox\":\"a\",\"msg\":\"x\",\"field\":0,\"cmp\":\"==\",\"value\":1}]",
+    "\"filters\":[{\"mbox\":\"box\",\"msg\":\"s\",\"field\":0,\"cmp\":\"==\",\"value\":1}]",
 ];
 
 /// The scene whose first agent has these fields.

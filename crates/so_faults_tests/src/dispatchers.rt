@@ -5,7 +5,7 @@ use std::alloc::Global;
 use std::test::Fail;
 
 /// Dispatchers, fields of the first of two agents, and how the fault of the scene is printed.
-static DISP_FAULTS: [(&str, &str, &str); 35] = [
+static DISP_FAULTS: [(&str, &str, &str); 38] = [
     ("7", "", "wrong_shape at /dispatchers"),
     ("[7]", "", "wrong_shape at /dispatchers"),
     (
@@ -30,9 +30,24 @@ static DISP_FAULTS: [(&str, &str, &str); 35] = [
         "wrong_shape at /dispatchers/0/kind",
     ),
     (
-        "[{\"name\":\"p\",\"kind\":\"one_thread\",\"slots\":4096}]",
+        "[{\"name\":\"p\",\"kind\":\"one_thread\",\"slots\":0}]",
         "",
-        "not_built at /dispatchers/0/slots",
+        "out_of_range at /dispatchers/0/slots",
+    ),
+    (
+        "[{\"name\":\"p\",\"kind\":\"thread_pool\",\"slots\":4097}]",
+        "",
+        "out_of_range at /dispatchers/0/slots",
+    ),
+    (
+        "[{\"name\":\"p\",\"kind\":\"one_thread\",\"slots\":\"1\"}]",
+        "",
+        "wrong_shape at /dispatchers/0/slots",
+    ),
+    (
+        "[{\"name\":\"p\",\"kind\":\"one_thread\",\"slots\":0,\"threads\":4}]",
+        "",
+        "out_of_range at /dispatchers/0/slots",
     ),
     (
         "[{\"name\":\"p\",\"kind\":\"one_thread\",\"slots\":1,\"size\":0}]",
@@ -90,9 +105,9 @@ static DISP_FAULTS: [(&str, &str, &str); 35] = [
         "twice at /dispatchers/1/name",
     ),
     (
-        "[{\"name\":\"default\",\"kind\":\"one_thread\"},{\"name\":\"p\",\"kind\":\"one_per_prio\",\"slots\":1}]",
+        "[{\"name\":\"default\",\"kind\":\"one_thread\"},{\"name\":\"p\",\"kind\":\"one_per_prio\",\"slots\":0}]",
         "",
-        "not_built at /dispatchers/1/slots",
+        "out_of_range at /dispatchers/1/slots",
     ),
     (
         "[]",

@@ -6,6 +6,8 @@ mod agents;
 #[cfg(test)]
 mod checks;
 #[cfg(test)]
+mod coops;
+#[cfg(test)]
 mod dispatchers;
 #[cfg(test)]
 mod priorities;

@@ -1,9 +1,10 @@
 //! Faults of a scene, of its types, mboxes and cooperations, and of acts.
 
 use crate::checks::has_fault;
+use so_scene_json::read_scene;
 
 /// Each scene, and how its fault is printed.
-static FAULTS: [(&str, &str); 76] = [
+static FAULTS: [(&str, &str); 70] = [
     ("", "not_json"),
     (
         "{\"version\":1,\"coops\":[{\"name\":\"main\",\"ag",
@@ -29,10 +30,17 @@ static FAULTS: [(&str, &str); 76] = [
     ),
     ("{\"version\":\"1\"}", "wrong_shape at /version"),
     ("{\"version\":1,\"x\":0}", "wrong_shape at /"),
-    ("{\"version\":9,\"version\":1}", "not_built at /coops"),
     (
-        "{\"version\":1,\"autoshutdown\":true}",
-        "not_built at /autoshutdown",
+        "{\"version\":1,\"autoshutdown\":1}",
+        "wrong_shape at /autoshutdown",
+    ),
+    (
+        "{\"version\":1,\"autoshutdown\":null}",
+        "wrong_shape at /autoshutdown",
+    ),
+    (
+        "{\"version\":1,\"reaction\":\"abort\"}",
+        "not_built at /reaction",
     ),
     ("{\"version\":1,\"chains\":7}", "not_built at /chains"),
     ("{\"version\":1,\"chains\":7,\"y\":0}", "wrong_shape at /"),
@@ -44,10 +52,6 @@ static FAULTS: [(&str, &str); 76] = [
     (
         "{\"version\":1,\"mboxes\":[\"a-b\"]}",
         "wrong_shape at /mboxes",
-    ),
-    (
-        "{\"version\":1,\"mboxes\":[\"m\",\"m\"]}",
-        "not_built at /coops",
     ),
     (
         "{\"version\":1,\"mboxes\":[\"m\"],\"coops\":[{\"name\":\"m\",\"agents\":[{\"name\":\"a\"},{\"name\":\"m\"}]}]}",
@@ -97,12 +101,6 @@ static FAULTS: [(&str, &str); 76] = [
         "{\"version\":1,\"messages\":[{\"name\":\"x\"},{\"name\":\"x\"}]}",
         "twice at /messages/1/name",
     ),
-    ("{\"version\":1}", "not_built at /coops"),
-    ("{\"version\":1,\"coops\":[]}", "not_built at /coops"),
-    (
-        "{\"version\":1,\"coops\":[{\"name\":\"c\",\"agents\":[{\"name\":\"a\"}]},{\"name\":\"d\",\"agents\":[{\"name\":\"b\"}]}]}",
-        "not_built at /coops",
-    ),
     (
         "{\"version\":1,\"coops\":[{\"name\":\"c\",\"agents\":[{\"name\":\"a\"}]},{\"name\":\"c\",\"agents\":[{\"name\":\"b\"}]}]}",
         "twice at /coops/1/name",
@@ -110,14 +108,6 @@ static FAULTS: [(&str, &str); 76] = [
     (
         "{\"version\":1,\"coops\":[{\"name\":\"c\"}]}",
         "missing at /coops/0/agents",
-    ),
-    (
-        "{\"version\":1,\"coops\":[{\"name\":\"c\",\"agents\":[]}]}",
-        "not_built at /coops/0",
-    ),
-    (
-        "{\"version\":1,\"coops\":[{\"name\":\"c\",\"parent\":\"d\",\"agents\":[]}]}",
-        "not_built at /coops/0/parent",
     ),
     (
         "{\"version\":1,\"coops\":[{\"name\":\"c\",\"agents\":[{\"name\":\"a\"},{\"name\":\"a\"}]}]}",
@@ -244,10 +234,6 @@ static FAULTS: [(&str, &str); 76] = [
         "unknown_name at /coops/0/agents/0/on/0/msg",
     ),
     (
-        "{\"version\":1,\"messages\":[{\"name\":\"x\"},{\"name\":\"s\",\"kind\":\"signal\"}],\"coops\":[{\"name\":\"c\",\"agents\":[{\"name\":\"a\",\"on\":[{\"msg\":\"x\",\"do\":[]},{\"msg\":\"s\",\"do\":[]},{\"msg\":\"x\",\"do\":[]}]}]}]}",
-        "not_built at /coops/0",
-    ),
-    (
         "{\"version\":1,\"messages\":[{\"name\":\"x\"},{\"name\":\"s\",\"kind\":\"signal\"}],\"coops\":[{\"name\":\"c\",\"agents\":[{\"name\":\"a\",\"on\":[{\"msg\":\"x\",\"do\":[[\"stop\"],[\"send\",\"a\",\"s\"],[\"log\"]]}]}]}]}",
         "wrong_shape at /coops/0/agents/0/on/0/do/2",
     ),
@@ -269,5 +255,22 @@ static FAULTS: [(&str, &str); 76] = [
 fn each_faulty_scene_has_its_fault(rt: HostRuntime) {
     for (text, line) in FAULTS.iter() {
         assert!(rt; has_fault(rt.alloc(), text.as_bytes(), line));
+    }
+}
+
+/// Scenes that are read.
+static SCENES: [&str; 6] = [
+    "{\"version\":1}",
+    "{\"version\":9,\"version\":1}",
+    "{\"version\":1,\"coops\":[]}",
+    "{\"version\":1,\"mboxes\":[\"m\",\"m\"]}",
+    "{\"version\":1,\"autoshutdown\":true}",
+    "{\"version\":1,\"autoshutdown\":false,\"messages\":[],\"dispatchers\":[]}",
+];
+
+#[test]
+fn scenes_without_cooperations_are_read(rt: HostRuntime) {
+    for text in SCENES.iter() {
+        assert!(rt; read_scene(rt.alloc(), text.as_bytes()).is_ok());
     }
 }

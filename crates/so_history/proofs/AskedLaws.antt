@@ -1,6 +1,6 @@
--- What an effect asks: nothing, or to handle a message that is sent through a mbox.
-use Rattle.std.proofs.Common.{◌≡◌, ℕ, ◌+◌, List, [], ◌∷◌, Bool, true, false, map, refl, ap, ◌∙◌}
-use Rattle.std.specs.List.{filter, AllByRecursion}
+-- What an effect asks: nothing, to handle a message that is sent through a mbox, or to start.
+use Rattle.std.proofs.Common.{◌≡◌, ℕ, ◌+◌, List, [], ◌∷◌, Bool, true, false, map, refl}
+use Rattle.std.specs.List.{AllByRecursion}
 use Rattle.so_lists.proofs.Filters.{each-filter}
 use Rattle.so_ids.specs.declared.AgentId.{AgentId}
 use Rattle.so_ids.specs.declared.MboxId.{MboxId}
@@ -11,40 +11,34 @@ use Rattle.so_ids.specs.declared.Target.{Target}
 use Rattle.so_ids.specs.declared.Target.TheVariants.{Mbox, Chain}
 use Rattle.so_code.specs.declared.effect.Effect.{Effect}
 use Rattle.so_code.specs.declared.effect.Effect.TheVariants as effect
-use Rattle.so_code.specs.declared.effect.Effect.TheVariants.{Log, Send, Delayed, Timer, Cancel, Switch, SetState, Choose, Subscribe, Unsubscribe, SetFilter, DropFilter, Deregister, Close, Receive, Take}
+use Rattle.so_code.specs.declared.effect.Answer.{Answer}
+use Rattle.so_code.specs.declared.effect.Answer.TheVariants as answer
+use Rattle.so_ids.specs.declared.CoopId.{CoopId}
 use Rattle.so_scene.specs.declared.parts.SceneParts.{SceneParts}
 use Rattle.so_scene.specs.Delivery.{Outcome, outcome_for, outcomes, events}
 use Rattle.so_history.specs.declared.entry.Entry.{Entry}
-use Rattle.so_history.specs.Coops.{present, leaving}
+use Rattle.so_scene.specs.Parts.{agents_of}
 use Rattle.so_history.specs.declared.entry.Demand.{Demand}
+use Rattle.so_history.specs.declared.entry.DemandKind.{DemandKind}
+use Rattle.so_history.specs.declared.entry.DemandKind.TheVariants.{Start}
 use Rattle.so_history.specs.Delivery.{registered, receivers, passes, is_leaving, delivered}
-use Rattle.so_history.specs.Demands.{Asked, ask, demands_from, asked_by_target, asked_by_effect}
+use Rattle.so_history.specs.Demands.{Asked, ask, ask_each, demands_from, asked_by_target, asked_by_effect}
 
--- what holds where nothing is asked, and where each agent that a message reaches is asked to handle it, holds of each effect
+-- what holds where nothing is asked, where each agent that a message reaches is asked to handle it, and where each agent of a
+-- cooperation that is registered is asked to start, holds of each effect
 module _ (s : SceneParts) (h : List Entry) (P : List Asked → Type 0) (nothing : P []) (message : (mbox : MboxId) (msg : MsgId) (payload : Payload) → P (map ask (events (delivered s h mbox msg payload)))) where
   target_asks : (target : Target) (msg : MsgId) (payload : Payload) → P (asked_by_target s h target msg payload)
   target_asks (Mbox mbox) msg payload = message mbox msg payload
   target_asks (Chain chain) msg payload = nothing
 
-  pub effect_asks : (e : Effect) → P (asked_by_effect s h e)
-  effect_asks (Send target msg payload) = target_asks target msg payload
-  effect_asks (Log text payload) = nothing
-  effect_asks (Delayed target msg payload ms) = nothing
-  effect_asks (Timer slot target msg payload ms period) = nothing
-  effect_asks (Cancel slot) = nothing
-  effect_asks (Switch to) = nothing
-  effect_asks (SetState leaf) = nothing
-  effect_asks Choose = nothing
-  effect_asks (Subscribe row) = nothing
-  effect_asks (Unsubscribe row) = nothing
-  effect_asks (SetFilter filter) = nothing
-  effect_asks (DropFilter filter) = nothing
-  effect_asks (effect.Register coop) = nothing
-  effect_asks (Deregister coop) = nothing
-  effect_asks effect.Stop = nothing
-  effect_asks (Close chain keep) = nothing
-  effect_asks (Receive place) = nothing
-  effect_asks (Take place) = nothing
+  registration_asks : (coop : CoopId) (a : Answer) → (a ≡ answer.Okay → P (ask_each Start (agents_of s coop))) → P (asked_by_effect s h (effect.Register coop) a)
+  registration_asks coop answer.Okay start = start refl
+  registration_asks coop other start = nothing
+
+  pub effect_asks : (e : Effect) (a : Answer) → ((coop : CoopId) → e ≡ effect.Register coop → a ≡ answer.Okay → P (ask_each Start (agents_of s coop))) → P (asked_by_effect s h e a)
+  effect_asks (effect.Send target msg payload) a start = target_asks target msg payload
+  effect_asks (effect.Register coop) a start = registration_asks coop a (start coop refl)
+  effect_asks other a start = nothing
 
 -- the events of a delivery are of its receivers
 event_of : (P : AgentId → Type 0) (passes leaving : Bool) (q : Queued) (rest : List Outcome) → P q.agent → AllByRecursion (λ (x : Queued). P x.agent) (events rest) → AllByRecursion (λ (x : Queued). P x.agent) (events (outcome_for passes leaving q ∷ rest))
@@ -72,42 +66,27 @@ unfolding receivers
 delivered_of s h P mbox msg payload place k all =
     asked_each P place k _ (asks_of P _ (events_of P (passes s h mbox msg payload) (is_leaving s h) mbox msg payload (receivers s h mbox msg) (each-filter P _ (registered s h) all)))
 
--- a delivery queues nothing for those whose cooperation is leaving
-closed_event : (passes : Bool) (q : Queued) (rest : List Outcome) → events rest ≡ [] → events (outcome_for passes true q ∷ rest) ≡ []
-closed_event true q rest e = e
-closed_event false q rest e = e
+-- and what holds of all agents of a cooperation holds of the agents of the demands that ask each of them
+each_asked : (P : AgentId → Type 0) (kind : DemandKind) (agents : List AgentId) → AllByRecursion P agents → AllByRecursion (λ (x : Asked). P x.agent) (ask_each kind agents)
+each_asked P kind [] all = tt
+each_asked P kind (a ∷ agents) all = (all.0, each_asked P kind agents all.1)
 
-closed_events : (passes : AgentId → Bool) (mbox : MboxId) (msg : MsgId) (payload : Payload) (receivers : List AgentId) → events (outcomes passes (λ a. true) mbox msg payload receivers) ≡ []
-closed_events passes mbox msg payload [] = refl
-closed_events passes mbox msg payload (a ∷ receivers) = closed_event (passes a) (record { agent = a; mbox = mbox; msg = msg; payload = payload }) (outcomes passes (λ x. true) mbox msg payload receivers) (closed_events passes mbox msg payload receivers)
+pub asked_of_each : (P : AgentId → Type 0) (place k : ℕ) (kind : DemandKind) (agents : List AgentId) → AllByRecursion P agents → AllByRecursion (λ (d : Demand). P d.agent) (demands_from place k (ask_each kind agents))
+asked_of_each P place k kind agents all = asked_each P place k (ask_each kind agents) (each_asked P kind agents all)
 
-pub events_leaving : (s : SceneParts) (h : List Entry) (mbox : MboxId) (msg : MsgId) (payload : Payload) → leaving h ≡ true → events (delivered s h mbox msg payload) ≡ []
-events_leaving s h mbox msg payload l =
-    ap (λ b. events (outcomes (passes s h mbox msg payload) (λ a. b) mbox msg payload (receivers s h mbox msg))) l
-    ∙ closed_events (passes s h mbox msg payload) mbox msg payload (receivers s h mbox msg)
+-- a delivery queues demands only for those whose cooperation isn't leaving
+open_event : (leaving : AgentId → Bool) (passes shut : Bool) (q : Queued) (rest : List Outcome) → leaving q.agent ≡ shut → AllByRecursion (λ (x : Queued). leaving x.agent ≡ false) (events rest) →
+    AllByRecursion (λ (x : Queued). leaving x.agent ≡ false) (events (outcome_for passes shut q ∷ rest))
+open_event leaving true true q rest is all = all
+open_event leaving true false q rest is all = (is, all)
+open_event leaving false shut q rest is all = all
 
--- nor for those that aren't registered
-pub events_absent : (s : SceneParts) (h : List Entry) (mbox : MboxId) (msg : MsgId) (payload : Payload) → present h ≡ false → events (delivered s h mbox msg payload) ≡ []
-unfolding receivers
-events_absent s h mbox msg payload p = rw p refl
+open_events : (passes leaving : AgentId → Bool) (mbox : MboxId) (msg : MsgId) (payload : Payload) (receivers : List AgentId) → AllByRecursion (λ (x : Queued). leaving x.agent ≡ false) (events (outcomes passes leaving mbox msg payload receivers))
+open_events passes leaving mbox msg payload [] = tt
+open_events passes leaving mbox msg payload (a ∷ receivers) =
+    open_event leaving (passes a) (leaving a) (record { agent = a; mbox = mbox; msg = msg; payload = payload }) _ refl (open_events passes leaving mbox msg payload receivers)
 
--- only a send asks something
-pub asks_nothing : (s : SceneParts) (h : List Entry) (e : Effect) → ((target : Target) (msg : MsgId) (payload : Payload) → e ≡ Send target msg payload → ⊥) → asked_by_effect s h e ≡ []
-asks_nothing s h (Send target msg payload) none = absurd (none target msg payload refl)
-asks_nothing s h (Log text payload) none = refl
-asks_nothing s h (Delayed target msg payload ms) none = refl
-asks_nothing s h (Timer slot target msg payload ms period) none = refl
-asks_nothing s h (Cancel slot) none = refl
-asks_nothing s h (Switch to) none = refl
-asks_nothing s h (SetState leaf) none = refl
-asks_nothing s h Choose none = refl
-asks_nothing s h (Subscribe row) none = refl
-asks_nothing s h (Unsubscribe row) none = refl
-asks_nothing s h (SetFilter filter) none = refl
-asks_nothing s h (DropFilter filter) none = refl
-asks_nothing s h (effect.Register coop) none = refl
-asks_nothing s h (Deregister coop) none = refl
-asks_nothing s h effect.Stop none = refl
-asks_nothing s h (Close chain keep) none = refl
-asks_nothing s h (Receive place) none = refl
-asks_nothing s h (Take place) none = refl
+pub delivered_open : (s : SceneParts) (h : List Entry) (mbox : MboxId) (msg : MsgId) (payload : Payload) (place k : ℕ) →
+    AllByRecursion (λ (d : Demand). is_leaving s h d.agent ≡ false) (demands_from place k (map ask (events (delivered s h mbox msg payload))))
+delivered_open s h mbox msg payload place k =
+    asked_each (λ a. is_leaving s h a ≡ false) place k _ (asks_of (λ a. is_leaving s h a ≡ false) _ (open_events (passes s h mbox msg payload) (is_leaving s h) mbox msg payload (receivers s h mbox msg)))

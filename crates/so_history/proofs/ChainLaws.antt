@@ -1,9 +1,10 @@
 -- The entries of the picks, and that a run that is not over goes on.
-use Rattle.std.proofs.Common.{◌≡◌, ℕ, ◌<◌, List, [], ◌∷◌, length, Bool, true, false, not, ◌&&◌, ◌||◌, cond, Option, Some, None, refl, sym, ◌∙◌, ap, subst, is_some, inl, inr}
-use Rattle.std.specs.List.{find, AllByRecursion}
+use Rattle.std.proofs.Common.{◌≡◌, ℕ, ◌<◌, List, [], ◌∷◌, ◌++◌, length, Bool, true, false, not, ◌&&◌, ◌||◌, cond, Option, Some, None, refl, sym, ◌∙◌, ap, subst, is_some, inl, inr}
+use Rattle.std.specs.List.{find, list_any, AllByRecursion}
 use Rattle.std.specs.Option.{option_map, option_and_then}
 use Rattle.std.specs.Cmp.Derive.{both_true}
-use Rattle.std.proofs.lemmas.Bool.{and_parts, false≢true}
+use Rattle.std.proofs.lemmas.Bool.{and_parts, eq-eqb, false≢true}
+use Rattle.std.proofs.lemmas.Option.{same_Some}
 use Rattle.so_ids.specs.declared.CoopId.{CoopId}
 use Rattle.so_ids.specs.declared.LaneId.{LaneId}
 use Rattle.so_ids.specs.declared.MsgId.{MsgId}
@@ -13,10 +14,11 @@ use Rattle.so_ids.specs.declared.Payload.{Payload}
 use Rattle.so_ids.specs.declared.Target.{Target}
 use Rattle.so_ids.specs.declared.Target.TheVariants.{Mbox, Chain}
 use Rattle.so_ids.specs.declared.Reason.{Reason}
-use Rattle.so_ids.specs.declared.Reason.TheVariants.{Shutdown}
+use Rattle.so_ids.specs.declared.Reason.TheVariants as reason
 use Rattle.so_lists.specs.Lists.{is_empty, or_else, head, first_below}
 use Rattle.so_lists.proofs.Filters.{each-weaker}
 use Rattle.so_lists.proofs.Found.{not_missed}
+use Rattle.so_lists.proofs.Last.{Last, nobody, somebody, last_of, last_passes}
 use Rattle.so_state.proofs.Lists.{find-keeps}
 use Rattle.so_lists.proofs.First.{or_else-none, or_else-swap, first_below-none, none-first_below, first_below-some, option_map-none}
 use Rattle.so_scene.specs.declared.parts.SceneParts.{SceneParts}
@@ -25,38 +27,45 @@ use Rattle.so_code.specs.declared.effect.Effect.{Effect}
 use Rattle.so_code.specs.declared.effect.Effect.TheVariants as effect
 use Rattle.so_code.specs.declared.effect.Move.{Move}
 use Rattle.so_code.specs.declared.effect.Move.TheVariants.{Do, Done, Fail}
-use Rattle.so_scene.specs.Parts.{mboxes}
+use Rattle.so_scene.specs.Parts.{mboxes, coop_of}
 use Rattle.so_scene.specs.Checked.{IsTarget, IsScene}
+use Rattle.so_scene.specs.Cooperations.{Standing, parent_leaves, reason_unmarked, reason_of, with_reason, leaving_at, leaving_next}
 use Rattle.so_scene.specs.Lanes.{lanes, key_of}
 use Rattle.so_scene.proofs.LaneLaws.{some_lane}
 use Rattle.so_history.specs.declared.entry.Entry.{Entry}
 use Rattle.so_history.specs.declared.entry.EntryKind.{EntryKind}
-use Rattle.so_history.specs.declared.entry.EntryKind.TheVariants.{Register, Begin, Skip, Act, End, Leaving, Left, Stop, Abort}
+use Rattle.so_history.specs.declared.entry.EntryKind.TheVariants.{Act, Leaving, Left, Stop}
 use Rattle.so_history.specs.declared.entry.StopCause.{StopCause}
-use Rattle.so_history.specs.declared.entry.StopCause.TheVariants.{Asked, Idle}
+use Rattle.so_history.specs.declared.entry.StopCause.TheVariants.{Asked, Auto, Idle}
 use Rattle.so_history.specs.declared.entry.Demand.{Demand}
 use Rattle.so_history.specs.Demands.{waiting}
 use Rattle.so_history.specs.Turns.{Started, running, running_at, running_on, running_with, lane_number, key_number, move_of}
-use Rattle.so_history.specs.Coops.{the_coop, tried, present, leaving, stopped, stop_asked, aborted, has_reason}
+use Rattle.so_history.specs.Coops.{is_same, roster, present, leaving, next_coop, all_tried, stopped, stop_asked, aborted, standing}
 use Rattle.so_history.specs.declared.entry.EventSource.{EventSource}
 use Rattle.so_history.specs.Units.{fits}
 use Rattle.so_history.specs.Order.{opening_of, is_allowed_beside, is_allowed, is_free, may_take, pick}
-use Rattle.so_history.specs.Steps.{choice_for, NamesEffect, may_leave, may_stop, is_idle, finished, is_over, answer_to_send, answer_of, entry_of, Legal}
-use Rattle.so_history.specs.Chain.{by_main, signed, next_of, turn_entry, turn_on, taking_entry, registration, leaving_entry, left_entry, stop_entry, tidying, lane_entry, first, fitting, next_entry, StopsAtLimit}
+use Rattle.so_history.specs.Steps.{choice_for, NamesEffect, may_leave, left_at, left_next, is_auto, may_stop, is_idle, finished, is_over, answer_to_send, answer_of, entry_of, Legal}
+use Rattle.so_history.specs.Chain.{by_main, signed, next_of, turn_entry, turn_on, taking_entry, registration_of, registration, leaving_for, leaving_entry, left_for, left_entry, stop_entry, tidying, lane_entry, first, fitting, next_entry, StopsAtLimit}
 use Rattle.so_history.proofs.DemandLaws.{pick-free, waiting_of}
 use Rattle.so_history.proofs.HeadLaws.{HasNext, some_next}
 use Rattle.so_history.proofs.TurnLaws.{turn_of, at_looked_up, running_nowhere, running_at-nil}
 use Rattle.so_history.proofs.CourseLaws.{has_course}
+use Rattle.so_history.proofs.RosterLaws.{present_within, last_childless}
 use Rattle.so_history.proofs.SoundLaws.{names_parts, course_sound}
 
-registered_cond : (b : Bool) (e : Entry) → cond b None (Some (by_main (Register the_coop))) ≡ Some e → e ≡ by_main (Register the_coop)
-registered_cond true e h = cc
-registered_cond false e h = cc
+-- what main registers, or refuses, is its next cooperation
+pub record Registers (s : SceneParts) (h : List Entry) (e : Entry) : Type 0 where
+  pub coop : CoopId
+  pub next : next_coop s h ≡ Some coop
+  pub is : e ≡ registration_of s h coop
 
--- what main registers
-pub registered : (h : List Entry) (e : Entry) → registration h ≡ Some e → e ≡ by_main (Register the_coop)
+registers : (s : SceneParts) (h : List Entry) (e : Entry) (o : Option CoopId) → next_coop s h ≡ o → option_map (registration_of s h) o ≡ Some e → Registers s h e
+registers s h e None next is = absurd cc
+registers s h e (Some coop) next is = record { coop = coop; next = next; is = sym (same_Some _ e is) }
+
+pub registered : (s : SceneParts) (h : List Entry) (e : Entry) → registration s h ≡ Some e → Registers s h e
 unfolding registration
-registered h e r = registered_cond (tried h) e r
+registered s h e r = registers s h e (next_coop s h) refl r
 
 -- what is tidied is one of three
 abbrev pub IsTidying : EntryKind → Type 0
@@ -65,49 +74,61 @@ IsTidying (Left coop) = Unit {0}
 IsTidying (Stop cause) = Unit {0}
 IsTidying _ = ⊥
 
-abbrev Tidied : Option Entry → Type 0
-Tidied None = ⊥
-Tidied (Some x) = IsTidying x.kind
+abbrev Tidies : Option Entry → Type 0
+Tidies None = Unit {0}
+Tidies (Some x) = IsTidying x.kind
 
-of_tidying : (a b c d : Bool) (e : Entry) →
-    or_else (cond a (Some (by_main (Stop Asked))) None) (or_else (cond b (Some (by_main (Leaving the_coop Shutdown))) None) (or_else (cond c (Some (by_main (Left the_coop))) None) (cond d (Some (by_main (Stop Idle))) None))) ≡ Some e → IsTidying e.kind
-of_tidying true b c d e h = subst Tidied h tt
-of_tidying false true c d e h = subst Tidied h tt
-of_tidying false false true d e h = subst Tidied h tt
-of_tidying false false false true e h = subst Tidied h tt
-of_tidying false false false false e h = cc
+either_tidies : (a b : Option Entry) → Tidies a → Tidies b → Tidies (or_else a b)
+either_tidies None b one two = two
+either_tidies (Some x) b one two = one
+
+stop_tidies : (b : Bool) (cause : StopCause) → Tidies (cond b (Some (by_main (Stop cause))) None)
+stop_tidies true cause = tt
+stop_tidies false cause = tt
+
+leaving_tidies : (o : Option (CoopId × Reason)) → Tidies (option_map leaving_for o)
+leaving_tidies None = tt
+leaving_tidies (Some why) = tt
+
+left_tidies : (o : Option CoopId) → Tidies (option_map left_for o)
+left_tidies None = tt
+left_tidies (Some c) = tt
+
+all_tidy : (s : SceneParts) (h : List Entry) → Tidies (tidying s h)
+unfolding tidying
+all_tidy s h =
+    either_tidies (stop_entry s h Asked) _ (stop_tidies (may_stop s h Asked) Asked)
+    (either_tidies (stop_entry s h Auto) _ (stop_tidies (may_stop s h Auto) Auto)
+    (either_tidies (leaving_entry s h) _ (leaving_tidies (leaving_next s (standing h)))
+    (either_tidies (left_entry s h) _ (left_tidies (left_next s h)) (stop_tidies (may_stop s h Idle) Idle))))
 
 pub tidied : (s : SceneParts) (h : List Entry) (e : Entry) → tidying s h ≡ Some e → IsTidying e.kind
-unfolding tidying
-tidied s h e t = of_tidying (may_stop s h Asked) (has_reason h) (may_leave s h) (may_stop s h Idle) e t
+tidied s h e t = subst Tidies t (all_tidy s h)
 
 pub not_tidied : (kind : EntryKind) → IsTidying kind → ((coop : CoopId) (reason : Reason) → kind ≡ Leaving coop reason → ⊥) → ((coop : CoopId) → kind ≡ Left coop → ⊥) → ((cause : StopCause) → kind ≡ Stop cause → ⊥) → ⊥
 not_tidied (Leaving coop reason) t a b c = a coop reason refl
 not_tidied (Left coop) t a b c = b coop refl
-not_tidied (Skip lane demand why) t a b c = t
 not_tidied (Stop cause) t a b c = c cause refl
-not_tidied (Abort cause) t a b c = t
-not_tidied (Register coop) t a b c = t
-not_tidied (Begin lane demand opening agent) t a b c = t
-not_tidied (Act turn effect answer) t a b c = t
-not_tidied (End turn) t a b c = t
+not_tidied other t a b c = t
 
 -- the stop for idleness is tried last, and only where nothing waits: so it may be tried before the Begins
-regroup : (a l f s b : Option Entry) → or_else s b ≡ or_else b s → or_else (or_else a (or_else l (or_else f s))) b ≡ or_else a (or_else l (or_else f (or_else b s)))
-regroup (Some y) l f s b h = refl
-regroup None (Some x) f s b h = refl
-regroup None None (Some x) s b h = refl
-regroup None None None s b h = h
+regroup : (a u l f s b : Option Entry) → or_else s b ≡ or_else b s → or_else (or_else a (or_else u (or_else l (or_else f s)))) b ≡ or_else a (or_else u (or_else l (or_else f (or_else b s))))
+regroup (Some y) u l f s b h = refl
+regroup None (Some z) l f s b h = refl
+regroup None None (Some x) f s b h = refl
+regroup None None None (Some x) s b h = refl
+regroup None None None None s b h = h
 
-stops_idle : (a b c : Bool) (e : Entry) → cond (a && (b && c)) (Some (by_main (Stop Idle))) None ≡ Some e → c ≡ true
-stops_idle true true true e h = refl
-stops_idle true true false e h = cc
-stops_idle true false c e h = cc
-stops_idle false b c e h = cc
+stops_idle : (a b c d : Bool) (e : Entry) → cond (a && (b && (c && d))) (Some (by_main (Stop Idle))) None ≡ Some e → d ≡ true
+stops_idle true true true true e h = refl
+stops_idle true true true false e h = absurd cc
+stops_idle true true false d e h = absurd cc
+stops_idle true false c d e h = absurd cc
+stops_idle false b c d e h = absurd cc
 
 idle_waits : (s : SceneParts) (h : List Entry) → is_idle s h ≡ true → is_empty (waiting s h) ≡ true
 unfolding is_idle
-idle_waits s h i = (and_parts (is_empty (waiting s h)) _ (and_parts (tried h) _ i).1).0
+idle_waits s h i = (and_parts (is_empty (waiting s h)) _ (and_parts (all_tried s h) _ i).1).0
 
 nothing_found : (s : SceneParts) (h : List Entry) (lane : LaneId) (ds : List Demand) → is_empty ds ≡ true → find (may_take s h lane) ds ≡ None
 nothing_found s h lane [] e = refl
@@ -126,13 +147,13 @@ no_begin s h lane e = rw (nothing_picked s h lane e) refl
 
 -- where no turn runs, the first step is a registration, else what is to be tidied, else a Begin
 pub first-free : (s : SceneParts) (h : List Entry) → ((l : ℕ) → l < lanes s → running_at lane_number h l ≡ []) →
-    first s h ≡ or_else (registration h) (or_else (tidying s h) (first_below (λ l. taking_entry s h (record { 0 = l })) (lanes s)))
+    first s h ≡ or_else (registration s h) (or_else (tidying s h) (first_below (λ l. taking_entry s h (record { 0 = l })) (lanes s)))
 unfolding first tidying
 first-free s h free =
     let none : first_below (λ l. turn_entry s h (turn_on h (record { 0 = l }))) (lanes s) ≡ None = first_below-none _ (lanes s) (λ l k. ap (λ ts. turn_entry s h (head ts)) (free l k)) in
     let begins : (e : Entry) → stop_entry s h Idle ≡ Some e → first_below (λ l. taking_entry s h (record { 0 = l })) (lanes s) ≡ None =
-    λ e stop. first_below-none _ (lanes s) (λ l k. no_begin s h (record { 0 = l }) (idle_waits s h (stops_idle (not (stopped h)) (not (stop_asked h)) (is_idle s h) e stop))) in
-    rw none (ap (or_else (registration h)) (sym (regroup (stop_entry s h Asked) (leaving_entry h) (left_entry s h) (stop_entry s h Idle) _ (or_else-swap (stop_entry s h Idle) _ begins))))
+    λ e stop. first_below-none _ (lanes s) (λ l k. no_begin s h (record { 0 = l }) (idle_waits s h (stops_idle (not (stopped h)) (not (stop_asked h)) (not (is_auto s h)) (is_idle s h) e stop))) in
+    rw none (ap (or_else (registration s h)) (sym (regroup (stop_entry s h Asked) (stop_entry s h Auto) (leaving_entry s h) (left_entry s h) (stop_entry s h Idle) _ (or_else-swap (stop_entry s h Idle) _ begins))))
 
 -- and where the first turn that runs is on this lane, it is that turn's move
 pub first-turn : (s : SceneParts) (h : List Entry) (lane : ℕ) (x : Entry) → lane < lanes s → turn_entry s h (turn_on h (record { 0 = lane })) ≡ Some x → ((l : ℕ) → l < lane → running_at lane_number h l ≡ []) → first s h ≡ Some x
@@ -172,6 +193,8 @@ answered_named s h agent event (effect.Subscribe row) named = (_, refl)
 answered_named s h agent event (effect.Unsubscribe row) named = (_, refl)
 answered_named s h agent event (effect.SetFilter filter) named = (_, refl)
 answered_named s h agent event (effect.DropFilter filter) named = (_, refl)
+answered_named s h agent event (effect.Register coop) named = (_, refl)
+answered_named s h agent event (effect.Deregister coop) named = (_, refl)
 answered_named s h agent event effect.Stop named = (_, refl)
 answered_named s h agent event other named = absurd named
 
@@ -224,43 +247,92 @@ if_none : (b : Bool) (e : Entry) → cond b (Some e) None ≡ None → b ≡ fal
 if_none true e h = cc
 if_none false e h = refl
 
-unless_none : (b : Bool) (e : Entry) → cond b None (Some e) ≡ None → b ≡ true
-unless_none true e h = refl
-unless_none false e h = cc
-
--- the marks of a run in which nothing is to be done
-over_cases : (t st asked p l : Bool) → t ≡ true → (not st && asked) ≡ false → (st && (p && not l)) ≡ false → (l && (true && true)) ≡ false → (not st && (not asked && (t && (true && (true && (true && true)))))) ≡ false → (st && (not p && true)) ≡ true
-over_cases false st asked p l a q b c d = cc
-over_cases true true asked p true a q b c d = cc
-over_cases true true asked true false a q b c d = cc
-over_cases true true asked false false a q b c d = refl
-over_cases true false true p l a q b c d = cc
-over_cases true false false p l a q b c d = cc
-
-registered_none : (h : List Entry) → registration h ≡ None → tried h ≡ true
-unfolding registration
-registered_none h e = unless_none (tried h) _ e
-
+-- what main has to do in a run in which nothing is to be done: it has registered all, no cooperation has a reason or may leave, and no stop comes
 record Untidied (s : SceneParts) (h : List Entry) : Type 0 where
-  unasked : (not (stopped h) && stop_asked h) ≡ false
-  no_reason : has_reason h ≡ false
-  stays : may_leave s h ≡ false
-  busy : (not (stopped h) && (not (stop_asked h) && is_idle s h)) ≡ false
+  all_tried : next_coop s h ≡ None
+  unasked : may_stop s h Asked ≡ false
+  no_auto : may_stop s h Auto ≡ false
+  no_reason : leaving_next s (standing h) ≡ None
+  none_leaves : left_next s h ≡ None
+  busy : may_stop s h Idle ≡ false
 
-tidied_none : (s : SceneParts) (h : List Entry) → tidying s h ≡ None → Untidied s h
-unfolding tidying
-tidied_none s h e =
-    let q = or_else-none (stop_entry s h Asked) (or_else (leaving_entry h) (or_else (left_entry s h) (stop_entry s h Idle))) e in
-    let a = or_else-none (leaving_entry h) (or_else (left_entry s h) (stop_entry s h Idle)) q.1 in
-    let b = or_else-none (left_entry s h) (stop_entry s h Idle) a.1 in
-    record { unasked = if_none (may_stop s h Asked) _ q.0; no_reason = if_none (has_reason h) _ a.0; stays = if_none (may_leave s h) _ b.0; busy = if_none (may_stop s h Idle) _ b.1 }
+untidied : (s : SceneParts) (h : List Entry) → registration s h ≡ None → tidying s h ≡ None → Untidied s h
+unfolding registration tidying
+untidied s h r e =
+    let a = or_else-none (stop_entry s h Asked) _ e in
+    let b = or_else-none (stop_entry s h Auto) _ a.1 in
+    let c = or_else-none (leaving_entry s h) _ b.1 in
+    let d = or_else-none (left_entry s h) (stop_entry s h Idle) c.1 in
+    record {
+      all_tried = option_map-none (registration_of s h) (next_coop s h) r;
+      unasked = if_none (may_stop s h Asked) _ a.0;
+      no_auto = if_none (may_stop s h Auto) _ b.0;
+      no_reason = option_map-none leaving_for (leaving_next s (standing h)) c.0;
+      none_leaves = option_map-none left_for (left_next s h) d.0;
+      busy = if_none (may_stop s h Idle) _ d.1;
+    }
 
-over : (s : SceneParts) (h : List Entry) → waiting s h ≡ [] → running h ≡ [] → tried h ≡ true → Untidied s h → finished s h ≡ true
-unfolding has_reason may_leave is_idle finished
-over s h w r t u =
-    let stays : (leaving h && (true && true)) ≡ false = rw (w, r) at u.stays in
-    let busy : (not (stopped h) && (not (stop_asked h) && (tried h && (true && (true && (true && true)))))) ≡ false = rw (u.no_reason, u.stays, w, r) at u.busy in
-    rw w (over_cases (tried h) (stopped h) (stop_asked h) (present h) (leaving h) t u.unasked u.no_reason stays busy)
+-- a run in which nothing waits or runs is idle, so that it was stopped
+idle : (s : SceneParts) (h : List Entry) → waiting s h ≡ [] → running h ≡ [] → Untidied s h → is_idle s h ≡ true
+unfolding is_idle
+idle s h w r u = rw (u.all_tried, w, r, u.no_reason, u.none_leaves) refl
+
+stopped_case : (st asked auto idle : Bool) → idle ≡ true → (not st && asked) ≡ false → (not st && (not asked && auto)) ≡ false → (not st && (not asked && (not auto && idle))) ≡ false → st ≡ true
+stopped_case true asked auto idle i a b c = refl
+stopped_case false true auto idle i a b c = absurd cc
+stopped_case false false true idle i a b c = absurd cc
+stopped_case false false false true i a b c = absurd cc
+stopped_case false false false false i a b c = absurd cc
+
+was_stopped : (s : SceneParts) (h : List Entry) → waiting s h ≡ [] → running h ≡ [] → Untidied s h → stopped h ≡ true
+was_stopped s h w r u = stopped_case (stopped h) (stop_asked h) (is_auto s h) (is_idle s h) (idle s h w r u) u.unasked u.no_auto u.busy
+
+-- in a run that was stopped whoever has no reason to leave is leaving, or isn't there
+unmarked_reason : (p : Bool) (why : Reason) (rest : Option Reason) → rest ≡ Some why → cond p (Some reason.Parent) rest ≡ None → ⊥
+unmarked_reason true why rest is none = cc
+unmarked_reason false why rest is none = cc
+
+stopped_reason : (s : SceneParts) (st : Standing) (c : CoopId) → st.stopped ≡ true → reason_unmarked s st c ≡ None → ⊥
+stopped_reason s st c was none = unmarked_reason (parent_leaves st (coop_of s c).parent) reason.Shutdown (cond st.stopped (Some reason.Shutdown) None) (rw was refl) none
+
+leaves_case : (s : SceneParts) (st : Standing) (c : CoopId) (l : Bool) → st.leaving c ≡ l → st.stopped ≡ true → st.present c ≡ true → cond (st.present c && not l) (or_else (st.mark c) (reason_unmarked s st c)) None ≡ None → l ≡ true
+leaves_case s st c true is was there none = refl
+leaves_case s st c false is was there none =
+    let no_reason : or_else (st.mark c) (reason_unmarked s st c) ≡ None = rw there at none in
+    absurd (stopped_reason s st c was (or_else-none (st.mark c) (reason_unmarked s st c) no_reason).1)
+
+all_leave : (s : SceneParts) (h : List Entry) (c : CoopId) → Legal s h → stopped h ≡ true → leaving_next s (standing h) ≡ None → present h c ≡ true → leaving h c ≡ true
+all_leave s h c legal was none there =
+    let here = none-first_below (leaving_at s (standing h)) (length s.coops) none c.0 (present_within s h c legal there) in
+    let no_reason : reason_of s (standing h) c ≡ None = option_map-none (with_reason c) (reason_of s (standing h) c) here in
+    leaves_case s (standing h) c (leaving h c) refl was there no_reason
+
+-- and the last of them may leave, as soon as nothing waits or runs
+last_may : (s : SceneParts) (h : List Entry) (cs : List CoopId) (c : CoopId) → Legal s h → waiting s h ≡ [] → running h ≡ [] → leaving h c ≡ true → roster h ≡ cs ++ c ∷ [] → may_leave s h c ≡ true
+unfolding may_leave
+last_may s h cs c legal w r l is = rw (w, r, l, last_childless s h cs c legal is) refl
+
+none_at : (b : Bool) (c : CoopId) → cond b (Some c) None ≡ None → b ≡ false
+none_at true c e = absurd cc
+none_at false c e = refl
+
+last_stays : (s : SceneParts) (h : List Entry) (c : CoopId) → Legal s h → left_next s h ≡ None → present h c ≡ true → may_leave s h c ≡ false
+unfolding left_next
+last_stays s h c legal none there = none_at (may_leave s h c) c (none-first_below (left_at s h) (length s.coops) none c.0 (present_within s h c legal there))
+
+-- so that none is there
+nobody_left : (s : SceneParts) (h : List Entry) → Legal s h → waiting s h ≡ [] → running h ≡ [] → stopped h ≡ true → Untidied s h → Last (roster h) → roster h ≡ []
+nobody_left s h legal w r was u (nobody is) = is
+nobody_left s h legal w r was u (somebody front c is) =
+    let there : present h c ≡ true = ap (list_any (is_same c)) is ∙ last_passes (is_same c) front c (eq-eqb c.0 c.0 refl) in
+    let leaves : leaving h c ≡ true = all_leave s h c legal was u.no_reason there in
+    absurd (false≢true (sym (last_stays s h c legal u.none_leaves there) ∙ last_may s h front c legal w r leaves is))
+
+over : (s : SceneParts) (h : List Entry) → Legal s h → waiting s h ≡ [] → running h ≡ [] → Untidied s h → finished s h ≡ true
+unfolding finished
+over s h legal w r u =
+    let was : stopped h ≡ true = was_stopped s h w r u in
+    rw (was, nobody_left s h legal w r was u (last_of (roster h)), w) refl
 
 moves_none : (s : SceneParts) (h : List Entry) → IsScene s → Legal s h → first s h ≡ None → (l : ℕ) → l < lanes s → running_at lane_number h l ≡ []
 unfolding first
@@ -273,13 +345,13 @@ pub goes_on : (s : SceneParts) (h : List Entry) → IsScene s → Legal s h → 
 goes_on s h scene legal none =
     let free = moves_none s h scene legal none in
     let quiet : running h ≡ [] = running_nowhere s h legal free in
-    let parts = or_else-none (registration h) _ (sym (first-free s h free) ∙ none) in
+    let parts = or_else-none (registration s h) _ (sym (first-free s h free) ∙ none) in
     let rest = or_else-none (tidying s h) _ parts.1 in
     let unpicked : (l : ℕ) → l < lanes s → find (may_take s h (record { 0 = l })) (waiting s h) ≡ None =
     λ l k.
     let entry : taking_entry s h (record { 0 = l }) ≡ None = none-first_below (λ i. taking_entry s h (record { 0 = i })) (lanes s) rest.1 l k in
     sym (pick-free s h (record { 0 = l }) (ap is_empty (free l k))) ∙ option_map-none _ (pick s h (record { 0 = l })) entry in
-    over s h (nothing_waits s h scene quiet unpicked) quiet (registered_none h parts.0) (tidied_none s h rest.0)
+    over s h legal (nothing_waits s h scene quiet unpicked) quiet (untidied s h parts.0 rest.0)
 
 -- a simulation that stops before the run is over stops at a first step that doesn't fit
 end_fits : (s : SceneParts) (limit : ℕ) (h : List Entry) (x : Entry) (b : Bool) → fits s limit h x ≡ b → cond b (Some x) None ≡ None → fits s limit h x ≡ false

@@ -1,43 +1,55 @@
--- Cooperations: what their entries queue, and that agents start first and finish last.
-use Rattle.std.proofs.Common.{◌≡◌, ℕ, ◌+◌, ◌<◌, List, [], ◌∷◌, ◌++◌, length, Bool, true, false, cond, inl, inr, map, Option, Some, None, arith, refl, sym, ◌∙◌, ap, subst}
-use Rattle.std.specs.Prelude.{◌==◌}
-use Rattle.std.specs.List.{filter, last_or, AllByRecursion}
-use Rattle.std.proofs.lemmas.List.{append-nil}
+-- Cooperations: what their entries queue, that children leave before their parent, and that agents start first and finish last.
+use Rattle.std.proofs.Common.{◌≡◌, ℕ, ◌+◌, ◌<◌, ◌≤◌, List, [], ◌∷◌, ◌++◌, length, Bool, true, false, ◌||◌, cond, inl, inr, map, Option, Some, None, arith, refl, sym, ◌∙◌, ap, subst}
+use Rattle.std.specs.Prelude.{◌==◌, nat_le}
+use Rattle.std.specs.List.{filter, last_or, list_any, AllByRecursion}
+use Rattle.std.proofs.lemmas.List.{append-nil, get_or_past}
 use Rattle.std.proofs.lemmas.List.Elements.{filter-append}
-use Rattle.std.proofs.lemmas.Bool.{cases_Bool, and_parts, ne_eqb, eq-eqb, false≢true}
+use Rattle.std.proofs.lemmas.Bool.{cases_Bool, cases_lt, or_cases, and_parts, ne_eqb, eq-eqb, eqb-true, le-leb, lt-leb, not-true, false≢true, false_from_ne_true}
 use Rattle.std.proofs.lemmas.Option.{same_Some}
 use Rattle.so_ids.specs.declared.AgentId.{AgentId}
 use Rattle.so_ids.specs.declared.CoopId.{CoopId}
 use Rattle.so_ids.specs.declared.PartyId.{PartyId}
 use Rattle.so_ids.specs.declared.Reason.{Reason}
+use Rattle.so_ids.specs.declared.Refusal.{Refusal}
 use Rattle.so_ids.specs.declared.MboxId.{MboxId}
 use Rattle.so_ids.specs.declared.MsgId.{MsgId}
-use Rattle.so_ids.specs.declared.Place.{Place}
 use Rattle.so_ids.specs.declared.Payload.{Payload}
-use Rattle.so_code.specs.declared.effect.Answer.{Answer}
 use Rattle.so_code.specs.declared.effect.Effect.{Effect}
-use Rattle.so_lists.specs.Lists.{is_empty, head}
+use Rattle.so_code.specs.declared.effect.Effect.TheVariants as effect
+use Rattle.so_code.specs.declared.effect.Answer.{Answer}
+use Rattle.so_code.specs.declared.effect.Answer.TheVariants as answer
+use Rattle.so_lists.specs.Lists.{is_empty}
 use Rattle.so_lists.proofs.First.{empty-list}
 use Rattle.so_lists.proofs.Filters.{each-weaker, each-filter, filter_keeps, filter_none}
+use Rattle.so_lists.proofs.Any.{any-each_below}
+use Rattle.so_scene.specs.declared.parts.CoopDef.{CoopDef}
 use Rattle.so_scene.specs.declared.parts.SceneParts.{SceneParts}
-use Rattle.so_scene.specs.Parts.{agents_of}
+use Rattle.so_scene.specs.Checked.{IsScene}
+use Rattle.so_scene.specs.Parts.{no_coop, agent_of, agents_of, coop_of}
+use Rattle.so_scene.specs.Delivery.{events}
+use Rattle.so_scene.specs.Cooperations.{coop_number, is_child, has_child}
+use Rattle.so_scene.proofs.AgentLaws.{is_agent, agents_are_of, among_agents}
 use Rattle.so_history.specs.declared.entry.Entry.{Entry}
 use Rattle.so_history.specs.declared.entry.EntryKind.{EntryKind}
-use Rattle.so_history.specs.declared.entry.EntryKind.TheVariants.{Register, Begin, Skip, Act, End, Leaving, Left, Stop, Abort}
+use Rattle.so_history.specs.declared.entry.EntryKind.TheVariants.{Register, Refuse, Act, Leaving, Left}
 use Rattle.so_history.specs.declared.entry.Demand.{Demand}
 use Rattle.so_history.specs.declared.entry.DemandKind.{DemandKind}
 use Rattle.so_history.specs.declared.entry.DemandKind.TheVariants.{Start, Finish}
 use Rattle.so_history.specs.Places.{entry_at, before}
-use Rattle.so_history.specs.Demands.{ask_each, ask, asked_by, demands_from, queued_by, demands, waiting}
-use Rattle.so_history.specs.Turns.{running}
-use Rattle.so_history.specs.Delivery.{registered, delivered}
-use Rattle.so_scene.specs.Delivery.{events}
-use Rattle.so_history.specs.Coops.{the_coop, tried, tried_by, present, present_by, leaving, leaving_by, stopped, has_reason}
-use Rattle.so_history.specs.Steps.{may_leave, IsLeaving, IsRow, Legal}
-use Rattle.so_history.specs.Facts.{StandsAt, queued_at, WholeCoops, demands_for, StartsAndFinishes}
-use Rattle.so_history.proofs.AskedLaws.{effect_asks, delivered_of, events_leaving, events_absent}
+use Rattle.so_history.specs.Leaves.{is_of}
+use Rattle.so_history.specs.Demands.{Asked, ask_each, ask, asked_by_effect, asked_by, demands_from, queued_by, demands}
+use Rattle.so_history.specs.Delivery.{is_leaving, delivered}
+use Rattle.so_history.specs.Coops.{present, leaving, leaving_by, standing}
+use Rattle.so_history.specs.Steps.{may_leave, waiting_for, running_for, IsRow, Legal}
+use Rattle.so_history.specs.Finishing.{IsQuiet}
+use Rattle.so_history.specs.Facts.{StandsAt, RegistersAt, by_main, by_act, RefusesAt, queued_at, LeftBetween, WholeCoops, demands_for, demands_since, IsFirst, IsLast, StartsAndFinishes}
+use Rattle.so_history.proofs.AskedLaws.{effect_asks, asked_of_each, delivered_open}
 use Rattle.so_history.proofs.DemandLaws.{queued_here, demands_early}
-use Rattle.so_history.proofs.PlaceLaws.{Where, is_last, is_early, place_of_entry, before-last, before-early, steps_at}
+use Rattle.so_history.proofs.PlaceLaws.{Where, is_last, is_early, place_of_entry, inside, entry_at-last, before-last, before-early, steps_at}
+use Rattle.so_history.proofs.PresenceLaws.{stands_later, stood_before, Registered, now, earlier, registered_when, registers_nowhere, registers_before, present_now, goes_left, begins_leaving, leaves_present}
+use Rattle.so_history.proofs.RosterLaws.{joins, joins_by_effect, admitted_open, joins_admitted, leaving_present}
+
+-- ---- what is queued at a place
 
 -- the demands that the entry at a place queued are those that it queues
 queued_last : (s : SceneParts) (e : Entry) (h : List Entry) → queued_at s (e ∷ h) (length h) ≡ queued_by s h e.kind
@@ -71,249 +83,308 @@ asked_at s h place kind legal stands =
     let at = steps_at s h place stands.entry legal stands.here in
     queued s h place stands.entry stands.here ∙ (ap (λ k. queued_by s (before h place) k) stands.is ∙ ap (λ n. demands_from n 0 (asked_by s (before h place) kind)) at.length_is)
 
-quiet : (s : SceneParts) (h : List Entry) → may_leave s h ≡ true → (waiting s h ≡ []) × (running h ≡ [])
-unfolding may_leave
-quiet s h may =
-    let parts = and_parts (is_empty (waiting s h)) (is_empty (running h)) (and_parts (leaving h) _ may).1 in
-    (empty-list (waiting s h) parts.0, empty-list (running h) parts.1)
+started_at : (s : SceneParts) (h : List Entry) (place : ℕ) (coop : CoopId) → Legal s h → RegistersAt h place coop → queued_at s h place ≡ demands_from place 0 (ask_each Start (agents_of s coop))
+started_at s h place coop legal (by_main it) = asked_at s h place (Register coop) legal it
+started_at s h place coop legal (by_act turn it) = asked_at s h place (Act turn (effect.Register coop) answer.Okay) legal it
 
-left_row : (s : SceneParts) (h : List Entry) (place : ℕ) (coop : CoopId) → Legal s h → StandsAt h place (Left coop) → (Legal s (before h place)) × (may_leave s (before h place) ≡ true)
-left_row s h place coop legal stands =
+refused_at : (s : SceneParts) (h : List Entry) (place : ℕ) (coop : CoopId) (cause : Refusal) → Legal s h → RefusesAt h place coop cause → queued_at s h place ≡ []
+refused_at s h place coop cause legal (RefusesAt.by_main it) = asked_at s h place (Refuse coop cause) legal it
+refused_at s h place coop cause legal (RefusesAt.by_act turn it) = asked_at s h place (Act turn (effect.Register coop) (answer.Refused cause)) legal it
+
+-- ---- what may leave
+
+-- the cooperation is leaving, nothing is left of its agents, and no cooperation that is present names it as its parent
+pub record MayLeave (s : SceneParts) (h : List Entry) (c : CoopId) : Type 0 where
+  pub goes : leaving h c ≡ true
+  pub quiet : IsQuiet s h c
+  pub childless : has_child s (standing h) c ≡ false
+
+pub may_leave_parts : (s : SceneParts) (h : List Entry) (c : CoopId) → may_leave s h c ≡ true → MayLeave s h c
+unfolding may_leave
+may_leave_parts s h c may =
+    let one = and_parts (leaving h c) _ may in
+    let two = and_parts (is_empty (waiting_for s h c)) _ one.1 in
+    let three = and_parts (is_empty (running_for s h c)) _ two.1 in
+    record {
+      goes = one.0;
+      quiet = record { waiting = empty-list (waiting_for s h c) two.0; running = empty-list (running_for s h c) three.0 };
+      childless = not-true _ three.1;
+    }
+
+-- where a cooperation has left, before that
+record LeftRow (s : SceneParts) (h : List Entry) (place : ℕ) (c : CoopId) : Type 0 where
+  legal : Legal s (before h place)
+  length_is : length (before h place) ≡ place
+  within : place < length h
+  may : MayLeave s (before h place) c
+
+left_row : (s : SceneParts) (h : List Entry) (place : ℕ) (c : CoopId) → Legal s h → StandsAt h place (Left c) → LeftRow s h place c
+left_row s h place c legal stands =
     let at = steps_at s h place stands.entry legal stands.here in
-    let row : IsRow s (before h place) stands.entry.by (Left coop) = subst (IsRow s (before h place) stands.entry.by) stands.is at.step.row in
-    (at.legal, row.may)
+    let row : IsRow s (before h place) stands.entry.by (Left c) = subst (IsRow s (before h place) stands.entry.by) stands.is at.step.row in
+    record {
+      legal = at.legal;
+      length_is = at.length_is;
+      within = inside h place stands.entry stands.here;
+      may = may_leave_parts s (before h place) c row.may;
+    }
+
+-- ---- children
+
+-- no child of a cooperation without children is present
+past_has_none : (c : CoopDef) (parent : CoopId) → c ≡ no_coop → c.parent ≡ Some parent → ⊥
+past_has_none c parent past is = let none : None ≡ Some parent = sym (ap (λ (d : CoopDef). d.parent) past) ∙ is in cc
+
+child_known : (s : SceneParts) (child parent : CoopId) → (coop_of s child).parent ≡ Some parent → child.0 < length s.coops
+child_known s child parent is =
+    elim (cases_lt child.0 (length s.coops)) [
+      | inl there ↦ there
+      | inr past ↦ absurd (past_has_none (coop_of s child) parent (get_or_past s.coops child.0 no_coop past) is)
+    ]
+
+child_of : (s : SceneParts) (h : List Entry) (child parent : CoopId) → (coop_of s child).parent ≡ Some parent → present h child ≡ true → is_child s (standing h) parent child ≡ true
+child_of s h child parent is there = rw (there, is) (eq-eqb parent.0 parent.0 refl)
+
+child_absent : (s : SceneParts) (h : List Entry) (child parent : CoopId) → (coop_of s child).parent ≡ Some parent → has_child s (standing h) parent ≡ false → present h child ≡ false
+child_absent s h child parent is none =
+    false_from_ne_true (present h child)
+    (λ there. false≢true (sym none ∙ any-each_below (is_child s (standing h) parent) coop_number (length s.coops) child.0 (child_known s child parent is) (child_of s h child parent is there)))
+
+-- one that was registered and isn't present has left since
+left_later : (e : Entry) (h : List Entry) (c : CoopId) (i : ℕ) → LeftBetween h c i (length h) → LeftBetween (e ∷ h) c i (length (e ∷ h))
+left_later e h c i it = record { place = it.place; later = it.later; earlier = omega (arith, it.earlier); left = stands_later e h it.place (Left c) it.earlier it.left }
+
+left_now : (e : Entry) (h : List Entry) (c : CoopId) (i : ℕ) → i < length h → e.kind ≡ Left c → LeftBetween (e ∷ h) c i (length (e ∷ h))
+left_now e h c i l is = record { place = length h; later = l; earlier = omega arith; left = record { entry = e; here = entry_at-last e h; is = is } }
+
+left_case : (e : Entry) (h : List Entry) (i : ℕ) (c : CoopId) → Registered e h i c → present (e ∷ h) c ≡ false → (RegistersAt h i c → present h c ≡ false → LeftBetween h c i (length h)) → LeftBetween (e ∷ h) c i (length (e ∷ h))
+left_case e h i c (now at its) gone ih = absurd (false≢true (sym gone ∙ present_now e h c its))
+left_case e h i c (earlier early there) gone ih =
+    elim (cases_Bool (present h c)) [
+      | inl was ↦ left_now e h c i early (goes_left e h c was gone)
+      | inr was_not ↦ left_later e h c i (ih there was_not)
+    ]
+
+left_since : (h : List Entry) (i : ℕ) (c : CoopId) → RegistersAt h i c → present h c ≡ false → LeftBetween h c i (length h)
+left_since [] i c it gone = absurd (registers_nowhere i c it)
+left_since (e ∷ h) i c it gone = left_case e h i c (registered_when e h i c it) gone (left_since h i c)
+
+children_left : (s : SceneParts) (h : List Entry) (i j : ℕ) (child parent : CoopId) → Legal s h → (coop_of s child).parent ≡ Some parent → RegistersAt h i child → StandsAt h j (Left parent) → i < j → LeftBetween h child i j
+children_left s h i j child parent legal is registers stands l =
+    let row = left_row s h j parent legal stands in
+    let it = left_since (before h j) i child (registers_before h j i child l row.within registers) (child_absent s (before h j) child parent is row.may.childless) in
+    let early : it.place < j = omega (arith, it.earlier, row.length_is) in
+    record { place = it.place; later = it.later; earlier = early; left = stood_before h j it.place (Left child) early row.within it.left }
 
 pub whole_coops : (s : SceneParts) (h : List Entry) → Legal s h → WholeCoops s h
 whole_coops s h legal = record {
-  starts = λ place coop stands. asked_at s h place (Register coop) legal stands;
+  starts = λ place coop registers. started_at s h place coop legal registers;
+  refused = λ place coop cause refuses. refused_at s h place coop cause legal refuses;
   finishes = λ place coop reason stands. asked_at s h place (Leaving coop reason) legal stands;
-  leaves = λ place coop stands. quiet s (before h place) (left_row s h place coop legal stands).1;
+  leaves = λ place coop stands. (left_row s h place coop legal stands).may.quiet;
+  children = λ i j child parent is registers stands l. children_left s h i j child parent legal is registers stands l;
 }
 
--- what asks nothing of an agent asks nothing of it whatever is asked
-abbrev asked_of : AgentId → ℕ → ℕ → DemandKind → List AgentId → List Demand
-asked_of a place k kind agents = filter (λ d. d.agent.0 == a.0) (demands_from place k (ask_each kind agents))
+-- ---- what an entry asks
 
-cond_none : (b : Bool) (x y : Demand) (xs ys : List Demand) → cond b (x ∷ xs) xs ≡ [] → (xs ≡ [] → ys ≡ []) → cond b (y ∷ ys) ys ≡ []
-cond_none true x y xs ys e f = absurd cc
-cond_none false x y xs ys e f = f e
+pub data AsksSo (s : SceneParts) (h : List Entry) (kind : EntryKind) (asked : List Asked) : Type 0 where
+  of_none : asked ≡ [] → AsksSo s h kind asked
+  to_handle : (mbox : MboxId) (msg : MsgId) (payload : Payload) → asked ≡ map ask (events (delivered s h mbox msg payload)) → AsksSo s h kind asked
+  to_start : (c : CoopId) → joins kind ≡ Some c → asked ≡ ask_each Start (agents_of s c) → AsksSo s h kind asked
+  to_finish : (c : CoopId) (reason : Reason) → kind ≡ Leaving c reason → asked ≡ ask_each Finish (agents_of s c) → AsksSo s h kind asked
 
-none_of : (a : AgentId) (p k q m : ℕ) (u v : DemandKind) (agents : List AgentId) → asked_of a p k u agents ≡ [] → asked_of a q m v agents ≡ []
-none_of a p k q m u v [] e = refl
-none_of a p k q m u v (x ∷ agents) e = cond_none (x.0 == a.0) _ _ _ _ e (none_of a p (k + 1) q (m + 1) u v agents)
+pub asks_so : (s : SceneParts) (h : List Entry) (kind : EntryKind) → AsksSo s h kind (asked_by s h kind)
+asks_so s h (Register c) = to_start c refl refl
+asks_so s h (Leaving c reason) = to_finish c reason refl refl
+asks_so s h (Act turn e a) =
+    effect_asks s h (AsksSo s h (Act turn e a)) (of_none refl) (λ mbox msg payload. to_handle mbox msg payload refl) e a
+    (λ c is okay. to_start c (ap (λ x. joins_by_effect x a) is ∙ ap (joins_by_effect (effect.Register c)) okay) refl)
+asks_so s h other = of_none refl
 
--- nor is anything asked of it where all that are asked are among them
-stranger_case : (b : Bool) (x : Demand) (xs : List Demand) → cond b (x ∷ xs) xs ≡ [] → (b ≡ false) × (xs ≡ [])
-stranger_case true x xs e = absurd cc
-stranger_case false x xs e = (refl, e)
+-- the agents of one cooperation are of no other
+same_coop : (c d : CoopId) → c.0 ≡ d.0 → c ≡ d
+same_coop c d e = ap (λ n. record { 0 = n }) e
 
-not_among : (a : AgentId) (p k : ℕ) (u : DemandKind) (agents : List AgentId) → asked_of a p k u agents ≡ [] → AllByRecursion (λ (x : AgentId). (x.0 == a.0) ≡ false) agents
-not_among a p k u [] e = tt
-not_among a p k u (x ∷ agents) e = let both = stranger_case (x.0 == a.0) _ _ e in (both.0, not_among a p (k + 1) u agents both.1)
+others_agents : (s : SceneParts) (c d : CoopId) → IsScene s → (d ≡ c → ⊥) → AllByRecursion (λ (a : AgentId). is_of s c a ≡ false) (agents_of s d)
+others_agents s c d scene other =
+    each-weaker (λ (a : AgentId). is_of s d a ≡ true) (λ (a : AgentId). is_of s c a ≡ false)
+    (λ a is. ne_eqb (agent_of s a).coop.0 c.0 (λ same. other (same_coop d c (sym (eqb-true (agent_of s a).coop.0 d.0 is) ∙ same))))
+    (agents_of s d) (agents_are_of s d scene)
 
-abbrev IsStranger : SceneParts → AgentId → Type 0
-IsStranger s a = asked_of a 0 0 Start (agents_of s the_coop) ≡ []
+pub others_asked : (s : SceneParts) (c d : CoopId) (kind : DemandKind) (place k : ℕ) → IsScene s → (d ≡ c → ⊥) → AllByRecursion (λ (d : Demand). is_of s c d.agent ≡ false) (demands_from place k (ask_each kind (agents_of s d)))
+others_asked s c d kind place k scene other = asked_of_each (λ a. is_of s c a ≡ false) place k kind (agents_of s d) (others_agents s c d scene other)
 
-demands_for-cons : (s : SceneParts) (e : Entry) (h : List Entry) (a : AgentId) → demands_for s (e ∷ h) a ≡ demands_for s h a ++ filter (λ d. d.agent.0 == a.0) (queued_by s h e.kind)
-unfolding demands
-demands_for-cons s e h a = filter-append (λ d. d.agent.0 == a.0) (demands s h) (queued_by s h e.kind)
+-- while a cooperation is leaving, nothing is asked of its agents
+not_reached : (s : SceneParts) (h : List Entry) (c : CoopId) (a : AgentId) → leaving h c ≡ true → is_leaving s h a ≡ false → is_of s c a ≡ false
+not_reached s h c a l reached =
+    ne_eqb (agent_of s a).coop.0 c.0
+    (λ same. false≢true (sym reached ∙ (ap (leaving h) (same_coop (agent_of s a).coop c same) ∙ l)))
 
-coop_in : EntryKind → CoopId
-coop_in (Leaving coop reason) = coop
-coop_in other = the_coop
+leaving_case : (s : SceneParts) (h : List Entry) (by : PartyId) (kind : EntryKind) (c : CoopId) (asked : List Asked) → IsScene s → Legal s h → IsRow s h by kind → leaving h c ≡ true → AsksSo s h kind asked → AllByRecursion (λ (d : Demand). is_of s c d.agent ≡ false) (demands_from (length h) 0 asked)
+leaving_case s h by kind c asked scene legal row l (of_none is) = rw is tt
+leaving_case s h by kind c asked scene legal row l (to_handle mbox msg payload is) =
+    rw is (each-weaker (λ (d : Demand). is_leaving s h d.agent ≡ false) (λ (d : Demand). is_of s c d.agent ≡ false) (λ d reached. not_reached s h c d.agent l reached) _ (delivered_open s h mbox msg payload (length h) 0))
+leaving_case s h by kind c asked scene legal row l (to_start d its is) =
+    let absent : present h d ≡ false = (admitted_open s (standing h) d (joins_admitted s h by kind d row its)).absent in
+    rw is (others_asked s c d Start (length h) 0 scene (λ same. false≢true (sym absent ∙ (ap (present h) same ∙ leaving_present s h c legal l))))
+leaving_case s h by kind c asked scene legal row l (to_finish d reason its is) =
+    let not_yet : leaving h d ≡ false = (leaves_present s h by d reason (subst (IsRow s h by) its row)).1 in
+    rw is (others_asked s c d Finish (length h) 0 scene (λ same. false≢true (sym not_yet ∙ (ap (leaving h) same ∙ l))))
 
-leaving_coop : (s : SceneParts) (h : List Entry) (by : PartyId) (coop : CoopId) (reason : Reason) → IsLeaving h by (Leaving coop reason) → coop ≡ the_coop
-unfolding coop_in
-leaving_coop s h by coop reason row = ap coop_in row.is
+pub none_asked : (s : SceneParts) (h : List Entry) (by : PartyId) (kind : EntryKind) (c : CoopId) → IsScene s → Legal s h → IsRow s h by kind → leaving h c ≡ true → AllByRecursion (λ (d : Demand). is_of s c d.agent ≡ false) (queued_by s h kind)
+none_asked s h by kind c scene legal row l = leaving_case s h by kind c (asked_by s h kind) scene legal row l (asks_so s h kind)
 
-registered_others : (s : SceneParts) (h : List Entry) (a : AgentId) → IsStranger s a → AllByRecursion (λ (x : AgentId). (x.0 == a.0) ≡ false) (registered s h)
-registered_others s h a none =
-    elim (cases_Bool (present h)) [
-      | inl y ↦ rw y (not_among a 0 0 Start (agents_of s the_coop) none)
-      | inr f ↦ rw f tt
-    ]
+-- ---- the demands of an agent
 
-none_delivered : (s : SceneParts) (h : List Entry) (a : AgentId) (mbox : MboxId) (msg : MsgId) (payload : Payload) → IsStranger s a → filter (λ (d : Demand). d.agent.0 == a.0) (demands_from (length h) 0 (map ask (events (delivered s h mbox msg payload)))) ≡ []
-none_delivered s h a mbox msg payload none =
-    filter_none (λ (d : Demand). d.agent.0 == a.0) _ (delivered_of s h (λ x. (x.0 == a.0) ≡ false) mbox msg payload (length h) 0 (registered_others s h a none))
+abbrev pub is_for : AgentId → Demand → Bool
+is_for a d = d.agent.0 == a.0
 
--- to whom nothing was asked, nothing is asked
-none_asked : (s : SceneParts) (h : List Entry) (by : PartyId) (kind : EntryKind) (a : AgentId) → IsRow s h by kind → IsStranger s a → filter (λ d. d.agent.0 == a.0) (queued_by s h kind) ≡ []
-none_asked s h by (Register coop) a row none = ap (λ c. asked_of a (length h) 0 Start (agents_of s c)) row.the_one ∙ none_of a 0 0 (length h) 0 Start Start (agents_of s the_coop) none
-none_asked s h by (Leaving coop reason) a row none = ap (λ c. asked_of a (length h) 0 Finish (agents_of s c)) (leaving_coop s h by coop reason row) ∙ none_of a 0 0 (length h) 0 Start Finish (agents_of s the_coop) none
-none_asked s h by (Begin lane demand opening agent) a row none = refl
-none_asked s h by (Act turn effect answer) a row none =
-    effect_asks s h (λ asked. filter (λ (d : Demand). d.agent.0 == a.0) (demands_from (length h) 0 asked) ≡ []) refl (λ mbox msg payload. none_delivered s h a mbox msg payload none) effect
-none_asked s h by (End turn) a row none = refl
-none_asked s h by (Left coop) a row none = refl
-none_asked s h by (Skip lane demand why) a row none = refl
-none_asked s h by (Stop cause) a row none = refl
-none_asked s h by (Abort cause) a row none = refl
+same_agent : (a b : AgentId) → a.0 ≡ b.0 → a ≡ b
+same_agent a b e = ap (λ n. record { 0 = n }) e
 
-strangers : (s : SceneParts) (h : List Entry) (a : AgentId) → Legal s h → IsStranger s a → demands_for s h a ≡ []
-unfolding demands
-strangers s [] a legal none = refl
-strangers s (e ∷ h) a legal none = demands_for-cons s e h a ∙ rw (strangers s h a legal.0 none, none_asked s h e.by e.kind a legal.1.row none) refl
+not_its : (s : SceneParts) (c : CoopId) (a : AgentId) (ds : List Demand) → is_of s c a ≡ true → AllByRecursion (λ (d : Demand). is_of s c d.agent ≡ false) ds → AllByRecursion (λ d. is_for a d ≡ false) ds
+not_its s c a ds its others =
+    each-weaker (λ (d : Demand). is_of s c d.agent ≡ false) (λ d. is_for a d ≡ false)
+    (λ d other. ne_eqb d.agent.0 a.0 (λ same. false≢true (sym other ∙ (ap (is_of s c) (same_agent d.agent a same) ∙ its)))) ds others
 
--- an agent of a cooperation that is there was asked to start
-append_none : {X : Type 0} (xs ys : List X) → xs ++ ys ≡ [] → (xs ≡ []) × (ys ≡ [])
-append_none [] ys e = (refl, e)
-append_none (x ∷ xs) ys e = absurd cc
+-- an agent of a cooperation of which nothing is asked is asked nothing
+pub none_for : (s : SceneParts) (c : CoopId) (a : AgentId) (ds : List Demand) → is_of s c a ≡ true → AllByRecursion (λ (d : Demand). is_of s c d.agent ≡ false) ds → filter (is_for a) ds ≡ []
+none_for s c a ds its others = filter_none (is_for a) ds (not_its s c a ds its others)
 
-asked_case : (s : SceneParts) (h : List Entry) (by : PartyId) (kind : EntryKind) (a : AgentId) → IsRow s h by kind → present_by kind (present h) ≡ true → filter (λ d. d.agent.0 == a.0) (queued_by s h kind) ≡ [] → (present h ≡ true → IsStranger s a) → IsStranger s a
-asked_case s h by (Register coop) a row p none ih = none_of a (length h) 0 0 0 Start Start (agents_of s the_coop) (sym (ap (λ c. asked_of a (length h) 0 Start (agents_of s c)) row.the_one) ∙ none)
-asked_case s h by (Left coop) a row p none ih = absurd cc
-asked_case s h by (Leaving coop reason) a row p none ih = ih p
-asked_case s h by (Begin lane demand opening agent) a row p none ih = ih p
-asked_case s h by (Act turn effect answer) a row p none ih = ih p
-asked_case s h by (End turn) a row p none ih = ih p
-asked_case s h by (Skip lane demand why) a row p none ih = ih p
-asked_case s h by (Stop cause) a row p none ih = ih p
-asked_case s h by (Abort cause) a row p none ih = ih p
-
-present_asked : (s : SceneParts) (h : List Entry) (a : AgentId) → Legal s h → present h ≡ true → demands_for s h a ≡ [] → IsStranger s a
-unfolding present
-present_asked s [] a legal p none = absurd cc
-present_asked s (e ∷ h) a legal p none =
-    let parts = append_none (demands_for s h a) _ (sym (demands_for-cons s e h a) ∙ none) in
-    asked_case s h e.by e.kind a legal.1.row p parts.1 (λ q. present_asked s h a legal.0 q parts.0)
-
--- an agent's first demand is to start
+-- what is asked of each agent of a cooperation is asked of any agent of it, and of that kind
 asked_kind : (kind : DemandKind) (place k : ℕ) (agents : List AgentId) → AllByRecursion (λ d. d.kind ≡ kind) (demands_from place k (ask_each kind agents))
 asked_kind kind place k [] = tt
 asked_kind kind place k (x ∷ agents) = (refl, asked_kind kind place (k + 1) agents)
 
-head-append : {X : Type 0} (P : X → Type 0) (xs ys : List X) (d : X) → ((x : X) → head xs ≡ Some x → P x) → (xs ≡ [] → head ys ≡ Some d → P d) → head (xs ++ ys) ≡ Some d → P d
-head-append P [] ys d f g e = g refl e
-head-append P (x ∷ xs) ys d f g e = f d e
-
-head_all : {X : Type 0} (P : X → Type 0) (xs : List X) (d : X) → AllByRecursion P xs → head xs ≡ Some d → P d
-head_all P [] d a e = absurd cc
-head_all P (x ∷ xs) d a e = subst P (same_Some x d e) a.0
-
-head_none : {X : Type 0} (xs : List X) (d : X) → xs ≡ [] → head xs ≡ Some d → ⊥
-head_none [] d e f = cc
-head_none (x ∷ xs) d e f = cc
-
-reason_present : (h : List Entry) → has_reason h ≡ true → present h ≡ true
-unfolding has_reason
-reason_present h r = (and_parts (present h) _ (and_parts (stopped h) _ r).1).0
-
--- a message reaches only who was asked something before
-none_sent : (s : SceneParts) (h : List Entry) (by : PartyId) (turn : Place) (effect : Effect) (answer : Answer) (a : AgentId) → Legal s h → IsRow s h by (Act turn effect answer) → demands_for s h a ≡ [] → filter (λ d. d.agent.0 == a.0) (queued_by s h (Act turn effect answer)) ≡ []
-none_sent s h by turn effect answer a legal row none =
-    elim (cases_Bool (present h)) [
-      | inl y ↦ none_asked s h by (Act turn effect answer) a row (present_asked s h a legal y none)
-      | inr f ↦ effect_asks s h (λ asked. filter (λ (d : Demand). d.agent.0 == a.0) (demands_from (length h) 0 asked) ≡ []) refl (λ mbox msg payload. rw (events_absent s h mbox msg payload f) refl) effect
+some_case : (b r : Bool) (a x : AgentId) (d : Demand) (ds : List Demand) → (x.0 == a.0) ≡ b → (is_agent a x || r) ≡ true → cond b (d ∷ ds) ds ≡ [] → (r ≡ true → ds ≡ [] → ⊥) → ⊥
+some_case true r a x d ds is there none ih = cc
+some_case false r a x d ds is there none ih =
+    elim (or_cases (is_agent a x) r there) [
+      | inl its ↦ false≢true (sym is ∙ eq-eqb x.0 a.0 (sym (eqb-true a.0 x.0 its)))
+      | inr later ↦ ih later none
     ]
 
-first_case : (s : SceneParts) (h : List Entry) (by : PartyId) (kind : EntryKind) (a : AgentId) (d : Demand) → Legal s h → IsRow s h by kind → demands_for s h a ≡ [] → head (filter (λ x. x.agent.0 == a.0) (queued_by s h kind)) ≡ Some d → d.kind ≡ Start
-first_case s h by (Register coop) a d legal row none e = head_all (λ (x : Demand). x.kind ≡ Start) _ d (each-filter (λ (x : Demand). x.kind ≡ Start) (λ x. x.agent.0 == a.0) _ (asked_kind Start (length h) 0 (agents_of s coop))) e
-first_case s h by (Leaving coop reason) a d legal row none e =
-    absurd (head_none _ d (none_asked s h by (Leaving coop reason) a row (present_asked s h a legal (reason_present h row.reason) none)) e)
-first_case s h by (Begin lane demand opening agent) a d legal row none e = absurd cc
-first_case s h by (Act turn effect answer) a d legal row none e = absurd (head_none _ d (none_sent s h by turn effect answer a legal row none) e)
-first_case s h by (End turn) a d legal row none e = absurd cc
-first_case s h by (Left coop) a d legal row none e = absurd cc
-first_case s h by (Skip lane demand why) a d legal row none e = absurd cc
-first_case s h by (Stop cause) a d legal row none e = absurd cc
-first_case s h by (Abort cause) a d legal row none e = absurd cc
+asked_some : (a : AgentId) (kind : DemandKind) (place k : ℕ) (agents : List AgentId) → list_any (is_agent a) agents ≡ true → filter (is_for a) (demands_from place k (ask_each kind agents)) ≡ [] → ⊥
+asked_some a kind place k [] there none = false≢true there
+asked_some a kind place k (x ∷ agents) there none = some_case (x.0 == a.0) (list_any (is_agent a) agents) a x _ _ refl there none (asked_some a kind place (k + 1) agents)
 
-starts_first : (s : SceneParts) (h : List Entry) (a : AgentId) (d : Demand) → Legal s h → head (demands_for s h a) ≡ Some d → d.kind ≡ Start
-unfolding demands
-starts_first s [] a d legal e = absurd cc
-starts_first s (x ∷ h) a d legal e =
-    head-append (λ (y : Demand). y.kind ≡ Start) (demands_for s h a) (filter (λ y. y.agent.0 == a.0) (queued_by s h x.kind)) d
-    (λ y f. starts_first s h a y legal.0 f)
-    (λ none f. first_case s h x.by x.kind a d legal.0 legal.1.row none f)
-    (sym (ap head (demands_for-cons s x h a)) ∙ e)
+-- what is asked of an agent with the others of its cooperation: something, and all of that kind
+pub record AsksIt (kind : DemandKind) (ds : List Demand) : Type 0 where
+  pub some : ds ≡ [] → ⊥
+  pub all : AllByRecursion (λ d. d.kind ≡ kind) ds
 
--- and when its cooperation leaves, its last is to finish
-present_tried_by : (kind : EntryKind) (p t : Bool) → present_by kind p ≡ true → (p ≡ true → t ≡ true) → tried_by kind t ≡ true
-present_tried_by (Register coop) p t e f = refl
-present_tried_by (Left coop) p t e f = absurd cc
-present_tried_by (Leaving coop reason) p t e f = f e
-present_tried_by (Begin lane demand opening agent) p t e f = f e
-present_tried_by (Act turn effect answer) p t e f = f e
-present_tried_by (End turn) p t e f = f e
-present_tried_by (Skip lane demand why) p t e f = f e
-present_tried_by (Stop cause) p t e f = f e
-present_tried_by (Abort cause) p t e f = f e
+pub asks_it : (s : SceneParts) (c : CoopId) (a : AgentId) (kind : DemandKind) (place k : ℕ) → IsScene s → a.0 < length s.agents → is_of s c a ≡ true → AsksIt kind (filter (is_for a) (demands_from place k (ask_each kind (agents_of s c))))
+asks_it s c a kind place k scene known its =
+    record {
+      some = asked_some a kind place k (agents_of s c) (among_agents s c a scene known ∙ its);
+      all = each-filter (λ d. d.kind ≡ kind) (is_for a) _ (asked_kind kind place k (agents_of s c));
+    }
 
-pub present_tried : (h : List Entry) → present h ≡ true → tried h ≡ true
-unfolding present tried
-present_tried [] p = absurd cc
-present_tried (e ∷ h) p = present_tried_by e.kind (present h) (tried h) p (present_tried h)
+all_first : (kind : DemandKind) (ds : List Demand) → AsksIt kind ds → IsFirst kind ds
+all_first kind [] it = absurd (it.some refl)
+all_first kind (d ∷ ds) it = record { demand = d; first = refl; is = it.all.0 }
 
-leaving_tried_by : (s : SceneParts) (h : List Entry) (by : PartyId) (kind : EntryKind) → IsRow s h by kind → leaving_by kind (leaving h) ≡ true → (leaving h ≡ true → tried h ≡ true) → tried_by kind (tried h) ≡ true
-leaving_tried_by s h by (Register coop) row l f = refl
-leaving_tried_by s h by (Leaving coop reason) row l f = present_tried h (reason_present h row.reason)
-leaving_tried_by s h by (Left coop) row l f = absurd cc
-leaving_tried_by s h by (Begin lane demand opening agent) row l f = f l
-leaving_tried_by s h by (Act turn effect answer) row l f = f l
-leaving_tried_by s h by (End turn) row l f = f l
-leaving_tried_by s h by (Skip lane demand why) row l f = f l
-leaving_tried_by s h by (Stop cause) row l f = f l
-leaving_tried_by s h by (Abort cause) row l f = f l
+last_from : (kind : DemandKind) (d : Demand) (ds : List Demand) → d.kind ≡ kind → AllByRecursion (λ x. x.kind ≡ kind) ds → (x : Demand) × (last_or (Some d) ds ≡ Some x) × (x.kind ≡ kind)
+last_from kind d [] is all = (d, refl, is)
+last_from kind d (x ∷ ds) is all = last_from kind x ds all.0 all.1
 
-leaving_tried : (s : SceneParts) (h : List Entry) → Legal s h → leaving h ≡ true → tried h ≡ true
-unfolding leaving tried
-leaving_tried s [] legal l = absurd cc
-leaving_tried s (e ∷ h) legal l = leaving_tried_by s h e.by e.kind legal.1.row l (leaving_tried s h legal.0)
+pub all_last : (kind : DemandKind) (ds : List Demand) → AsksIt kind ds → IsLast kind ds
+all_last kind [] it = absurd (it.some refl)
+all_last kind (d ∷ ds) it = let end = last_from kind d ds it.all.0 it.all.1 in record { demand = end.0; last = end.1; is = end.2 }
 
-last_all : {X : Type 0} (P : X → Type 0) (o : Option X) (xs : List X) (d : X) → ((x : X) → o ≡ Some x → P x) → AllByRecursion P xs → last_or o xs ≡ Some d → P d
-last_all P o [] d f a e = f d e
-last_all P o (x ∷ xs) d f a e = last_all P (Some x) xs d (λ y s. subst P (same_Some x y s) a.0) a.1 e
+first-append : (kind : DemandKind) (xs ys : List Demand) → IsFirst kind xs → IsFirst kind (xs ++ ys)
+first-append kind [] ys it = let none = it.first in absurd cc
+first-append kind (x ∷ xs) ys it = record { demand = it.demand; first = it.first; is = it.is }
 
-last_or-append : {X : Type 0} (o : Option X) (xs ys : List X) → last_or o (xs ++ ys) ≡ last_or (last_or o xs) ys
+last_or-any : (o : Option Demand) (xs : List Demand) (d : Demand) → last_or None xs ≡ Some d → last_or o xs ≡ Some d
+last_or-any o [] d e = absurd cc
+last_or-any o (x ∷ xs) d e = e
+
+last_or-append : (o : Option Demand) (xs ys : List Demand) → last_or o (xs ++ ys) ≡ last_or (last_or o xs) ys
 last_or-append o [] ys = refl
 last_or-append o (x ∷ xs) ys = last_or-append (Some x) xs ys
 
--- the last of two lists, where all of the second have P, and without it the first is empty
-last_second : {X : Type 0} (P : X → Type 0) (xs ys : List X) (d : X) → AllByRecursion P ys → (ys ≡ [] → xs ≡ []) → last_or None (xs ++ ys) ≡ Some d → P d
-last_second P xs [] d a f e =
-    let none : xs ++ [] ≡ [] = append-nil xs ∙ f refl in
-    let end : None ≡ Some d = sym (ap (last_or None) none) ∙ e in
-    absurd cc
-last_second P xs (y ∷ ys) d a f e = last_all P (Some y) ys d (λ x s. subst P (same_Some y x s) a.0) a.1 (sym (last_or-append None xs (y ∷ ys)) ∙ e)
+pub last-append : (kind : DemandKind) (xs ys : List Demand) → IsLast kind ys → IsLast kind (xs ++ ys)
+last-append kind xs ys it = record { demand = it.demand; last = last_or-append None xs ys ∙ last_or-any (last_or None xs) ys it.demand it.last; is = it.is }
 
-last_same : (s : SceneParts) (e : Entry) (h : List Entry) (a : AgentId) (d : Demand) → filter (λ x. x.agent.0 == a.0) (queued_by s h e.kind) ≡ [] → last_or None (demands_for s (e ∷ h) a) ≡ Some d → last_or None (demands_for s h a) ≡ Some d
-last_same s e h a d none l =
-    let same : demands_for s (e ∷ h) a ≡ demands_for s h a = demands_for-cons s e h a ∙ rw (none, append-nil) refl in
-    sym (ap (last_or None) same) ∙ l
+-- since a place, with one entry more
+none_since : (s : SceneParts) (h : List Entry) (a : AgentId) → demands_since s h (length h) a ≡ []
+none_since s h a =
+    filter_none (λ d. nat_le (length h) d.id.place.0) (demands_for s h a)
+    (each-weaker (λ d. d.id.place.0 < length h) (λ d. nat_le (length h) d.id.place.0 ≡ false) (λ d early. lt-leb (length h) d.id.place.0 early) (demands_for s h a)
+    (each-filter (λ d. d.id.place.0 < length h) (is_for a) (demands s h) (demands_early s h)))
 
-last_case : (s : SceneParts) (h : List Entry) (by : PartyId) (kind : EntryKind) (a : AgentId) (d : Demand) → Legal s h → IsRow s h by kind → leaving_by kind (leaving h) ≡ true →
-    last_or None (demands_for s (record { by = by; kind = kind } ∷ h) a) ≡ Some d → (leaving h ≡ true → last_or None (demands_for s h a) ≡ Some d → d.kind ≡ Finish) → d.kind ≡ Finish
-last_case s h by (Leaving coop reason) a d legal row l e ih =
-    last_second (λ (x : Demand). x.kind ≡ Finish) (demands_for s h a) (asked_of a (length h) 0 Finish (agents_of s coop)) d
-    (each-filter (λ (x : Demand). x.kind ≡ Finish) (λ x. x.agent.0 == a.0) _ (asked_kind Finish (length h) 0 (agents_of s coop)))
-    (λ none. strangers s h a legal (none_of a (length h) 0 0 0 Finish Start (agents_of s the_coop) (sym (ap (λ c. asked_of a (length h) 0 Finish (agents_of s c)) (leaving_coop s h by coop reason row)) ∙ none)))
-    (sym (ap (last_or None) (demands_for-cons s (record { by = by; kind = Leaving coop reason }) h a)) ∙ e)
-last_case s h by (Register coop) a d legal row l e ih = absurd (false≢true (sym row.untried ∙ leaving_tried s h legal l))
-last_case s h by (Left coop) a d legal row l e ih = absurd cc
-last_case s h by (Begin lane demand opening agent) a d legal row l e ih = ih l (last_same s (record { by = by; kind = Begin lane demand opening agent }) h a d refl e)
-last_case s h by (Act turn effect answer) a d legal row l e ih =
-    let none : filter (λ x. x.agent.0 == a.0) (queued_by s h (Act turn effect answer)) ≡ [] =
-    effect_asks s h (λ asked. filter (λ (x : Demand). x.agent.0 == a.0) (demands_from (length h) 0 asked) ≡ []) refl (λ mbox msg payload. rw (events_leaving s h mbox msg payload l) refl) effect in
-    ih l (last_same s (record { by = by; kind = Act turn effect answer }) h a d none e)
-last_case s h by (End turn) a d legal row l e ih = ih l (last_same s (record { by = by; kind = End turn }) h a d refl e)
-last_case s h by (Skip lane demand why) a d legal row l e ih = ih l (last_same s (record { by = by; kind = Skip lane demand why }) h a d refl e)
-last_case s h by (Stop cause) a d legal row l e ih = ih l (last_same s (record { by = by; kind = Stop cause }) h a d refl e)
-last_case s h by (Abort cause) a d legal row l e ih = ih l (last_same s (record { by = by; kind = Abort cause }) h a d refl e)
+since_more : (s : SceneParts) (e : Entry) (h : List Entry) (place : ℕ) (a : AgentId) → place ≤ length h → demands_since s (e ∷ h) place a ≡ demands_since s h place a ++ filter (is_for a) (queued_by s h e.kind)
+unfolding demands
+since_more s e h place a l =
+    let new : filter (λ d. nat_le place d.id.place.0) (filter (is_for a) (queued_by s h e.kind)) ≡ filter (is_for a) (queued_by s h e.kind) =
+    filter_keeps (λ d. nat_le place d.id.place.0) (filter (is_for a) (queued_by s h e.kind))
+    (each-weaker (λ d. d.id.place.0 ≡ length h) (λ d. nat_le place d.id.place.0 ≡ true) (λ d at. le-leb place d.id.place.0 (omega (arith, at, l))) _
+    (each-filter (λ d. d.id.place.0 ≡ length h) (is_for a) (queued_by s h e.kind) (queued_here s h e.kind))) in
+    ap (filter (λ d. nat_le place d.id.place.0)) (filter-append (is_for a) (demands s h) (queued_by s h e.kind))
+    ∙ (filter-append (λ d. nat_le place d.id.place.0) (demands_for s h a) (filter (is_for a) (queued_by s h e.kind)) ∙ ap (λ ds. demands_since s h place a ++ ds) new)
 
-finishes_last : (s : SceneParts) (h : List Entry) (a : AgentId) (d : Demand) → Legal s h → leaving h ≡ true → last_or None (demands_for s h a) ≡ Some d → d.kind ≡ Finish
+-- ---- from the registration of its cooperation, an agent's first demand is to start
+
+effect_starts : (s : SceneParts) (h : List Entry) (e : Effect) (a : Answer) (c : CoopId) → joins_by_effect e a ≡ Some c → asked_by_effect s h e a ≡ ask_each Start (agents_of s c)
+effect_starts s h (effect.Register d) answer.Okay c is = ap (λ x. ask_each Start (agents_of s x)) (same_Some d c is)
+effect_starts s h (effect.Register d) other c is = absurd cc
+effect_starts s h other a c is = absurd cc
+
+joins_asks : (s : SceneParts) (h : List Entry) (kind : EntryKind) (c : CoopId) → joins kind ≡ Some c → asked_by s h kind ≡ ask_each Start (agents_of s c)
+joins_asks s h (Register d) c is = ap (λ x. ask_each Start (agents_of s x)) (same_Some d c is)
+joins_asks s h (Act turn e a) c is = effect_starts s h e a c is
+joins_asks s h other c is = absurd cc
+
+joins_queues : (s : SceneParts) (h : List Entry) (kind : EntryKind) (c : CoopId) → joins kind ≡ Some c → queued_by s h kind ≡ demands_from (length h) 0 (ask_each Start (agents_of s c))
+joins_queues s h kind c is = ap (demands_from (length h) 0) (joins_asks s h kind c is)
+
+first_case : (s : SceneParts) (e : Entry) (h : List Entry) (place : ℕ) (c : CoopId) (a : AgentId) → IsScene s → a.0 < length s.agents → is_of s c a ≡ true → Registered e h place c → (RegistersAt h place c → IsFirst Start (demands_since s h place a)) → IsFirst Start (demands_since s (e ∷ h) place a)
+first_case s e h place c a scene known its (now at joined) ih =
+    let its_first : IsFirst Start (filter (is_for a) (queued_by s h e.kind)) = subst (λ ds. IsFirst Start (filter (is_for a) ds)) (sym (joins_queues s h e.kind c joined)) (all_first Start _ (asks_it s c a Start (length h) 0 scene known its)) in
+    let none : demands_since s h place a ≡ [] = ap (λ p. demands_since s h p a) at ∙ none_since s h a in
+    subst (IsFirst Start) (sym (since_more s e h place a (omega (arith, at)) ∙ ap (λ ds. ds ++ filter (is_for a) (queued_by s h e.kind)) none)) its_first
+first_case s e h place c a scene known its (earlier early there) ih =
+    subst (IsFirst Start) (sym (since_more s e h place a (omega (arith, early)))) (first-append Start (demands_since s h place a) (filter (is_for a) (queued_by s h e.kind)) (ih there))
+
+starts_first : (s : SceneParts) (h : List Entry) (place : ℕ) (c : CoopId) (a : AgentId) → IsScene s → a.0 < length s.agents → is_of s c a ≡ true → RegistersAt h place c → IsFirst Start (demands_since s h place a)
+starts_first s [] place c a scene known its it = absurd (registers_nowhere place c it)
+starts_first s (e ∷ h) place c a scene known its it = first_case s e h place c a scene known its (registered_when e h place c it) (starts_first s h place c a scene known its)
+
+-- ---- while its cooperation is leaving, its last is to finish
+
+begun_case : (s : SceneParts) (e : Entry) (h : List Entry) (place : ℕ) (c : CoopId) (a : AgentId) (reason : Reason) → IsScene s → a.0 < length s.agents → is_of s c a ≡ true → e.kind ≡ Leaving c reason → Registered e h place c → IsLast Finish (demands_since s (e ∷ h) place a)
+begun_case s e h place c a reason scene known its is (now at joined) = let none : None ≡ Some c = sym (ap joins is) ∙ joined in absurd cc
+begun_case s e h place c a reason scene known its is (earlier early there) =
+    let its_last : IsLast Finish (filter (is_for a) (queued_by s h e.kind)) = subst (λ k. IsLast Finish (filter (is_for a) (queued_by s h k))) (sym is) (all_last Finish _ (asks_it s c a Finish (length h) 0 scene known its)) in
+    subst (IsLast Finish) (sym (since_more s e h place a (omega (arith, early)))) (last-append Finish (demands_since s h place a) (filter (is_for a) (queued_by s h e.kind)) its_last)
+
+still_case : (s : SceneParts) (e : Entry) (h : List Entry) (place : ℕ) (c : CoopId) (a : AgentId) → IsScene s → is_of s c a ≡ true → Legal s (e ∷ h) → leaving h c ≡ true → Registered e h place c → (RegistersAt h place c → IsLast Finish (demands_since s h place a)) → IsLast Finish (demands_since s (e ∷ h) place a)
+still_case s e h place c a scene its legal l (now at joined) ih =
+    absurd (false≢true (sym (admitted_open s (standing h) c (joins_admitted s h e.by e.kind c legal.1.row joined)).absent ∙ leaving_present s h c legal.0 l))
+still_case s e h place c a scene its legal l (earlier early there) ih =
+    let none : filter (is_for a) (queued_by s h e.kind) ≡ [] = none_for s c a (queued_by s h e.kind) its (none_asked s h e.by e.kind c scene legal.0 legal.1.row l) in
+    let same : demands_since s (e ∷ h) place a ≡ demands_since s h place a = since_more s e h place a (omega (arith, early)) ∙ (ap (λ ds. demands_since s h place a ++ ds) none ∙ append-nil (demands_since s h place a)) in
+    subst (IsLast Finish) (sym same) (ih there)
+
+finishes_last : (s : SceneParts) (h : List Entry) (place : ℕ) (c : CoopId) (a : AgentId) → IsScene s → a.0 < length s.agents → is_of s c a ≡ true → Legal s h → leaving h c ≡ true → RegistersAt h place c → IsLast Finish (demands_since s h place a)
 unfolding leaving
-finishes_last s [] a d legal l e = absurd cc
-finishes_last s (x ∷ h) a d legal l e = last_case s h x.by x.kind a d legal.0 legal.1.row l e (finishes_last s h a d legal.0)
+finishes_last s [] place c a scene known its legal l it = absurd (false≢true l)
+finishes_last s (e ∷ h) place c a scene known its legal l it =
+    elim (cases_Bool (leaving h c)) [
+      | inl was ↦ still_case s e h place c a scene its legal was (registered_when e h place c it) (finishes_last s h place c a scene known its legal.0 was)
+      | inr not_yet ↦
+          (let begins = begins_leaving e.kind c (sym (ap (leaving_by e.kind c) not_yet) ∙ l) in
+          begun_case s e h place c a begins.0 scene known its begins.1 (registered_when e h place c it))
+    ]
 
-may_leaving : (s : SceneParts) (h : List Entry) → may_leave s h ≡ true → leaving h ≡ true
-unfolding may_leave
-may_leaving s h may = (and_parts (leaving h) _ may).0
+last_before : (s : SceneParts) (h : List Entry) (i j : ℕ) (c : CoopId) (a : AgentId) → IsScene s → a.0 < length s.agents → is_of s c a ≡ true → Legal s h → RegistersAt h i c → StandsAt h j (Left c) → i < j → IsLast Finish (demands_since s (before h j) i a)
+last_before s h i j c a scene known its legal registers stands l =
+    let row = left_row s h j c legal stands in
+    finishes_last s (before h j) i c a scene known its row.legal row.may.goes (registers_before h j i c l row.within registers)
 
-pub starts_and_finishes : (s : SceneParts) (h : List Entry) → Legal s h → StartsAndFinishes s h
-starts_and_finishes s h legal = record {
-  first = λ a d e. starts_first s h a d legal e;
-  last = λ place coop a d stands e.
-      let row = left_row s h place coop legal stands in
-      finishes_last s (before h place) a d row.0 (may_leaving s (before h place) row.1) e;
+pub starts_and_finishes : (s : SceneParts) (h : List Entry) → IsScene s → Legal s h → StartsAndFinishes s h
+starts_and_finishes s h scene legal = record {
+  first = λ place coop a registers known its. starts_first s h place coop a scene known its registers;
+  last = λ i j coop a registers stands l known its. last_before s h i j coop a scene known its legal registers stands l;
 }

@@ -11,7 +11,7 @@ use Rattle.so_code.specs.Openings.{begun}
 use Rattle.so_scene.specs.declared.parts.SceneParts.{SceneParts}
 use Rattle.so_history.specs.declared.entry.Entry.{Entry}
 use Rattle.so_history.specs.declared.entry.EntryKind.{EntryKind}
-use Rattle.so_history.specs.declared.entry.EntryKind.TheVariants.{Register, Begin, Skip, Act, End, Leaving, Left, Stop, Abort}
+use Rattle.so_history.specs.declared.entry.EntryKind.TheVariants.{Begin, Act}
 use Rattle.so_history.specs.Demands.{message_of, event_of}
 use Rattle.so_history.specs.Safety.{is_safe}
 use Rattle.so_history.specs.Order.{runs_safe}
@@ -42,13 +42,7 @@ module _ (s : SceneParts) (b : Beginnings) where
   advanced_not : (place : ℕ) (kind : EntryKind) (t : ℕ) (c : Option Course) → acts_for kind t ≡ false → t < place → advanced s b place kind t c ≡ c
   advanced_not place (Begin lane demand opening agent) t c spares early = let other : (place == t) ≡ false = ne_eqb place t (λ same. omega arith) in rw other refl
   advanced_not place (Act turn effect answer) t c spares early = rw spares refl
-  advanced_not place (Register coop) t c spares early = refl
-  advanced_not place (End turn) t c spares early = refl
-  advanced_not place (Leaving coop reason) t c spares early = refl
-  advanced_not place (Left coop) t c spares early = refl
-  advanced_not place (Skip lane demand why) t c spares early = refl
-  advanced_not place (Stop cause) t c spares early = refl
-  advanced_not place (Abort cause) t c spares early = refl
+  advanced_not place other t c spares early = refl
 
 pub course-spared : (s : SceneParts) (h : List Entry) (e : Entry) (t : ℕ) → acts_for e.kind t ≡ false → t < length h → course s (e ∷ h) t ≡ course s h t
 unfolding course
@@ -77,14 +71,7 @@ module _ (s : SceneParts) (b : Beginnings) where
         whose = ap (λ (x : Started). x.agent) same;
         safe_is = ap (runs_safe s) same;
       }
-  begun_reaches place by (Act turn effect answer) t c e = absurd cc
-  begun_reaches place by (Register coop) t c e = absurd cc
-  begun_reaches place by (End turn) t c e = absurd cc
-  begun_reaches place by (Leaving coop reason) t c e = absurd cc
-  begun_reaches place by (Left coop) t c e = absurd cc
-  begun_reaches place by (Skip lane demand why) t c e = absurd cc
-  begun_reaches place by (Stop cause) t c e = absurd cc
-  begun_reaches place by (Abort cause) t c e = absurd cc
+  begun_reaches place by other t c e = absurd cc
 
 cond_reaches : (b : Bool) (s : SceneParts) (answer : Answer) (c : Course) → Reaches (cond b (Some (answer_to s answer c)) (Some c)) c.agent c.safe
 cond_reaches true s answer c = record { reached = answer_to s answer c; has = refl; whose = refl; safe_is = refl }
@@ -94,13 +81,7 @@ module _ (s : SceneParts) (b : Beginnings) where
   still_reaches : (place : ℕ) (kind : EntryKind) (p : ℕ) (c : Course) → (place == p) ≡ false → Reaches (advanced s b place kind p (Some c)) c.agent c.safe
   still_reaches place (Begin lane demand opening agent) p c other = record { reached = c; has = rw other refl; whose = refl; safe_is = refl }
   still_reaches place (Act turn effect answer) p c other = cond_reaches (turn.0 == p) s answer c
-  still_reaches place (Register coop) p c other = record { reached = c; has = refl; whose = refl; safe_is = refl }
-  still_reaches place (End turn) p c other = record { reached = c; has = refl; whose = refl; safe_is = refl }
-  still_reaches place (Leaving coop reason) p c other = record { reached = c; has = refl; whose = refl; safe_is = refl }
-  still_reaches place (Left coop) p c other = record { reached = c; has = refl; whose = refl; safe_is = refl }
-  still_reaches place (Skip lane demand why) p c other = record { reached = c; has = refl; whose = refl; safe_is = refl }
-  still_reaches place (Stop cause) p c other = record { reached = c; has = refl; whose = refl; safe_is = refl }
-  still_reaches place (Abort cause) p c other = record { reached = c; has = refl; whose = refl; safe_is = refl }
+  still_reaches place kind p c other = record { reached = c; has = refl; whose = refl; safe_is = refl }
 
 course_case : (s : SceneParts) (h : List Entry) (e : Entry) (p : ℕ) (t : Started) (b : Bool) → (length h == p) ≡ b → cond b (started_at_entry (started_by (length h) e.by e.kind)) (turn_of h p) ≡ Some t →
     (turn_of h p ≡ Some t → Reaches (course s h p) t.agent (runs_safe s t)) → Reaches (advanced s (beginnings s h) (length h) e.kind p (course s h p)) t.agent (runs_safe s t)

@@ -1,6 +1,6 @@
 -- What waits after one more entry, and which demands a legal history may have taken.
 use Rattle.std.proofs.Common.{◌≡◌, ℕ, ◌+◌, ◌<◌, ◌≤◌, List, [], ◌∷◌, ◌++◌, length, true, false, not, ◌||◌, cond, Some, None, arith, refl, sym, ◌∙◌, ap, inl, inr, length-append}
-use Rattle.std.specs.List.{filter, find, AllByRecursion}
+use Rattle.std.specs.List.{filter, find, list_any, AllByRecursion}
 use Rattle.std.proofs.lemmas.List.{append-nil}
 use Rattle.std.proofs.lemmas.List.Elements.{filter-append, filter_agree}
 use Rattle.std.proofs.lemmas.List.Sums.{length-filter, count_by-le-length, sum_by-cons}
@@ -19,12 +19,14 @@ use Rattle.so_ids.specs.declared.CoopId.{CoopId}
 use Rattle.std.proofs.lemmas.List.{length-map}
 use Rattle.so_scene.proofs.AgentLaws.{agents_in_range}
 use Rattle.so_history.specs.declared.entry.DemandKind.{DemandKind}
+use Rattle.so_history.specs.declared.entry.DemandKind.TheVariants.{Start, Finish}
 use Rattle.so_history.specs.declared.entry.Entry.{Entry}
 use Rattle.so_history.specs.declared.entry.EntryKind.{EntryKind}
-use Rattle.so_history.specs.declared.entry.EntryKind.TheVariants.{Register, Begin, Skip, Act, End, Leaving, Left, Stop, Abort}
+use Rattle.so_history.specs.declared.entry.EntryKind.TheVariants.{Register, Begin, Skip, Act, Leaving}
 use Rattle.so_history.specs.declared.entry.Demand.{Demand}
 use Rattle.so_code.specs.declared.effect.Effect.{Effect}
-use Rattle.so_history.specs.Coops.{the_coop, present}
+use Rattle.so_code.specs.declared.effect.Answer.{Answer}
+use Rattle.so_history.specs.Coops.{is_same, roster}
 use Rattle.so_history.specs.Delivery.{registered}
 use Rattle.so_history.specs.Demands.{ask_each, asked_by, asked_by_effect, demands_from, queued_by, demands, takes, taken, waiting, without, named}
 use Rattle.so_history.specs.Units.{units}
@@ -32,7 +34,8 @@ use Rattle.so_history.specs.Order.{is_free, may_take, pick}
 use Rattle.so_history.specs.Steps.{IsTaking, IsRow, Legal}
 use Rattle.so_history.specs.Facts.{takings}
 use Rattle.so_history.proofs.TakingLaws.{takes-taking}
-use Rattle.so_history.proofs.AskedLaws.{effect_asks, delivered_of}
+use Rattle.so_history.proofs.AskedLaws.{effect_asks, delivered_of, asked_of_each}
+use Rattle.so_history.proofs.RosterLaws.{each_there, each_registered}
 use Rattle.so_history.proofs.NameLaws.{same_place, Sorted, each_named, sorted-append, sorted-filter, named_here, demands_from_sorted, length-demands_from, all_earlier, filter-without}
 
 -- demands are queued at the place of their entry
@@ -87,14 +90,8 @@ taker_takes s h by lane kind row d t =
 
 pub takes_waiting : (s : SceneParts) (h : List Entry) (by : PartyId) (kind : EntryKind) → IsRow s h by kind → (d : DemandId) → takes kind d ≡ true → (d.place.0 < length h) × (taken h d ≡ false)
 takes_waiting s h by (Begin lane demand opening agent) row d t = taker_takes s h by lane (Begin lane demand opening agent) row d t
-takes_waiting s h by (Register coop) row d t = cc
-takes_waiting s h by (Act turn effect answer) row d t = cc
-takes_waiting s h by (End turn) row d t = cc
-takes_waiting s h by (Leaving coop reason) row d t = cc
-takes_waiting s h by (Left coop) row d t = cc
 takes_waiting s h by (Skip lane demand why) row d t = taker_takes s h by lane (Skip lane demand why) row d t
-takes_waiting s h by (Stop cause) row d t = cc
-takes_waiting s h by (Abort cause) row d t = cc
+takes_waiting s h by other row d t = cc
 
 -- a taken demand was queued earlier
 pub taken_early : (s : SceneParts) (h : List Entry) → Legal s h → (d : DemandId) → taken h d ≡ true → d.place.0 < length h
@@ -195,32 +192,25 @@ unfolding pick
 pick-busy s h lane e = rw e refl
 
 -- demands are of agents of the scene
-asked_of : (s : SceneParts) (kind : DemandKind) (agents : List AgentId) (place k : ℕ) → AllByRecursion (λ a. a.0 < length s.agents) agents → AllByRecursion (λ d. d.agent.0 < length s.agents) (demands_from place k (ask_each kind agents))
-asked_of s kind [] place k a = tt
-asked_of s kind (x ∷ agents) place k a = (a.0, asked_of s kind agents place (k + 1) a.1)
-
 pub registered_of : (s : SceneParts) (h : List Entry) → IsScene s → AllByRecursion (λ a. a.0 < length s.agents) (registered s h)
 registered_of s h scene =
-    elim (cases_Bool (present h)) [
-      | inl y ↦ rw y (agents_in_range s the_coop scene)
-      | inr f ↦ rw f tt
-    ]
+    each_registered (λ a. a.0 < length s.agents) s (roster h)
+    (each-weaker (λ c. list_any (is_same c) (roster h) ≡ true) (λ c. AllByRecursion (λ a. a.0 < length s.agents) (agents_of s c)) (λ c there. agents_in_range s c scene) (roster h) (each_there (roster h)))
 
-effect_of : (s : SceneParts) (h : List Entry) (effect : Effect) → IsScene s → AllByRecursion (λ d. d.agent.0 < length s.agents) (demands_from (length h) 0 (asked_by_effect s h effect))
-effect_of s h effect scene =
+asked_in_range : (s : SceneParts) (h : List Entry) (coop : CoopId) (kind : DemandKind) → IsScene s → AllByRecursion (λ d. d.agent.0 < length s.agents) (demands_from (length h) 0 (ask_each kind (agents_of s coop)))
+asked_in_range s h coop kind scene = asked_of_each (λ a. a.0 < length s.agents) (length h) 0 kind (agents_of s coop) (agents_in_range s coop scene)
+
+effect_of : (s : SceneParts) (h : List Entry) (effect : Effect) (answer : Answer) → IsScene s → AllByRecursion (λ d. d.agent.0 < length s.agents) (demands_from (length h) 0 (asked_by_effect s h effect answer))
+effect_of s h effect answer scene =
     effect_asks s h (λ asked. AllByRecursion (λ (d : Demand). d.agent.0 < length s.agents) (demands_from (length h) 0 asked)) tt
-    (λ mbox msg payload. delivered_of s h (λ a. a.0 < length s.agents) mbox msg payload (length h) 0 (registered_of s h scene)) effect
+    (λ mbox msg payload. delivered_of s h (λ a. a.0 < length s.agents) mbox msg payload (length h) 0 (registered_of s h scene)) effect answer
+    (λ coop is okay. asked_in_range s h coop Start scene)
 
 pub queued_of : (s : SceneParts) (h : List Entry) (kind : EntryKind) → IsScene s → AllByRecursion (λ d. d.agent.0 < length s.agents) (queued_by s h kind)
-queued_of s h (Register coop) scene = asked_of s _ (agents_of s coop) (length h) 0 (agents_in_range s coop scene)
-queued_of s h (Leaving coop reason) scene = asked_of s _ (agents_of s coop) (length h) 0 (agents_in_range s coop scene)
-queued_of s h (Begin lane demand opening agent) scene = tt
-queued_of s h (Act turn effect answer) scene = effect_of s h effect scene
-queued_of s h (End turn) scene = tt
-queued_of s h (Left coop) scene = tt
-queued_of s h (Skip lane demand why) scene = tt
-queued_of s h (Stop cause) scene = tt
-queued_of s h (Abort cause) scene = tt
+queued_of s h (Register coop) scene = asked_in_range s h coop Start scene
+queued_of s h (Leaving coop reason) scene = asked_in_range s h coop Finish scene
+queued_of s h (Act turn effect answer) scene = effect_of s h effect answer scene
+queued_of s h other scene = tt
 
 pub demands_of : (s : SceneParts) (h : List Entry) → IsScene s → AllByRecursion (λ d. d.agent.0 < length s.agents) (demands s h)
 unfolding demands

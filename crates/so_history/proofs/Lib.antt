@@ -1,6 +1,8 @@
 pub mod PlacesLemmas
 pub mod NameLaws
 pub mod TakingLaws
+pub mod MoveLaws
+pub mod RosterLaws
 pub mod AskedLaws
 pub mod DemandLaws
 pub mod HeadLaws
@@ -14,8 +16,12 @@ pub mod PlaceLaws
 pub mod SharingLaws
 pub mod OverlapLaws
 pub mod OrderLaws
+pub mod PresenceLaws
 pub mod CoopLaws
+pub mod LeavingLaws
+pub mod UnfinishedLaws
 pub mod FactLaws
+pub mod RefusalLaws
 pub mod TextLaws
 pub mod CauseLaws
 pub mod LineLaws

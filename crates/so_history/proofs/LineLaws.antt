@@ -8,6 +8,7 @@ use Rattle.so_ids.specs.declared.AgentId.{AgentId}
 use Rattle.so_ids.specs.declared.MsgId.{MsgId}
 use Rattle.so_ids.specs.declared.Payload.{Payload}
 use Rattle.so_ids.specs.declared.Plan.{Plan}
+use Rattle.so_ids.specs.declared.Refusal.{Refusal}
 use Rattle.so_ids.specs.declared.Target.{Target}
 use Rattle.so_ids.specs.declared.Target.TheVariants.{Mbox, Chain}
 use Rattle.so_code.specs.declared.effect.Answer.{Answer}
@@ -19,10 +20,12 @@ use Rattle.so_code.specs.declared.effect.Move.TheVariants.{Do, Done, Fail}
 use Rattle.so_scene.specs.declared.parts.SceneParts.{SceneParts}
 use Rattle.so_history.specs.declared.entry.Entry.{Entry}
 use Rattle.so_history.specs.declared.entry.EntryKind.{EntryKind}
-use Rattle.so_history.specs.declared.entry.EntryKind.TheVariants.{Register, Begin, Skip, Act, End, Leaving, Left, Stop, Abort}
+use Rattle.so_history.specs.declared.entry.EntryKind.TheVariants.{Register, Refuse, Begin, Skip, Act, End, Leaving, Left, Stop, Abort}
+use Rattle.so_scene.specs.Cooperations.{admission}
+use Rattle.so_history.specs.Coops.{may_mark, standing}
 use Rattle.so_history.specs.Places.{entry_at, before}
 use Rattle.so_history.specs.Turns.{move_of}
-use Rattle.so_history.specs.Steps.{IsRow, Legal, answer_to_send, answer_to_switch, choice_for, yes_where, may_subscribe, is_active, answer_of, entry_of}
+use Rattle.so_history.specs.Steps.{IsRow, Legal, answer_to_send, answer_to_switch, answer_to_register, choice_for, yes_where, may_subscribe, is_active, answer_of, entry_of}
 use Rattle.so_history.specs.declared.entry.EventSource.{EventSource}
 use Rattle.so_history.specs.Leaves.{switch_of}
 use Rattle.so_history.specs.Delivery.{active_rows, active_filters}
@@ -44,6 +47,13 @@ said_short false = omega arith
 yes_short : (b : Bool) (a : Answer) → Some (yes_where b) ≡ Some a → answer_room a ≤ 109
 yes_short b a e = subst (λ x. answer_room x ≤ 109) (same_Some _ a e) (said_short b)
 
+register_room : (o : Option Refusal) → answer_room (answer_to_register o) ≤ 109
+register_room None = omega arith
+register_room (Some cause) = omega arith
+
+register_short : (o : Option Refusal) (a : Answer) → Some (answer_to_register o) ≡ Some a → answer_room a ≤ 109
+register_short o a e = subst (λ x. answer_room x ≤ 109) (same_Some _ a e) (register_room o)
+
 switch_room : (o : Option Plan) → answer_room (answer_to_switch o) ≤ 380
 switch_room None = omega arith
 switch_room (Some p) = omega arith
@@ -59,9 +69,6 @@ answer_short : (s : SceneParts) (h : List Entry) (agent : AgentId) (event : Opti
 answer_short s h agent event (effect.Log text payload) a e = omega (arith, okay_short a e)
 answer_short s h agent event (effect.Send target msg payload) a e = omega (arith, sent_short s h target msg payload a e)
 answer_short s h agent event effect.Stop a e = omega (arith, okay_short a e)
-answer_short s h agent event (effect.Delayed target msg payload ms) a e = absurd cc
-answer_short s h agent event (effect.Timer slot target msg payload ms period) a e = absurd cc
-answer_short s h agent event (effect.Cancel slot) a e = absurd cc
 answer_short s h agent event (effect.Switch to) a e = omega (arith, switch_short (switch_of s h agent to) a e)
 answer_short s h agent event (effect.SetState leaf) a e = omega (arith, okay_short a e)
 answer_short s h agent event effect.Choose a e = omega (arith, choice_short s h agent event a e)
@@ -69,11 +76,9 @@ answer_short s h agent event (effect.Subscribe row) a e = omega (arith, yes_shor
 answer_short s h agent event (effect.Unsubscribe row) a e = omega (arith, yes_short (is_active (active_rows s h agent) row.0) a e)
 answer_short s h agent event (effect.SetFilter filter) a e = omega (arith, yes_short (true) a e)
 answer_short s h agent event (effect.DropFilter filter) a e = omega (arith, yes_short (is_active (active_filters s h agent) filter.0) a e)
-answer_short s h agent event (effect.Register coop) a e = absurd cc
-answer_short s h agent event (effect.Deregister coop) a e = absurd cc
-answer_short s h agent event (effect.Close chain keep) a e = absurd cc
-answer_short s h agent event (effect.Receive place) a e = absurd cc
-answer_short s h agent event (effect.Take place) a e = absurd cc
+answer_short s h agent event (effect.Register coop) a e = omega (arith, register_short (admission s (standing h) coop) a e)
+answer_short s h agent event (effect.Deregister coop) a e = omega (arith, yes_short (may_mark h coop) a e)
+answer_short s h agent event other a e = absurd cc
 
 answered_short : (s : SceneParts) (h : List Entry) (agent : AgentId) (event : Option EventSource) (place : Place) (x : Effect) (a : Option Answer) → answer_of s h agent event x ≡ a → (kind : EntryKind) → option_map (Act place x) a ≡ Some kind → IsShort kind
 answered_short s h agent event place x None is kind e = absurd cc
@@ -87,11 +92,12 @@ move_short s h agent event place (Fail why) kind e = subst IsShort (same_Some _ 
 row_short : (s : SceneParts) (h : List Entry) (by : PartyId) (kind : EntryKind) → IsRow s h by kind → IsShort kind
 row_short s h by (Act turn effect answer) row = move_short s h row.reached.agent row.reached.event turn.0 (move_of s row.reached).0 (Act turn effect answer) row.is
 row_short s h by (Register coop) row = omega arith
+row_short s h by (Refuse coop cause) row = omega arith
 row_short s h by (Begin lane demand opening agent) row = omega arith
+row_short s h by (Skip lane demand why) row = omega arith
 row_short s h by (End turn) row = omega arith
 row_short s h by (Leaving coop reason) row = omega arith
 row_short s h by (Left coop) row = omega arith
-row_short s h by (Skip lane demand why) row = omega arith
 row_short s h by (Stop cause) row = omega arith
 row_short s h by (Abort cause) row = omega arith
 

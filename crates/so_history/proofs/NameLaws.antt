@@ -2,9 +2,10 @@
 use Rattle.std.proofs.Common.{◌≡◌, ℕ, suc, ◌+◌, ◌<◌, ◌≤◌, List, [], ◌∷◌, ◌++◌, length, Bool, true, false, not, cond, Some, arith, refl, sym, ◌∙◌, ap}
 use Rattle.std.specs.List.{filter, find, AllByRecursion}
 use Rattle.std.proofs.lemmas.Bool.{eq-eqb, false≢true, lt-ltb, le-ltb}
+use Rattle.std.proofs.lemmas.Option.{same_Some}
 use Rattle.so_ids.specs.declared.DemandId.{DemandId}
 use Rattle.so_ids.specs.Ids.{same_demand, is_earlier}
-use Rattle.so_lists.proofs.Filters.{each-append, each-weaker, each-filter, found, filter_keeps}
+use Rattle.so_lists.proofs.Filters.{each-append, each-weaker, each-filter, found, filter_keeps, filter_none}
 use Rattle.so_history.specs.declared.entry.Demand.{Demand}
 use Rattle.so_history.specs.Demands.{Asked, demands_from, without}
 
@@ -144,3 +145,39 @@ pub filter-without : (id : DemandId) (ds : List Demand) → Sorted ds → filter
 unfolding Sorted
 filter-without id [] a = refl
 filter-without id (d ∷ ds) a = filter_cond id (same_demand id d.id) d ds refl a.0 (filter-without id ds a.1)
+
+-- the demand of a name is one
+alone_case : (id : DemandId) (x d : Demand) (xs : List Demand) (b : Bool) → same_demand id x.id ≡ b → AllByRecursion (λ y. is_earlier x.id y.id ≡ true) xs → cond b (Some x) (find (λ y. same_demand id y.id) xs) ≡ Some d →
+    (find (λ y. same_demand id y.id) xs ≡ Some d → filter (λ y. same_demand id y.id) xs ≡ d ∷ []) → cond b (x ∷ filter (λ y. same_demand id y.id) xs) (filter (λ y. same_demand id y.id) xs) ≡ d ∷ []
+alone_case id x d xs true is later e ih =
+    let none : filter (λ y. same_demand id y.id) xs ≡ [] = filter_none (λ y. same_demand id y.id) xs (each-weaker _ (λ y. same_demand id y.id ≡ false) (λ y l. same_name id x.id y.id is ∙ earlier_differs x.id y.id l) xs later) in
+    rw none (ap (λ y. y ∷ []) (same_Some x d e))
+alone_case id x d xs false is later e ih = ih e
+
+pub named_alone : (id : DemandId) (ds : List Demand) (d : Demand) → Sorted ds → find (λ y. same_demand id y.id) ds ≡ Some d → filter (λ y. same_demand id y.id) ds ≡ d ∷ []
+unfolding Sorted
+named_alone id [] d sorted e = absurd cc
+named_alone id (x ∷ xs) d sorted e = alone_case id x d xs (same_demand id x.id) refl sorted.0 e (named_alone id xs d sorted.1)
+
+-- the first that passes is the first of those that pass, and the others pass without it
+head_case : (p : Demand → Bool) (x d : Demand) (xs : List Demand) (b c : Bool) → p x ≡ b → same_demand d.id x.id ≡ c → AllByRecursion (λ y. is_earlier x.id y.id ≡ true) xs → cond b (Some x) (find p xs) ≡ Some d →
+    (find p xs ≡ Some d → filter p xs ≡ d ∷ filter p (without d.id xs)) → cond b (x ∷ filter p xs) (filter p xs) ≡ d ∷ filter p (cond c xs (x ∷ without d.id xs))
+head_case p x d xs true true on is later e ih = ap (λ y. y ∷ filter p xs) (same_Some x d e)
+head_case p x d xs true false on is later e ih = absurd (false≢true (sym is ∙ (ap (same_demand d.id) (ap (λ (y : Demand). y.id) (same_Some x d e)) ∙ itself d.id)))
+head_case p x d xs false true on is later e ih = absurd (false≢true (sym (swapped x.id d.id (found (λ y. is_earlier x.id y.id ≡ true) p xs d later e).0) ∙ is))
+head_case p x d xs false false on is later e ih = rw on (ih e)
+
+pub first_with_rest : (p : Demand → Bool) (ds : List Demand) (d : Demand) → Sorted ds → find p ds ≡ Some d → filter p ds ≡ d ∷ filter p (without d.id ds)
+unfolding Sorted
+first_with_rest p [] d sorted e = absurd cc
+first_with_rest p (x ∷ xs) d sorted e = head_case p x d xs (p x) (same_demand d.id x.id) refl refl sorted.0 e (first_with_rest p xs d sorted.1)
+
+-- without one that does not pass, as many pass
+spared_case : (p : Demand → Bool) (x d : Demand) (xs : List Demand) (c : Bool) → same_demand d.id x.id ≡ c → p d ≡ false → cond c (Some x) (find (λ y. same_demand d.id y.id) xs) ≡ Some d →
+    (find (λ y. same_demand d.id y.id) xs ≡ Some d → filter p (without d.id xs) ≡ filter p xs) → filter p (cond c xs (x ∷ without d.id xs)) ≡ cond (p x) (x ∷ filter p xs) (filter p xs)
+spared_case p x d xs true is off e ih = let no_pass : p x ≡ false = ap p (same_Some x d e) ∙ off in rw no_pass refl
+spared_case p x d xs false is off e ih = ap (λ ds. cond (p x) (x ∷ ds) ds) (ih e)
+
+pub rest_spared : (p : Demand → Bool) (ds : List Demand) (d : Demand) → p d ≡ false → find (λ y. same_demand d.id y.id) ds ≡ Some d → filter p (without d.id ds) ≡ filter p ds
+rest_spared p [] d off e = absurd cc
+rest_spared p (x ∷ xs) d off e = spared_case p x d xs (same_demand d.id x.id) refl off e (rest_spared p xs d off)

@@ -19,7 +19,7 @@ use Rattle.so_scene.specs.Lanes.{key_of}
 use Rattle.so_scene.proofs.LaneLaws.{same_queue-key}
 use Rattle.so_history.specs.declared.entry.Entry.{Entry}
 use Rattle.so_history.specs.declared.entry.EntryKind.{EntryKind}
-use Rattle.so_history.specs.declared.entry.EntryKind.TheVariants.{Register, Begin, Skip, Act, End, Leaving, Left, Stop, Abort}
+use Rattle.so_history.specs.declared.entry.EntryKind.TheVariants.{Begin, Skip}
 use Rattle.so_history.specs.declared.entry.Demand.{Demand}
 use Rattle.so_history.specs.declared.entry.SkipWhy.{SkipWhy}
 use Rattle.so_history.specs.Places.{before}
@@ -88,7 +88,7 @@ and_or true true c e by = by refl
 and_or true false c e by = refl
 and_or false b c e by = cc
 
-in_order_with : (s : SceneParts) (c d : Demand) → ShareOrder s c.agent d.agent → is_in_order_with s d c ≡ true
+pub in_order_with : (s : SceneParts) (c d : Demand) → ShareOrder s c.agent d.agent → is_in_order_with s d c ≡ true
 in_order_with s c d share =
     let disp : (agent_of s d.agent).disp ≡ (agent_of s c.agent).disp = ap (λ (q : Queue). q.disp) (sym share.queue) in
     let kind : kind_of s d.agent ≡ kind_of s c.agent = ap (λ x. (disp_of s x).kind) disp in
@@ -118,14 +118,8 @@ what_taking s h by lane kind row d t = record { lane = lane; demand = row.demand
 
 what : (s : SceneParts) (h : List Entry) (by : PartyId) (kind : EntryKind) → IsRow s h by kind → (d : DemandId) → takes kind d ≡ true → Taken s h d
 what s h by (Begin lane demand opening agent) row d t = what_taking s h by lane (Begin lane demand opening agent) row d t
-what s h by (Register coop) row d t = absurd cc
-what s h by (Act turn effect answer) row d t = absurd cc
-what s h by (End turn) row d t = absurd cc
-what s h by (Leaving coop reason) row d t = absurd cc
-what s h by (Left coop) row d t = absurd cc
 what s h by (Skip lane demand why) row d t = what_taking s h by lane (Skip lane demand why) row d t
-what s h by (Stop cause) row d t = absurd cc
-what s h by (Abort cause) row d t = absurd cc
+what s h by other row d t = absurd cc
 
 place_before : (a b : DemandId) → is_earlier a b ≡ true → a.place.0 ≤ b.place.0
 place_before a b e = grind arith

@@ -21,14 +21,14 @@ use Rattle.so_ids.specs.declared.Chosen.{Chosen}
 use Rattle.so_ids.specs.declared.Chosen.TheVariants as chosen
 use Rattle.so_ids.specs.declared.Opening.{Opening}
 use Rattle.so_ids.specs.declared.Opening.TheVariants as opening
+use Rattle.so_ids.specs.declared.Refusal.{Refusal}
 use Rattle.so_ids.specs.declared.Target.{Target}
 use Rattle.so_ids.specs.declared.Target.TheVariants.{Mbox, Chain}
 use Rattle.so_code.specs.declared.effect.Effect.{Effect}
 use Rattle.so_code.specs.declared.effect.Effect.TheVariants as effect
 use Rattle.so_code.specs.declared.effect.Answer.{Answer}
 use Rattle.so_code.specs.declared.effect.Answer.TheVariants as answer
-use Rattle.so_code.specs.declared.effect.Move.{Move}
-use Rattle.so_code.specs.declared.effect.Move.TheVariants.{Do, Done, Fail}
+use Rattle.so_code.specs.declared.effect.Move.TheVariants.{Do}
 use Rattle.so_code.specs.declared.frame.Frame.{Frame}
 use Rattle.so_code.specs.declared.frame.Todo.TheVariants as todo
 use Rattle.so_code.specs.declared.instr.Instr.{Instr}
@@ -37,7 +37,7 @@ use Rattle.so_code.specs.Shape.{IsCode}
 use Rattle.so_code.specs.Places.{IsAt, IsReceiveAt}
 use Rattle.so_code.specs.Receives.{is_receive}
 use Rattle.so_code.specs.Running.{IsFrame, IsAwake, LeadsTo, IsTransfer}
-use Rattle.so_code.specs.Answers.{FitsPlan, Fits, IsSaid, IsAnswerTo, has_transferred, chose}
+use Rattle.so_code.specs.Answers.{FitsPlan, FitsRegister, Fits, IsSaid, IsAnswerTo, has_transferred, chose}
 use Rattle.so_code.specs.Openings.{fresh, begun, no_plan}
 use Rattle.so_code.specs.Origins.{Origin}
 use Rattle.so_code.specs.Origins as origin
@@ -52,18 +52,21 @@ use Rattle.so_state.proofs.TreeFacts.{path_fits}
 use Rattle.so_state.proofs.Resolved.{resolve-few}
 use Rattle.so_scene.specs.declared.parts.SceneParts.{SceneParts}
 use Rattle.so_scene.specs.Parts.{no_agent, agent_of, code_of, filters_of, states_of}
+use Rattle.so_scene.specs.Cooperations.{admission}
 use Rattle.so_scene.specs.Checked.{Named, HasId, NamesWithin, NamesParts, named_by, filter_id, filter_ids, IsAgent, IsScene}
 use Rattle.so_history.specs.declared.entry.Entry.{Entry}
 use Rattle.so_history.specs.declared.entry.EntryKind.{EntryKind}
-use Rattle.so_history.specs.declared.entry.EntryKind.TheVariants.{Register, Begin, Skip, Act, End, Leaving, Left, Stop, Abort}
+use Rattle.so_history.specs.declared.entry.EntryKind.TheVariants.{Begin, Act}
 use Rattle.so_history.specs.declared.entry.EventSource.{EventSource}
+use Rattle.so_history.specs.Coops.{may_mark, standing}
 use Rattle.so_history.specs.Demands.{source_of, event_of}
 use Rattle.so_history.specs.Leaves.{leaves, leaf_of, switch_of}
 use Rattle.so_history.specs.Delivery.{active_rows, active_filters, chosen_for}
 use Rattle.so_history.specs.Safety.{is_safe}
 use Rattle.so_history.specs.Order.{opening_of, skipped}
 use Rattle.so_history.specs.Turns.{Course, move_of, answer_to, advanced, course}
-use Rattle.so_history.specs.Steps.{NamesEffect, answer_of, answer_to_send, answer_to_switch, choice_for, yes_where, may_subscribe, is_active, entry_of, IsRow, Legal}
+use Rattle.so_history.specs.Steps.{NamesEffect, answer_of, answer_to_send, answer_to_switch, answer_to_register, choice_for, yes_where, may_subscribe, is_active, IsRow, Legal}
+use Rattle.so_history.proofs.MoveLaws.{acts_so}
 use Rattle.so_history.proofs.TakingLaws.{begins_as}
 use Rattle.so_history.proofs.OpeningLaws.{agent_tree, ChoosesWithin, OpensWithin, HasEvent, chosen_within, choice_fits, opening_within, opening_event}
 use Rattle.so_history.proofs.OrderLaws.{event_picked}
@@ -110,6 +113,8 @@ no_receive n (instr.SetFilter filter) is names = cc
 no_receive n (instr.DropFilter filter) is names = cc
 no_receive n instr.Stop is names = cc
 no_receive n (instr.End body) is names = cc
+no_receive n (instr.Register coop) is names = cc
+no_receive n (instr.Deregister coop) is names = cc
 no_receive n other is names = names
 
 -- the state to which an opening leads
@@ -136,6 +141,8 @@ module _ (s : SceneParts) (a : AgentId) (event : Option EventSource) (f : Frame)
   origin_names e (origin.unsubscribe row here makes) = rw makes (omega (arith, has_id (agent_of s a).row_ids row.0 (parts f.place (instr.Unsubscribe row) here), is.row_ids))
   origin_names e (origin.set_filter filter here makes) = rw makes (omega (arith, has_id (filter_ids (agent_of s a)) filter.0 (parts f.place (instr.SetFilter filter) here), length-map (filters_of s a) filter_id))
   origin_names e (origin.drop_filter filter here makes) = rw makes (omega (arith, has_id (filter_ids (agent_of s a)) filter.0 (parts f.place (instr.DropFilter filter) here), length-map (filters_of s a) filter_id))
+  origin_names e (origin.register coop here makes) = rw makes (parts f.place (instr.Register coop) here)
+  origin_names e (origin.deregister coop here makes) = rw makes (parts f.place (instr.Deregister coop) here)
   origin_names e (origin.stop here makes) = rw makes tt
   origin_names e (origin.of_opening to leads makes) = rw makes (leads_within (length (states_of s a)) f.opening to opens leads)
   origin_names e (origin.of_plan left makes) = rw makes leaf
@@ -143,8 +150,6 @@ module _ (s : SceneParts) (a : AgentId) (event : Option EventSource) (f : Frame)
   origin_names e (origin.delayed target msg ms args here makes) = absurd (parts f.place (instr.Delayed target msg ms args) here)
   origin_names e (origin.timer slot target msg ms period args here makes) = absurd (parts f.place (instr.Timer slot target msg ms period args) here)
   origin_names e (origin.cancel slot here makes) = absurd (parts f.place (instr.Cancel slot) here)
-  origin_names e (origin.register coop here makes) = absurd (parts f.place (instr.Register coop) here)
-  origin_names e (origin.deregister coop here makes) = absurd (parts f.place (instr.Deregister coop) here)
   origin_names e (origin.close chain keep here makes) = absurd (parts f.place (instr.Close chain keep) here)
   origin_names e (origin.receive here makes) = from_receive f.place e here
   origin_names e (origin.of_receive here makes) = from_receive f.receive e here
@@ -159,35 +164,6 @@ pub record IsSound (s : SceneParts) (c : Course) : Type 0 where
   pub opens : OpensWithin (length (states_of s c.agent)) c.frame.opening
   pub event : HasEvent c.frame.opening c.event
   pub leaf : c.frame.plan.leaf.0 ≤ length (states_of s c.agent)
-
--- ---- a move and its answer
-
-abbrev effect_in : EntryKind → Effect
-effect_in (Act turn effect answer) = effect
-effect_in other = effect.Stop
-
-abbrev answer_in : EntryKind → Answer
-answer_in (Act turn effect answer) = answer
-answer_in other = answer.Okay
-
--- an act's entry is that of its move, with the answer to its effect
-pub record ActsSo (s : SceneParts) (h : List Entry) (agent : AgentId) (event : Option EventSource) (m : Move) (e : Effect) (a : Answer) : Type 0 where
-  pub does : m ≡ Do e
-  pub answers : answer_of s h agent event e ≡ Some a
-
-act_parts : (s : SceneParts) (h : List Entry) (agent : AgentId) (event : Option EventSource) (place : ℕ) (x : Effect) (turn : Place) (e : Effect) (a : Answer) (o : Option Answer) → answer_of s h agent event x ≡ o →
-    option_map (Act (record { 0 = place }) x) o ≡ Some (Act turn e a) → ActsSo s h agent event (Do x) e a
-act_parts s h agent event place x turn e a None q is = absurd cc
-act_parts s h agent event place x turn e a (Some b) q is =
-    let same : Act (record { 0 = place }) x b ≡ Act turn e a = same_Some _ _ is in
-    let one : x ≡ e = ap effect_in same in
-    let two : b ≡ a = ap answer_in same in
-    record { does = ap Do one; answers = rw (← one, ← two) q }
-
-pub acts_so : (s : SceneParts) (h : List Entry) (agent : AgentId) (event : Option EventSource) (place : ℕ) (m : Move) (turn : Place) (e : Effect) (a : Answer) → entry_of s h agent event place m ≡ Some (Act turn e a) → ActsSo s h agent event m e a
-acts_so s h agent event place (Do x) turn e a is = act_parts s h agent event place x turn e a (answer_of s h agent event x) refl is
-acts_so s h agent event place Done turn e a is = let same : End (record { 0 = place }) ≡ Act turn e a = same_Some _ _ is in absurd cc
-acts_so s h agent event place (Fail kind) turn e a is = let same : Abort _ ≡ Act turn e a = same_Some _ _ is in absurd cc
 
 -- ---- a switch
 
@@ -221,6 +197,10 @@ yes_said : (b : Bool) → IsSaid (yes_where b)
 yes_said true = tt
 yes_said false = tt
 
+register_fits : (o : Option Refusal) → FitsRegister (answer_to_register o)
+register_fits None = tt
+register_fits (Some cause) = tt
+
 choose_fits : (s : SceneParts) (h : List Entry) (agent : AgentId) (event : Option EventSource) (a : Answer) → IsScene s → agent.0 < length s.agents → option_map (choice_for s h agent) event ≡ Some a → Fits effect.Choose a
 choose_fits s h agent None a scene known is = absurd cc
 choose_fits s h agent (Some event) a scene known is = subst (Fits effect.Choose) (same_Some _ a is) (choice_fits s h agent event.mbox event.msg scene known)
@@ -235,15 +215,10 @@ answer_fits s h agent event (effect.Subscribe row) a scene known is = subst (Fit
 answer_fits s h agent event (effect.Unsubscribe row) a scene known is = subst (Fits (effect.Unsubscribe row)) (same_Some _ a is) (yes_said (is_active (active_rows s h agent) row.0))
 answer_fits s h agent event (effect.SetFilter filter) a scene known is = subst (Fits (effect.SetFilter filter)) (same_Some _ a is) tt
 answer_fits s h agent event (effect.DropFilter filter) a scene known is = subst (Fits (effect.DropFilter filter)) (same_Some _ a is) (yes_said (is_active (active_filters s h agent) filter.0))
+answer_fits s h agent event (effect.Register coop) a scene known is = subst (Fits (effect.Register coop)) (same_Some _ a is) (register_fits (admission s (standing h) coop))
+answer_fits s h agent event (effect.Deregister coop) a scene known is = subst (Fits (effect.Deregister coop)) (same_Some _ a is) (yes_said (may_mark h coop))
 answer_fits s h agent event effect.Stop a scene known is = subst (Fits effect.Stop) (same_Some _ a is) tt
-answer_fits s h agent event (effect.Delayed target msg payload ms) a scene known is = absurd cc
-answer_fits s h agent event (effect.Timer slot target msg payload ms period) a scene known is = absurd cc
-answer_fits s h agent event (effect.Cancel slot) a scene known is = absurd cc
-answer_fits s h agent event (effect.Register coop) a scene known is = absurd cc
-answer_fits s h agent event (effect.Deregister coop) a scene known is = absurd cc
-answer_fits s h agent event (effect.Close chain keep) a scene known is = absurd cc
-answer_fits s h agent event (effect.Receive place) a scene known is = absurd cc
-answer_fits s h agent event (effect.Take place) a scene known is = absurd cc
+answer_fits s h agent event other a scene known is = absurd cc
 
 -- ---- what an answer names
 
@@ -267,6 +242,10 @@ choice_no_plan : (s : SceneParts) (h : List Entry) (a : AgentId) (event : Option
 choice_no_plan s h a None p e = cc
 choice_no_plan s h a (Some event) p e = cc
 
+register_no_plan : (o : Option Refusal) (p : Plan) → Some (answer_to_register o) ≡ Some (answer.Planned p) → ⊥
+register_no_plan None p e = cc
+register_no_plan (Some cause) p e = cc
+
 planned_within : (s : SceneParts) (h : List Entry) (agent : AgentId) (event : Option EventSource) (e : Effect) (p : Plan) → IsTree (states_of s agent) → NamesEffect s agent event e → answer_of s h agent event e ≡ Some (answer.Planned p) → p.leaf.0 ≤ length (states_of s agent)
 planned_within s h agent event (effect.Switch to) p tree names is = planned_case s h agent to (switch_of s h agent to) p tree names refl (same_Some _ _ is)
 planned_within s h agent event (effect.Log text payload) p tree names is = absurd cc
@@ -277,6 +256,8 @@ planned_within s h agent event (effect.Subscribe row) p tree names is = absurd (
 planned_within s h agent event (effect.Unsubscribe row) p tree names is = absurd (not_planned (is_active (active_rows s h agent) row.0) p is)
 planned_within s h agent event (effect.SetFilter filter) p tree names is = absurd cc
 planned_within s h agent event (effect.DropFilter filter) p tree names is = absurd (not_planned (is_active (active_filters s h agent) filter.0) p is)
+planned_within s h agent event (effect.Register coop) p tree names is = absurd (register_no_plan (admission s (standing h) coop) p is)
+planned_within s h agent event (effect.Deregister coop) p tree names is = absurd (not_planned (may_mark h coop) p is)
 planned_within s h agent event effect.Stop p tree names is = absurd cc
 planned_within s h agent event other p tree names is = absurd names
 
@@ -415,13 +396,7 @@ module _ (s : SceneParts) (scene : IsScene s) where
   advanced_sound : (h : List Entry) (by : PartyId) (kind : EntryKind) (t : ℕ) → IsRow s h by kind → AreSound s (course s h t) → AreSound s (advanced s (beginnings s h) (length h) kind t (course s h t))
   advanced_sound h by (Begin lane demand opening agent) t row old = cond_sound (length h == t) _ (course s h t) (begun_sound h by lane demand opening agent _ _ row) old
   advanced_sound h by (Act turn e a) t row old = acted_sound h by turn e a t (turn.0 == t) refl row old
-  advanced_sound h by (Register coop) t row old = old
-  advanced_sound h by (End turn) t row old = old
-  advanced_sound h by (Leaving coop reason) t row old = old
-  advanced_sound h by (Left coop) t row old = old
-  advanced_sound h by (Skip lane demand why) t row old = old
-  advanced_sound h by (Stop cause) t row old = old
-  advanced_sound h by (Abort cause) t row old = old
+  advanced_sound h by other t row old = old
 
   all_sound : (h : List Entry) (t : ℕ) → Legal s h → AreSound s (course s h t)
   unfolding course

@@ -1,40 +1,42 @@
 -- What the lines of a legal history name is there.
-use Rattle.std.proofs.Common.{◌≡◌, ℕ, ◌<◌, List, [], ◌∷◌, length, Bool, true, false, cond, Option, Some, arith, refl, sym, ◌∙◌, ap, subst}
+use Rattle.std.proofs.Common.{◌≡◌, ℕ, ◌<◌, List, [], ◌∷◌, length, Bool, true, false, not, ◌&&◌, cond, Option, Some, None, arith, refl, sym, ◌∙◌, ap, subst}
 use Rattle.std.specs.Prelude.{◌==◌}
-use Rattle.std.proofs.lemmas.Option.{same_Some}
+use Rattle.std.proofs.lemmas.Option.{same_Some, cond_some}
+use Rattle.so_lists.proofs.First.{some-first_below}
 use Rattle.so_ids.specs.declared.AgentId.{AgentId}
+use Rattle.so_ids.specs.declared.CoopId.{CoopId}
+use Rattle.so_ids.specs.declared.Refusal.{Refusal}
 use Rattle.so_ids.specs.declared.PartyId.{PartyId}
 use Rattle.so_ids.specs.declared.Place.{Place}
 use Rattle.so_code.specs.declared.effect.Answer.{Answer}
 use Rattle.so_code.specs.declared.effect.Effect.{Effect}
-use Rattle.so_code.specs.declared.effect.Effect.TheVariants.{Log}
+use Rattle.so_code.specs.declared.effect.Answer.TheVariants as answer
+use Rattle.so_code.specs.declared.effect.Effect.TheVariants as effect
 use Rattle.so_scene.specs.declared.parts.SceneParts.{SceneParts}
 use Rattle.so_code.specs.declared.effect.FailKind.{FailKind}
+use Rattle.so_scene.specs.Parts.{coop_of}
 use Rattle.so_scene.specs.Checked.{IsScene}
+use Rattle.so_scene.specs.Cooperations.{coop_number, admission}
 use Rattle.so_history.specs.declared.entry.Entry.{Entry}
 use Rattle.so_history.specs.declared.entry.EntryKind.{EntryKind}
-use Rattle.so_history.specs.declared.entry.EntryKind.TheVariants.{Register, Begin, Skip, Act, End, Leaving, Left, Stop, Abort}
+use Rattle.so_history.specs.declared.entry.EntryKind.TheVariants.{Refuse, Begin, Act, Abort}
 use Rattle.so_history.specs.declared.entry.AbortCause.TheVariants.{Exception}
 use Rattle.so_history.specs.declared.entry.EventSource.{EventSource}
 use Rattle.so_history.specs.Places.{entry_at, before, beginner, beginner_at}
 use Rattle.so_history.specs.Turns.{Started, started_by, move_of}
-use Rattle.so_history.specs.Steps.{NamesEffect, IsMove, IsRow, Legal}
-use Rattle.so_history.specs.Text.{HasText}
+use Rattle.so_history.specs.Coops.{tried, to_try, next_coop, standing}
+use Rattle.so_history.specs.Steps.{NamesEffect, answer_to_register, answer_of, IsMove, IsRow, Legal}
+use Rattle.so_history.specs.Text.{NamesCause, NamesLine}
 use Rattle.so_history.proofs.PlaceLaws.{steps_at, before-entry, inside}
 use Rattle.so_history.proofs.TurnLaws.{turn_of, started_at_entry, turn_found, turn_agent, turn_looked_up}
-use Rattle.so_history.proofs.SoundLaws.{names_parts, acts_so, course_sound}
+use Rattle.so_history.proofs.MoveLaws.{acts_so}
+use Rattle.so_history.proofs.RefusalLaws.{refusal_names}
+use Rattle.so_history.proofs.SoundLaws.{names_parts, course_sound}
 
 -- the turn at a place is of the agent that begins there
 begins_with : (place : ℕ) (by : PartyId) (kind : EntryKind) (t : Started) → started_at_entry (started_by place by kind) ≡ Some t → beginner kind ≡ t.agent
 begins_with place by (Begin lane demand opening agent) t e = ap (λ (x : Started). x.agent) (same_Some _ t e)
-begins_with place by (Register coop) t e = absurd cc
-begins_with place by (Act turn effect answer) t e = absurd cc
-begins_with place by (End turn) t e = absurd cc
-begins_with place by (Leaving coop reason) t e = absurd cc
-begins_with place by (Left coop) t e = absurd cc
-begins_with place by (Skip lane demand why) t e = absurd cc
-begins_with place by (Stop cause) t e = absurd cc
-begins_with place by (Abort cause) t e = absurd cc
+begins_with place by other t e = absurd cc
 
 begun_case : (h : List Entry) (e : Entry) (p : ℕ) (t : Started) (b : Bool) → (length h == p) ≡ b → cond b (started_at_entry (started_by (length h) e.by e.kind)) (turn_of h p) ≡ Some t →
     (turn_of h p ≡ Some t → beginner_at (entry_at h p) ≡ t.agent) → beginner_at (cond b (Some e) (entry_at h p)) ≡ t.agent
@@ -51,11 +53,11 @@ pub record IsOwned (s : SceneParts) (h : List Entry) (place turn : ℕ) : Type 0
   pub early : turn < place
   pub agent : (beginner_at (entry_at h turn)).0 < length s.agents
 
--- an act of a legal history: its text is there too
-pub record IsActed (s : SceneParts) (h : List Entry) (place turn : ℕ) (effect : Effect) : Type 0 where
+-- an act of a legal history: what its line names is there too
+pub record IsActed (s : SceneParts) (h : List Entry) (place turn : ℕ) (effect : Effect) (answer : Answer) : Type 0 where
   pub early : turn < place
   pub agent : (beginner_at (entry_at h turn)).0 < length s.agents
-  pub text : HasText s effect
+  pub line : NamesLine s effect answer
 
 owned : (s : SceneParts) (h : List Entry) (place : ℕ) (e : Entry) (by : PartyId) (turn : ℕ) (kind : EntryKind) → IsScene s → Legal s h → entry_at h place ≡ Some e → IsMove s (before h place) by turn kind → IsOwned s h place turn
 owned s h place e by turn kind scene legal here row =
@@ -67,21 +69,47 @@ owned s h place e by turn kind scene legal here row =
     let whose : beginner_at (entry_at h turn) ≡ row.turn.agent = ap beginner_at (sym (before-entry h place turn early (inside h place e here))) ∙ beginner_of (before h place) turn row.turn looked in
     record { early = early; agent = rw whose agent }
 
-text_named : (s : SceneParts) (a : AgentId) (event : Option EventSource) (e : Effect) → NamesEffect s a event e → HasText s e
-text_named s a event (Log text payload) named = named
-text_named s a event other named = tt
+refused_by : (o : Option Refusal) (cause : Refusal) → answer_to_register o ≡ answer.Refused cause → o ≡ Some cause
+refused_by None cause e = absurd cc
+refused_by (Some other) cause e = let same : other ≡ cause = cc in ap (λ x. Some x) same
 
-pub act_named : (s : SceneParts) (h : List Entry) (place : ℕ) (e : Entry) (turn : Place) (effect : Effect) (answer : Answer) → IsScene s → Legal s h → entry_at h place ≡ Some e → e.kind ≡ Act turn effect answer → IsActed s h place turn.0 effect
+line_named : (s : SceneParts) (h : List Entry) (agent : AgentId) (event : Option EventSource) (e : Effect) (a : Answer) → IsScene s → NamesEffect s agent event e → answer_of s h agent event e ≡ Some a → NamesLine s e a
+line_named s h agent event (effect.Log text payload) a scene named answers = named
+line_named s h agent event (effect.Register coop) (answer.Refused cause) scene named answers =
+    let refused : answer_to_register (admission s (standing h) coop) ≡ answer.Refused cause = same_Some _ _ answers in
+    (named, refusal_names s (standing h) coop cause scene (refused_by (admission s (standing h) coop) cause refused))
+line_named s h agent event other a scene named answers = tt
+
+pub act_named : (s : SceneParts) (h : List Entry) (place : ℕ) (e : Entry) (turn : Place) (effect : Effect) (answer : Answer) → IsScene s → Legal s h → entry_at h place ≡ Some e → e.kind ≡ Act turn effect answer → IsActed s h place turn.0 effect answer
 act_named s h place e turn effect answer scene legal here is =
     let at = steps_at s h place e legal here in
     let row : IsRow s (before h place) e.by (Act turn effect answer) = subst (IsRow s (before h place) e.by) is at.step.row in
     let its = owned s h place e e.by turn.0 (Act turn effect answer) scene legal here row in
     let acts = acts_so s (before h place) row.reached.agent row.reached.event turn.0 (move_of s row.reached).0 turn effect answer row.is in
     let sound = course_sound s scene (before h place) turn.0 row.reached at.legal row.has in
-    record { early = its.early; agent = its.agent; text = text_named s row.reached.agent row.reached.event effect (names_parts s scene row.reached sound effect acts.does) }
+    record { early = its.early; agent = its.agent; line = line_named s (before h place) row.reached.agent row.reached.event effect answer scene (names_parts s scene row.reached sound effect acts.does) acts.answers }
 
 pub abort_named : (s : SceneParts) (h : List Entry) (place : ℕ) (e : Entry) (turn : Place) (kind : FailKind) → IsScene s → Legal s h → entry_at h place ≡ Some e → e.kind ≡ Abort (Exception turn kind) → IsOwned s h place turn.0
 abort_named s h place e turn kind scene legal here is =
     let at = steps_at s h place e legal here in
     let row : IsRow s (before h place) e.by (Abort (Exception turn kind)) = subst (IsRow s (before h place) e.by) is at.step.row in
     owned s h place e e.by turn.0 (Abort (Exception turn kind)) scene legal here row
+
+-- a refused registration of main's: the cooperation and the agent that its line names are there
+pub record IsRefused (s : SceneParts) (coop : CoopId) (cause : Refusal) : Type 0 where
+  pub coop_there : coop.0 < length s.coops
+  pub names : NamesCause s cause
+
+pub next_within : (s : SceneParts) (h : List Entry) (c : CoopId) → next_coop s h ≡ Some c → c.0 < length s.coops
+unfolding next_coop
+next_within s h c is =
+    let f = some-first_below (to_try s h) (length s.coops) c is in
+    let same : coop_number f.0 ≡ c = (cond_some ((coop_of s (coop_number f.0)).at_start && not (tried h (coop_number f.0))) (coop_number f.0) c f.2).1 in
+    let number : f.0 ≡ c.0 = ap (λ (x : CoopId). x.0) same in
+    omega (arith, f.1, number)
+
+pub refuse_named : (s : SceneParts) (h : List Entry) (place : ℕ) (e : Entry) (coop : CoopId) (cause : Refusal) → IsScene s → Legal s h → entry_at h place ≡ Some e → e.kind ≡ Refuse coop cause → IsRefused s coop cause
+refuse_named s h place e coop cause scene legal here is =
+    let at = steps_at s h place e legal here in
+    let row : IsRow s (before h place) e.by (Refuse coop cause) = subst (IsRow s (before h place) e.by) is at.step.row in
+    record { coop_there = next_within s (before h place) coop row.next; names = refusal_names s (standing (before h place)) coop cause scene row.admitted }

@@ -20,7 +20,7 @@ use Rattle.so_scene.specs.Checked.{IsScene}
 use Rattle.so_scene.specs.Lanes.{lanes, key_of}
 use Rattle.so_history.specs.declared.entry.Entry.{Entry}
 use Rattle.so_history.specs.declared.entry.EntryKind.{EntryKind}
-use Rattle.so_history.specs.declared.entry.EntryKind.TheVariants.{Register, Begin, Skip, Act, End, Leaving, Left, Stop, Abort}
+use Rattle.so_history.specs.declared.entry.EntryKind.TheVariants.{Register, Refuse, Begin, Skip, Act, End, Leaving, Left, Stop, Abort}
 use Rattle.so_history.specs.declared.entry.Demand.{Demand}
 use Rattle.so_history.specs.declared.entry.SkipWhy.{SkipWhy}
 use Rattle.so_history.specs.Safety.{is_safe}
@@ -33,14 +33,7 @@ use Rattle.so_history.proofs.HeadLaws.{picked_may}
 
 pub started_here : (place : ℕ) (by : PartyId) (kind : EntryKind) → AllByRecursion (λ t. t.place ≡ place) (started_by place by kind)
 started_here place by (Begin lane demand opening agent) = (refl, tt)
-started_here place by (Register coop) = tt
-started_here place by (Leaving coop reason) = tt
-started_here place by (Act turn effect answer) = tt
-started_here place by (End turn) = tt
-started_here place by (Left coop) = tt
-started_here place by (Skip lane demand why) = tt
-started_here place by (Stop cause) = tt
-started_here place by (Abort cause) = tt
+started_here place by other = tt
 
 pub turns_early : (h : List Entry) → AllByRecursion (λ t. t.place < length h) (turns h)
 unfolding turns
@@ -65,14 +58,7 @@ turn_found h place t e =
 -- a legal entry ends only a turn that began earlier
 pub ends_early : (s : SceneParts) (h : List Entry) (by : PartyId) (kind : EntryKind) → IsRow s h by kind → (t : ℕ) → ends kind t ≡ true → t < length h
 ends_early s h by (End turn) row t e = let same : turn.0 ≡ t = eqb-true turn.0 t e in rw (← same) (turn_found h turn.0 row.turn row.runs).1
-ends_early s h by (Register coop) row t e = cc
-ends_early s h by (Begin lane demand opening agent) row t e = cc
-ends_early s h by (Act turn effect answer) row t e = cc
-ends_early s h by (Leaving coop reason) row t e = cc
-ends_early s h by (Left coop) row t e = cc
-ends_early s h by (Skip lane demand why) row t e = cc
-ends_early s h by (Stop cause) row t e = cc
-ends_early s h by (Abort cause) row t e = cc
+ends_early s h by other row t e = cc
 
 -- an ended turn began earlier
 pub ended_early : (s : SceneParts) (h : List Entry) → Legal s h → (t : ℕ) → ended h t ≡ true → t < length h
@@ -149,24 +135,18 @@ begun_one f n xs (t ∷ []) few l a = one_more f n xs t (f t == n) refl l a.0
 pub few_started : (place : ℕ) (by : PartyId) (kind : EntryKind) → length (started_by place by kind) ≤ 1
 few_started place by (Begin lane demand opening agent) = omega arith
 few_started place by (Register coop) = omega arith
-few_started place by (Leaving coop reason) = omega arith
+few_started place by (Refuse coop cause) = omega arith
+few_started place by (Skip lane demand why) = omega arith
 few_started place by (Act turn effect answer) = omega arith
 few_started place by (End turn) = omega arith
+few_started place by (Leaving coop reason) = omega arith
 few_started place by (Left coop) = omega arith
-few_started place by (Skip lane demand why) = omega arith
 few_started place by (Stop cause) = omega arith
 few_started place by (Abort cause) = omega arith
 
 ends_or_begins : (kind : EntryKind) (place : ℕ) (by : PartyId) → ((t : ℕ) → ends kind t ≡ false) ⊎ (started_by place by kind ≡ [])
-ends_or_begins (Begin lane demand opening agent) place by = inl (λ t. refl)
-ends_or_begins (Register coop) place by = inl (λ t. refl)
-ends_or_begins (Leaving coop reason) place by = inl (λ t. refl)
-ends_or_begins (Act turn effect answer) place by = inl (λ t. refl)
 ends_or_begins (End turn) place by = inr refl
-ends_or_begins (Left coop) place by = inl (λ t. refl)
-ends_or_begins (Skip lane demand why) place by = inl (λ t. refl)
-ends_or_begins (Stop cause) place by = inl (λ t. refl)
-ends_or_begins (Abort cause) place by = inl (λ t. refl)
+ends_or_begins other place by = inl (λ t. refl)
 
 pub none_first : (f : Started → ℕ) (n : ℕ) → running_at f [] n ≡ []
 unfolding running turns
@@ -193,14 +173,7 @@ begin_free_lane s h by lane kind row = empty-list (running_on h lane) (picked s 
 
 pub lanes_free : (s : SceneParts) → Frees lane_number s
 lanes_free s h by (Begin lane demand opening agent) row = (begin_free_lane s h by lane (Begin lane demand opening agent) row, tt)
-lanes_free s h by (Register coop) row = tt
-lanes_free s h by (Leaving coop reason) row = tt
-lanes_free s h by (Act turn effect answer) row = tt
-lanes_free s h by (End turn) row = tt
-lanes_free s h by (Left coop) row = tt
-lanes_free s h by (Skip lane demand why) row = tt
-lanes_free s h by (Stop cause) row = tt
-lanes_free s h by (Abort cause) row = tt
+lanes_free s h by other row = tt
 
 -- ---- which turns run beside one that begins
 
@@ -290,14 +263,7 @@ BeginBeside s h ts = AllByRecursion (λ t. GoesBeside s t.agent t.opening (runni
 
 begin_beside : (s : SceneParts) (h : List Entry) (by : PartyId) (kind : EntryKind) → IsRow s h by kind → BeginBeside s h (started_by (length h) by kind)
 begin_beside s h by (Begin lane demand opening agent) row = (begins_beside s h by lane demand opening agent row, tt)
-begin_beside s h by (Register coop) row = tt
-begin_beside s h by (Leaving coop reason) row = tt
-begin_beside s h by (Act turn effect answer) row = tt
-begin_beside s h by (End turn) row = tt
-begin_beside s h by (Left coop) row = tt
-begin_beside s h by (Skip lane demand why) row = tt
-begin_beside s h by (Stop cause) row = tt
-begin_beside s h by (Abort cause) row = tt
+begin_beside s h by other row = tt
 
 begun_alike : (s : SceneParts) (h : List Entry) (n : ℕ) (ts : List Started) → length ts ≤ 1 → AreAlike s (running_at (key_number s) h n) → BeginBeside s h ts → AreAlike s (running_at (key_number s) h n ++ filter (λ t. key_number s t == n) ts)
 begun_alike s h n [] few alike beside = rw append-nil alike
@@ -346,14 +312,7 @@ turn_of (e ∷ h) place = cond (eqb (length h) place) (started_at_entry (started
 started_looked_up : (place : ℕ) (by : PartyId) (kind : EntryKind) (h : List Entry) → place ≡ length h → AllByRecursion (λ t. turn_of (record { by = by; kind = kind } ∷ h) t.place ≡ Some t) (started_by place by kind)
 unfolding turn_of
 started_looked_up place by (Begin lane demand opening agent) h at = (rw (at, eq-eqb (length h) (length h) refl) refl, tt)
-started_looked_up place by (Register coop) h at = tt
-started_looked_up place by (Leaving coop reason) h at = tt
-started_looked_up place by (Act turn effect answer) h at = tt
-started_looked_up place by (End turn) h at = tt
-started_looked_up place by (Left coop) h at = tt
-started_looked_up place by (Skip lane demand why) h at = tt
-started_looked_up place by (Stop cause) h at = tt
-started_looked_up place by (Abort cause) h at = tt
+started_looked_up place by other h at = tt
 
 -- so the places of turns differ
 pub turns_looked_up : (h : List Entry) → AllByRecursion (λ t. turn_of h t.place ≡ Some t) (turns h)
@@ -402,14 +361,7 @@ running_at-other f h e place n t none ends_it runs other =
 -- turns are on lanes of the scene
 started_on : (s : SceneParts) (h : List Entry) (place : ℕ) (by : PartyId) (kind : EntryKind) → IsRow s h by kind → AllByRecursion (λ t. t.lane.0 < lanes s) (started_by place by kind)
 started_on s h place by (Begin lane demand opening agent) row = (row.in_range, tt)
-started_on s h place by (Register coop) row = tt
-started_on s h place by (Leaving coop reason) row = tt
-started_on s h place by (Act turn effect answer) row = tt
-started_on s h place by (End turn) row = tt
-started_on s h place by (Left coop) row = tt
-started_on s h place by (Skip lane demand why) row = tt
-started_on s h place by (Stop cause) row = tt
-started_on s h place by (Abort cause) row = tt
+started_on s h place by other row = tt
 
 turns_on : (s : SceneParts) (h : List Entry) → Legal s h → AllByRecursion (λ t. t.lane.0 < lanes s) (turns h)
 unfolding turns
@@ -473,20 +425,16 @@ started_of s h place by (Begin lane demand opening agent) scene row =
     let same : agent.0 ≡ row.demand.agent.0 = ap (λ (a : AgentId). a.0) (begins_as lane lane row.demand (opening_of s h row.demand) (skipped (opening_of s h row.demand)) demand opening agent row.is).agent_is in
     let known : row.demand.agent.0 < length s.agents = picked_of s h lane row.demand scene row.picked in
     (omega arith, tt)
-started_of s h place by (Register coop) scene row = tt
-started_of s h place by (Leaving coop reason) scene row = tt
-started_of s h place by (Act turn effect answer) scene row = tt
-started_of s h place by (End turn) scene row = tt
-started_of s h place by (Left coop) scene row = tt
-started_of s h place by (Skip lane demand why) scene row = tt
-started_of s h place by (Stop cause) scene row = tt
-started_of s h place by (Abort cause) scene row = tt
+started_of s h place by other scene row = tt
 
 turns_of : (s : SceneParts) (h : List Entry) → IsScene s → Legal s h → AllByRecursion (λ t. t.agent.0 < length s.agents) (turns h)
 unfolding turns
 turns_of s [] scene legal = tt
 turns_of s (e ∷ h) scene legal = each-append _ (turns h) _ (turns_of s h scene legal.0) (started_of s h (length h) e.by e.kind scene legal.1.row)
 
-pub turn_agent : (s : SceneParts) (h : List Entry) (place : ℕ) (t : Started) → IsScene s → Legal s h → turn_at h place ≡ Some t → t.agent.0 < length s.agents
+pub running_of : (s : SceneParts) (h : List Entry) → IsScene s → Legal s h → AllByRecursion (λ t. t.agent.0 < length s.agents) (running h)
 unfolding running
-turn_agent s h place t scene legal e = (found (λ x. x.agent.0 < length s.agents) (λ x. x.place == place) (running h) t (each-filter _ _ (turns h) (turns_of s h scene legal)) e).0
+running_of s h scene legal = each-filter _ _ (turns h) (turns_of s h scene legal)
+
+pub turn_agent : (s : SceneParts) (h : List Entry) (place : ℕ) (t : Started) → IsScene s → Legal s h → turn_at h place ≡ Some t → t.agent.0 < length s.agents
+turn_agent s h place t scene legal e = (found (λ x. x.agent.0 < length s.agents) (λ x. x.place == place) (running h) t (running_of s h scene legal) e).0

@@ -3,23 +3,26 @@ use Rattle.std.specs.Prelude.{◌≡◌, ℕ, List, [], ◌∷◌, false, Option
 use Rattle.std.specs.Option.{option_map, option_and_then}
 use Rattle.so_ids.specs.declared.PartyId.{PartyId}
 use Rattle.so_ids.specs.declared.LaneId.{LaneId}
-use Rattle.so_ids.specs.declared.Reason.TheVariants.{Shutdown}
+use Rattle.so_ids.specs.declared.CoopId.{CoopId}
+use Rattle.so_ids.specs.declared.Reason.{Reason}
+use Rattle.so_ids.specs.declared.Refusal.{Refusal}
 use Rattle.so_ids.specs.Ids.{main_party, party_of}
 use Rattle.so_lists.specs.Lists.{or_else, head, first_below}
 use Rattle.so_scene.specs.declared.parts.SceneParts.{SceneParts}
 use Rattle.so_scene.specs.Lanes.{lanes}
+use Rattle.so_scene.specs.Cooperations.{admission, leaving_next}
 use Rattle.so_history.specs.declared.entry.Entry.{Entry}
 use Rattle.so_history.specs.declared.entry.EntryKind.{EntryKind}
-use Rattle.so_history.specs.declared.entry.EntryKind.TheVariants.{Register, Leaving, Left, Stop}
+use Rattle.so_history.specs.declared.entry.EntryKind.TheVariants.{Register, Refuse, Leaving, Left, Stop}
 use Rattle.so_history.specs.declared.entry.StopCause.{StopCause}
-use Rattle.so_history.specs.declared.entry.StopCause.TheVariants.{Asked, Idle}
+use Rattle.so_history.specs.declared.entry.StopCause.TheVariants.{Asked, Auto, Idle}
 use Rattle.so_history.specs.declared.entry.Pick.{Pick}
 use Rattle.so_history.specs.declared.entry.Pick.TheVariants as pick
 use Rattle.so_history.specs.Turns.{Started, Course, running_on, course, move_of}
-use Rattle.so_history.specs.Coops.{the_coop, tried, has_reason}
+use Rattle.so_history.specs.Coops.{next_coop, standing}
 use Rattle.so_history.specs.Order.{pick as picked, taking}
 use Rattle.so_history.specs.Units.{fits}
-use Rattle.so_history.specs.Steps.{may_leave, may_stop, is_over, entry_of}
+use Rattle.so_history.specs.Steps.{left_next, may_stop, is_over, entry_of}
 
 abbrev pub by_main : EntryKind → Entry
 by_main kind = record { by = main_party; kind = kind }
@@ -43,26 +46,41 @@ turn_on h lane = head (running_on h lane)
 abbrev pub taking_entry : SceneParts → List Entry → LaneId → Option Entry
 taking_entry s h lane = option_map (λ d. record { by = party_of lane; kind = taking s h lane d }) (picked s h lane)
 
--- main's registration, if it has not tried it
-unfoldable pub registration : List Entry → Option Entry
-registration h = if tried h then None else Some (by_main (Register the_coop))
+-- main's next registration, if it has not tried all: the cooperation is registered, or refused
+abbrev pub registering : CoopId → Option Refusal → EntryKind
+registering c None = Register c
+registering c (Some cause) = Refuse c cause
 
-abbrev pub leaving_entry : List Entry → Option Entry
-leaving_entry h = if has_reason h then Some (by_main (Leaving the_coop Shutdown)) else None
+abbrev pub registration_of : SceneParts → List Entry → CoopId → Entry
+registration_of s h c = by_main (registering c (admission s (standing h) c))
+
+unfoldable pub registration : SceneParts → List Entry → Option Entry
+registration s h = option_map (registration_of s h) (next_coop s h)
+
+-- the least cooperation that has a reason begins to leave, and the least that may leave has left
+abbrev pub leaving_for : CoopId × Reason → Entry
+leaving_for why = by_main (Leaving why.0 why.1)
+
+abbrev pub leaving_entry : SceneParts → List Entry → Option Entry
+leaving_entry s h = option_map leaving_for (leaving_next s (standing h))
+
+abbrev pub left_for : CoopId → Entry
+left_for c = by_main (Left c)
 
 abbrev pub left_entry : SceneParts → List Entry → Option Entry
-left_entry s h = if may_leave s h then Some (by_main (Left the_coop)) else None
+left_entry s h = option_map left_for (left_next s h)
 
 abbrev pub stop_entry : SceneParts → List Entry → StopCause → Option Entry
 stop_entry s h cause = if may_stop s h cause then Some (by_main (Stop cause)) else None
 
--- what main is to tidy: a stop was asked for, the cooperation leaves, or has left, or nothing is left to do
+-- what main is to tidy: a stop was asked for, all cooperations are gone, one leaves, or has left, or nothing is left to do
 unfoldable pub tidying : SceneParts → List Entry → Option Entry
 tidying s h =
     or_else (stop_entry s h Asked)
-    (or_else (leaving_entry h)
+    (or_else (stop_entry s h Auto)
+    (or_else (leaving_entry s h)
     (or_else (left_entry s h)
-    (stop_entry s h Idle)))
+    (stop_entry s h Idle))))
 
 -- the next step of a lane: that of its running turn, or else what it takes
 unfoldable pub lane_entry : SceneParts → List Entry → LaneId → Option Entry
@@ -70,7 +88,7 @@ lane_entry s h lane = or_else (turn_entry s h (turn_on h lane)) (taking_entry s 
 
 -- the entry that a pick makes
 abbrev pub of : SceneParts → List Entry → Pick → Option Entry
-of s h pick.Register = registration h
+of s h pick.Register = registration s h
 of s h (pick.Lane lane) = lane_entry s h lane
 of s h pick.Tidy = tidying s h
 
@@ -78,12 +96,13 @@ of s h pick.Tidy = tidying s h
 unfoldable pub first : SceneParts → List Entry → Option Entry
 first s h =
     or_else (first_below (λ l. turn_entry s h (turn_on h (record { 0 = l }))) (lanes s))
-    (or_else (registration h)
+    (or_else (registration s h)
     (or_else (stop_entry s h Asked)
-    (or_else (leaving_entry h)
+    (or_else (stop_entry s h Auto)
+    (or_else (leaving_entry s h)
     (or_else (left_entry s h)
     (or_else (first_below (λ l. taking_entry s h (record { 0 = l })) (lanes s))
-    (stop_entry s h Idle))))))
+    (stop_entry s h Idle)))))))
 
 abbrev pub fitting : SceneParts → ℕ → List Entry → Option Entry → Option Entry
 fitting s limit h None = None

@@ -10,7 +10,9 @@ use Rattle.so_ids.specs.declared.Target.{Target}
 use Rattle.so_ids.specs.declared.Target.TheVariants.{Mbox, Chain}
 use Rattle.so_ids.specs.Ids.{same_demand}
 use Rattle.so_code.specs.declared.effect.Effect.{Effect}
-use Rattle.so_code.specs.declared.effect.Effect.TheVariants.{Send}
+use Rattle.so_code.specs.declared.effect.Effect.TheVariants as effect
+use Rattle.so_code.specs.declared.effect.Answer.{Answer}
+use Rattle.so_code.specs.declared.effect.Answer.TheVariants as answer
 use Rattle.so_scene.specs.declared.parts.SceneParts.{SceneParts}
 use Rattle.so_scene.specs.Parts.{agents_of}
 use Rattle.so_scene.specs.Delivery.{events}
@@ -36,20 +38,21 @@ ask_each kind agents = map (λ a. record { agent = a; kind = kind }) agents
 abbrev pub ask : Queued → Asked
 ask event = record { agent = event.agent; kind = Event event.mbox event.msg event.payload }
 
--- what a turn's effect asks: a message that is sent asks what its delivery queues
+-- what a turn's effect asks: a message that is sent asks what its delivery queues, and a registration that each agent starts
 abbrev pub asked_by_target : SceneParts → List Entry → Target → MsgId → Payload → List Asked
 asked_by_target s h (Mbox mbox) msg payload = map ask (events (delivered s h mbox msg payload))
 asked_by_target s h (Chain chain) msg payload = []
 
-abbrev pub asked_by_effect : SceneParts → List Entry → Effect → List Asked
-asked_by_effect s h (Send target msg payload) = asked_by_target s h target msg payload
-asked_by_effect s h other = []
+abbrev pub asked_by_effect : SceneParts → List Entry → Effect → Answer → List Asked
+asked_by_effect s h (effect.Send target msg payload) answer = asked_by_target s h target msg payload
+asked_by_effect s h (effect.Register coop) answer.Okay = ask_each Start (agents_of s coop)
+asked_by_effect s h effect answer = []
 
 -- what an entry after this history asks: each agent of a cooperation is to start where it is registered, and to finish where it leaves
 abbrev pub asked_by : SceneParts → List Entry → EntryKind → List Asked
 asked_by s h (Register coop) = ask_each Start (agents_of s coop)
 asked_by s h (Leaving coop reason) = ask_each Finish (agents_of s coop)
-asked_by s h (Act turn effect answer) = asked_by_effect s h effect
+asked_by s h (Act turn effect answer) = asked_by_effect s h effect answer
 asked_by s h other = []
 
 -- the k-th demand of an entry at a place

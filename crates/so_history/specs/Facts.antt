@@ -1,5 +1,5 @@
 -- What a legal history has, in plain words.
-use Rattle.std.specs.Prelude.{◌≡◌, ◌⊎◌, ℕ, ◌==◌, ◌<◌, ◌≤◌, List, [], Bool, true, false, Option, Some, None, count_by}
+use Rattle.std.specs.Prelude.{◌≡◌, ◌⊎◌, ℕ, ◌==◌, ◌<◌, ◌≤◌, nat_le, List, [], length, Bool, true, false, Option, Some, None, count_by}
 use Rattle.std.specs.List.{filter, last_or}
 use Rattle.so_ids.specs.declared.AgentId.{AgentId}
 use Rattle.so_ids.specs.declared.CoopId.{CoopId}
@@ -7,22 +7,29 @@ use Rattle.so_ids.specs.declared.LaneId.{LaneId}
 use Rattle.so_ids.specs.declared.DemandId.{DemandId}
 use Rattle.so_ids.specs.declared.Opening.{Opening}
 use Rattle.so_ids.specs.declared.Reason.{Reason}
+use Rattle.so_ids.specs.declared.Refusal.{Refusal}
 use Rattle.so_ids.specs.Ids.{is_earlier}
 use Rattle.so_lists.specs.Lists.{head}
 use Rattle.so_scene.specs.declared.parts.SceneParts.{SceneParts}
-use Rattle.so_scene.specs.Parts.{agents_of, priority_of}
+use Rattle.so_scene.specs.Parts.{agents_of, coop_of, priority_of}
+use Rattle.so_code.specs.declared.effect.Effect.TheVariants as effect
+use Rattle.so_code.specs.declared.effect.Answer.TheVariants as answer
 use Rattle.so_scene.specs.declared.parts.DispKind.{DispKind}
 use Rattle.so_scene.specs.declared.parts.DispKind.TheVariants.{StrictlyOrdered, QuotedRoundRobin}
 use Rattle.so_scene.specs.Lanes.{queue_of}
 use Rattle.so_history.specs.declared.entry.Entry.{Entry}
 use Rattle.so_history.specs.declared.entry.EntryKind.{EntryKind}
-use Rattle.so_history.specs.declared.entry.EntryKind.TheVariants.{Register, Begin, Skip, Leaving, Left}
+use Rattle.so_history.specs.declared.entry.EntryKind.TheVariants.{Register, Refuse, Act, Begin, Skip, Leaving, Left}
 use Rattle.so_history.specs.declared.entry.SkipWhy.{SkipWhy}
 use Rattle.so_history.specs.declared.entry.Demand.{Demand}
+use Rattle.so_history.specs.declared.entry.DemandKind.{DemandKind}
 use Rattle.so_history.specs.declared.entry.DemandKind.TheVariants.{Start, Finish}
 use Rattle.so_history.specs.Places.{entry_at, before}
 use Rattle.so_history.specs.Demands.{ask_each, demands_from, demands, named, takes, waiting}
-use Rattle.so_history.specs.Turns.{ends, running}
+use Rattle.so_ids.specs.declared.Place.{Place}
+use Rattle.so_history.specs.Leaves.{is_of}
+use Rattle.so_history.specs.Turns.{ends}
+use Rattle.so_history.specs.Finishing.{IsQuiet}
 use Rattle.so_history.specs.Safety.{kind_of, is_safe}
 use Rattle.so_history.specs.Order.{opening_of, skipped}
 
@@ -125,21 +132,59 @@ pub record ByChoice (s : SceneParts) (h : List Entry) : Type 0 where
 abbrev pub queued_at : SceneParts → List Entry → ℕ → List Demand
 queued_at s h place = filter (λ d. d.id.place.0 == place) (demands s h)
 
--- whole cooperations: each agent is to start where its cooperation is registered, and to finish where it leaves;
--- and when it has left, no demand waits and no turn runs
+-- the entry at a place registers a cooperation: main's, or an act's
+pub data RegistersAt (h : List Entry) (place : ℕ) (coop : CoopId) : Type 0 where
+  by_main : StandsAt h place (Register coop) → RegistersAt h place coop
+  by_act : (turn : Place) → StandsAt h place (Act turn (effect.Register coop) answer.Okay) → RegistersAt h place coop
+
+-- the entry at a place refuses to register a cooperation: main's, or an act's
+pub data RefusesAt (h : List Entry) (place : ℕ) (coop : CoopId) (cause : Refusal) : Type 0 where
+  by_main : StandsAt h place (Refuse coop cause) → RefusesAt h place coop cause
+  by_act : (turn : Place) → StandsAt h place (Act turn (effect.Register coop) (answer.Refused cause)) → RefusesAt h place coop cause
+
+-- a cooperation leaves for good between two places
+pub record LeftBetween (h : List Entry) (coop : CoopId) (i j : ℕ) : Type 0 where
+  pub place : ℕ
+  pub later : i < place
+  pub earlier : place < j
+  pub left : StandsAt h place (Left coop)
+
+-- whole cooperations: each agent is to start where its cooperation is registered, none where that is refused, and each to finish
+-- where it leaves; when it has left, none of its agents has a demand that waits or a turn that runs; and of the cooperations that
+-- name it as their parent, each that was registered has left before it
 pub record WholeCoops (s : SceneParts) (h : List Entry) : Type 0 where
-  pub starts : (place : ℕ) (coop : CoopId) → StandsAt h place (Register coop) → queued_at s h place ≡ demands_from place 0 (ask_each Start (agents_of s coop))
+  pub starts : (place : ℕ) (coop : CoopId) → RegistersAt h place coop → queued_at s h place ≡ demands_from place 0 (ask_each Start (agents_of s coop))
+  pub refused : (place : ℕ) (coop : CoopId) (cause : Refusal) → RefusesAt h place coop cause → queued_at s h place ≡ []
   pub finishes : (place : ℕ) (coop : CoopId) (reason : Reason) → StandsAt h place (Leaving coop reason) → queued_at s h place ≡ demands_from place 0 (ask_each Finish (agents_of s coop))
-  pub leaves : (place : ℕ) (coop : CoopId) → StandsAt h place (Left coop) → (waiting s (before h place) ≡ []) × (running (before h place) ≡ [])
+  pub leaves : (place : ℕ) (coop : CoopId) → StandsAt h place (Left coop) → IsQuiet s (before h place) coop
+  pub children :
+      (i j : ℕ) (child parent : CoopId) → (coop_of s child).parent ≡ Some parent → RegistersAt h i child → StandsAt h j (Left parent) → i < j →
+      LeftBetween h child i j
 
 -- the demands of an agent
 abbrev pub demands_for : SceneParts → List Entry → AgentId → List Demand
 demands_for s h a = filter (λ d. d.agent.0 == a.0) (demands s h)
 
--- start and finish: an agent's first demand is to start, and its last, when its cooperation has left, is to finish
+-- those that were queued at a place or after it
+abbrev pub demands_since : SceneParts → List Entry → ℕ → AgentId → List Demand
+demands_since s h place a = filter (λ d. nat_le place d.id.place.0) (demands_for s h a)
+
+-- a demand of this kind comes first, or last, of these
+pub record IsFirst (kind : DemandKind) (ds : List Demand) : Type 0 where
+  pub demand : Demand
+  pub first : head ds ≡ Some demand
+  pub is : demand.kind ≡ kind
+
+pub record IsLast (kind : DemandKind) (ds : List Demand) : Type 0 where
+  pub demand : Demand
+  pub last : last_or None ds ≡ Some demand
+  pub is : demand.kind ≡ kind
+
+-- start and finish: from the registration of its cooperation an agent's first demand is to start, and its last, when the
+-- cooperation has left, is to finish
 pub record StartsAndFinishes (s : SceneParts) (h : List Entry) : Type 0 where
-  pub first : (a : AgentId) (d : Demand) → head (demands_for s h a) ≡ Some d → d.kind ≡ Start
-  pub last : (place : ℕ) (coop : CoopId) (a : AgentId) (d : Demand) → StandsAt h place (Left coop) → last_or None (demands_for s (before h place) a) ≡ Some d → d.kind ≡ Finish
+  pub first : (place : ℕ) (coop : CoopId) (a : AgentId) → RegistersAt h place coop → a.0 < length s.agents → is_of s coop a ≡ true → IsFirst Start (demands_since s h place a)
+  pub last : (i j : ℕ) (coop : CoopId) (a : AgentId) → RegistersAt h i coop → StandsAt h j (Left coop) → i < j → a.0 < length s.agents → is_of s coop a ≡ true → IsLast Finish (demands_since s (before h j) i a)
 
 -- the six facts
 pub record HasFacts (s : SceneParts) (h : List Entry) : Type 0 where

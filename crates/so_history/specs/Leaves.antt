@@ -6,7 +6,9 @@ use Rattle.so_ids.specs.declared.Place.{Place}
 use Rattle.so_ids.specs.declared.StateId.{StateId}
 use Rattle.so_ids.specs.declared.Plan.{Plan}
 use Rattle.so_code.specs.declared.effect.Effect.{Effect}
-use Rattle.so_code.specs.declared.effect.Effect.TheVariants.{SetState}
+use Rattle.so_code.specs.declared.effect.Effect.TheVariants as effect
+use Rattle.so_code.specs.declared.effect.Answer.{Answer}
+use Rattle.so_code.specs.declared.effect.Answer.TheVariants as answer
 use Rattle.so_lists.specs.Lists.{head}
 use Rattle.so_state.specs.States.{default_state}
 use Rattle.so_state.specs.Plan.{plan}
@@ -25,13 +27,15 @@ is_of s coop a = (agent_of s a).coop.0 == coop.0
 abbrev pub is_turn_of : List Entry → Place → AgentId → Bool
 is_turn_of h turn a = (beginner_at (entry_at h turn.0)).0 == a.0
 
-abbrev pub leaves_by_effect : Effect → List StateId → List StateId
-leaves_by_effect (SetState leaf) leaves = leaf ∷ leaves
-leaves_by_effect other leaves = leaves
+-- an act enters a state for the turn's own agent, and a registration forgets what an agent of the cooperation has entered
+abbrev pub leaves_by_effect : SceneParts → List Entry → Place → Effect → Answer → AgentId → List StateId → List StateId
+leaves_by_effect s h turn (effect.SetState leaf) answer a leaves = if is_turn_of h turn a then leaf ∷ leaves else leaves
+leaves_by_effect s h turn (effect.Register coop) answer.Okay a leaves = if is_of s coop a then [] else leaves
+leaves_by_effect s h turn effect answer a leaves = leaves
 
 abbrev pub leaves_by : SceneParts → List Entry → EntryKind → AgentId → List StateId → List StateId
 leaves_by s h (Register coop) a leaves = if is_of s coop a then [] else leaves
-leaves_by s h (Act turn effect answer) a leaves = if is_turn_of h turn a then leaves_by_effect effect leaves else leaves
+leaves_by s h (Act turn effect answer) a leaves = leaves_by_effect s h turn effect answer a leaves
 leaves_by s h other a leaves = leaves
 
 -- the leaves that an agent has entered since its registration, the newest first

@@ -11,6 +11,7 @@ pub mod Heads
 pub mod Order
 pub mod Steps
 pub mod Chain
+pub mod Finishing
 pub mod Facts
 pub mod Sharing
 pub mod Trace

@@ -1,5 +1,6 @@
 -- Which entry may follow a history, and which histories are legal.
-use Rattle.std.specs.Prelude.{◌≡◌, ℕ, ◌<◌, ◌≤◌, List, [], ◌∷◌, length, Bool, true, false, not, ◌&&◌, ◌||◌, ◌⊎◌, Option, Some, None, if◌then◌else◌, slice_index_or, is_some}
+use Rattle.std.specs.Prelude.{◌≡◌, ℕ, ◌<◌, ◌≤◌, List, [], ◌∷◌, length, Bool, true, false, not, ◌&&◌, ◌||◌, ◌⊎◌, Option, Some, None, if◌then◌else◌, slice_index_or, is_some, is_none}
+use Rattle.std.specs.List.{filter}
 use Rattle.std.specs.Option.{option_map}
 use Rattle.so_ids.specs.declared.PartyId.{PartyId}
 use Rattle.so_ids.specs.declared.LaneId.{LaneId}
@@ -11,7 +12,8 @@ use Rattle.so_ids.specs.declared.RowId.{RowId}
 use Rattle.so_ids.specs.declared.Plan.{Plan}
 use Rattle.so_ids.specs.declared.Target.{Target}
 use Rattle.so_ids.specs.declared.Target.TheVariants.{Mbox, Chain}
-use Rattle.so_ids.specs.declared.Reason.TheVariants.{Shutdown}
+use Rattle.so_ids.specs.declared.Reason.{Reason}
+use Rattle.so_ids.specs.declared.Refusal.{Refusal}
 use Rattle.so_ids.specs.Ids.{main_party, party_of}
 use Rattle.so_code.specs.declared.effect.Answer.{Answer}
 use Rattle.so_code.specs.declared.effect.Answer.TheVariants as answer
@@ -19,41 +21,58 @@ use Rattle.so_code.specs.declared.effect.Effect.{Effect}
 use Rattle.so_code.specs.declared.effect.Effect.TheVariants as effect
 use Rattle.so_code.specs.declared.effect.Move.{Move}
 use Rattle.so_code.specs.declared.effect.Move.TheVariants.{Do, Done, Fail}
-use Rattle.so_lists.specs.Lists.{is_empty}
+use Rattle.so_lists.specs.Lists.{is_empty, first_below}
 use Rattle.so_scene.specs.declared.parts.SceneParts.{SceneParts}
 use Rattle.so_scene.specs.Parts.{mboxes, rows_of, filters_of, states_of}
 use Rattle.so_scene.specs.Subscriptions.{row_of}
 use Rattle.so_scene.specs.Definition.{is_twice}
 use Rattle.so_scene.specs.Checked.{IsTarget}
 use Rattle.so_scene.specs.Lanes.{lanes}
+use Rattle.so_scene.specs.Cooperations.{coop_number, admission, reason_of, leaving_next, has_child}
 use Rattle.so_history.specs.declared.entry.Entry.{Entry}
 use Rattle.so_history.specs.declared.entry.EntryKind.{EntryKind}
-use Rattle.so_history.specs.declared.entry.EntryKind.TheVariants.{Register, Begin, Skip, Act, End, Leaving, Left, Stop, Abort}
+use Rattle.so_history.specs.declared.entry.EntryKind.TheVariants.{Register, Refuse, Begin, Skip, Act, End, Leaving, Left, Stop, Abort}
 use Rattle.so_history.specs.declared.entry.Demand.{Demand}
 use Rattle.so_history.specs.declared.entry.StopCause.{StopCause}
-use Rattle.so_history.specs.declared.entry.StopCause.TheVariants.{Asked, Idle}
+use Rattle.so_history.specs.declared.entry.StopCause.TheVariants.{Asked, Auto, Idle}
 use Rattle.so_history.specs.declared.entry.AbortCause.{AbortCause}
 use Rattle.so_history.specs.declared.entry.AbortCause.TheVariants.{Exception}
 use Rattle.so_history.specs.declared.entry.EventSource.{EventSource}
-use Rattle.so_history.specs.Leaves.{switch_of}
+use Rattle.so_history.specs.Leaves.{is_of, switch_of}
 use Rattle.so_history.specs.Delivery.{active_rows, active_filters, sent, chosen_for}
 use Rattle.so_history.specs.Demands.{waiting}
 use Rattle.so_history.specs.Turns.{Started, Course, running, turn_at, course, move_of}
-use Rattle.so_history.specs.Coops.{the_coop, tried, present, leaving, stopped, stop_asked, aborted, has_reason}
+use Rattle.so_history.specs.Coops.{roster, leaving, may_mark, next_coop, all_tried, stopped, stop_asked, all_gone, aborted, standing}
 use Rattle.so_history.specs.Order.{pick, taking}
 
--- the cooperation is leaving, and none of its agents has a demand or a turn
-unfoldable pub may_leave : SceneParts → List Entry → Bool
-may_leave s h = leaving h && (is_empty (waiting s h) && is_empty (running h))
+-- the demands that wait for agents of a cooperation, and the turns of these that run
+abbrev pub waiting_for : SceneParts → List Entry → CoopId → List Demand
+waiting_for s h c = filter (λ d. is_of s c d.agent) (waiting s h)
 
--- nothing is left to do
+abbrev pub running_for : SceneParts → List Entry → CoopId → List Started
+running_for s h c = filter (λ t. is_of s c t.agent) (running h)
+
+-- the cooperation is leaving, none of its agents has a demand or a turn, so that they have finished, and it has no child
+unfoldable pub may_leave : SceneParts → List Entry → CoopId → Bool
+may_leave s h c =
+    leaving h c && (is_empty (waiting_for s h c) && (is_empty (running_for s h c) && not (has_child s (standing h) c)))
+
+-- the least cooperation that may leave
+abbrev pub left_at : SceneParts → List Entry → ℕ → Option CoopId
+left_at s h k = if may_leave s h (coop_number k) then Some (coop_number k) else None
+
+unfoldable pub left_next : SceneParts → List Entry → Option CoopId
+left_next s h = first_below (left_at s h) (length s.coops)
+
+-- nothing is left to do: main has tried all its registrations, no demand waits, no turn runs, and no cooperation has a reason
+-- to leave or may leave
 unfoldable pub is_idle : SceneParts → List Entry → Bool
 is_idle s h =
-    tried h && (is_empty (waiting s h) && (is_empty (running h) && (not (has_reason h) && not (may_leave s h))))
+    all_tried s h && (is_empty (waiting s h) && (is_empty (running h) && (is_none (leaving_next s (standing h)) && is_none (left_next s h))))
 
--- the run is over: it was stopped, the cooperation isn't there, and no demand waits
+-- the run is over: it was stopped, no cooperation is present, and no demand waits
 unfoldable pub finished : SceneParts → List Entry → Bool
-finished s h = stopped h && (not (present h) && is_empty (waiting s h))
+finished s h = stopped h && (is_empty (roster h) && is_empty (waiting s h))
 
 -- nothing follows: the run is over, or it was aborted
 abbrev pub is_over : SceneParts → List Entry → Bool
@@ -70,6 +89,8 @@ NamesEffect s a event (effect.DropFilter filter) = filter.0 < length (filters_of
 NamesEffect s a event (effect.Switch to) = to.0 ≤ length (states_of s a)
 NamesEffect s a event (effect.SetState leaf) = leaf.0 ≤ length (states_of s a)
 NamesEffect s a event effect.Choose = is_some event ≡ true
+NamesEffect s a event (effect.Register coop) = coop.0 < length s.coops
+NamesEffect s a event (effect.Deregister coop) = coop.0 < length s.coops
 NamesEffect s a event effect.Stop = Unit {0}
 NamesEffect s a event other = ⊥
 
@@ -98,6 +119,11 @@ answer_to_switch (Some plan) = answer.Planned plan
 abbrev pub choice_for : SceneParts → List Entry → AgentId → EventSource → Answer
 choice_for s h a event = answer.Chose (chosen_for s h a event.mbox event.msg)
 
+-- a registration is made, or refused for this cause
+abbrev pub answer_to_register : Option Refusal → Answer
+answer_to_register None = answer.Okay
+answer_to_register (Some cause) = answer.Refused cause
+
 -- the answer to an effect of an agent's turn, where it has one
 abbrev pub answer_of : SceneParts → List Entry → AgentId → Option EventSource → Effect → Option Answer
 answer_of s h a event (effect.Log text payload) = Some answer.Okay
@@ -109,6 +135,8 @@ answer_of s h a event (effect.DropFilter filter) = Some (yes_where (is_active (a
 answer_of s h a event (effect.Switch to) = Some (answer_to_switch (switch_of s h a to))
 answer_of s h a event (effect.SetState leaf) = Some answer.Okay
 answer_of s h a event effect.Choose = option_map (choice_for s h a) event
+answer_of s h a event (effect.Register coop) = Some (answer_to_register (admission s (standing h) coop))
+answer_of s h a event (effect.Deregister coop) = Some (yes_where (may_mark h coop))
 answer_of s h a event effect.Stop = Some answer.Okay
 answer_of s h a event other = None
 
@@ -139,25 +167,30 @@ pub record IsMove (s : SceneParts) (h : List Entry) (by : PartyId) (place : ℕ)
   pub has : course s h place ≡ Some reached
   pub is : entry_of s h reached.agent reached.event place (move_of s reached).0 ≡ Some kind
 
-pub record IsRegister (h : List Entry) (by : PartyId) (coop : CoopId) : Type 0 where
+-- main registers its next cooperation, where the rules of admission refuse it or don't
+pub record IsRegistering (s : SceneParts) (h : List Entry) (by : PartyId) (coop : CoopId) (cause : Option Refusal) : Type 0 where
   pub signed : by ≡ main_party
-  pub the_one : coop ≡ the_coop
-  pub untried : tried h ≡ false
+  pub next : next_coop s h ≡ Some coop
+  pub admitted : admission s (standing h) coop ≡ cause
 
-pub record IsLeaving (h : List Entry) (by : PartyId) (kind : EntryKind) : Type 0 where
+-- a cooperation with a reason begins to leave
+pub record IsLeaving (s : SceneParts) (h : List Entry) (by : PartyId) (coop : CoopId) (reason : Reason) : Type 0 where
   pub signed : by ≡ main_party
-  pub is : kind ≡ Leaving the_coop Shutdown
-  pub reason : has_reason h ≡ true
+  pub has : reason_of s (standing h) coop ≡ Some reason
 
 pub record IsLeft (s : SceneParts) (h : List Entry) (by : PartyId) (coop : CoopId) : Type 0 where
   pub signed : by ≡ main_party
-  pub the_one : coop ≡ the_coop
-  pub may : may_leave s h ≡ true
+  pub may : may_leave s h coop ≡ true
 
--- a stop comes once: where a turn asked for it, or else where nothing is left to do
+-- a stop comes once: where a turn asked for it; else, with autoshutdown, where all cooperations are gone; else where nothing is
+-- left to do
+abbrev pub is_auto : SceneParts → List Entry → Bool
+is_auto s h = s.autoshutdown && all_gone s h
+
 abbrev pub may_stop : SceneParts → List Entry → StopCause → Bool
 may_stop s h Asked = not (stopped h) && stop_asked h
-may_stop s h Idle = not (stopped h) && (not (stop_asked h) && is_idle s h)
+may_stop s h Auto = not (stopped h) && (not (stop_asked h) && is_auto s h)
+may_stop s h Idle = not (stopped h) && (not (stop_asked h) && (not (is_auto s h) && is_idle s h))
 
 pub record IsStop (s : SceneParts) (h : List Entry) (by : PartyId) (cause : StopCause) : Type 0 where
   pub signed : by ≡ main_party
@@ -169,12 +202,13 @@ IsAbort s h by (Exception turn kind) = IsMove s h by turn.0 (Abort (Exception tu
 
 -- what an entry of each kind asks of the history before it
 abbrev pub IsRow : SceneParts → List Entry → PartyId → EntryKind → Type 0
-IsRow s h by (Register coop) = IsRegister h by coop
+IsRow s h by (Register coop) = IsRegistering s h by coop None
+IsRow s h by (Refuse coop cause) = IsRegistering s h by coop (Some cause)
 IsRow s h by (Begin lane demand opening agent) = IsTaking s h by lane (Begin lane demand opening agent)
 IsRow s h by (Skip lane demand why) = IsTaking s h by lane (Skip lane demand why)
 IsRow s h by (Act turn effect answer) = IsMove s h by turn.0 (Act turn effect answer)
 IsRow s h by (End turn) = IsMove s h by turn.0 (End turn)
-IsRow s h by (Leaving coop reason) = IsLeaving h by (Leaving coop reason)
+IsRow s h by (Leaving coop reason) = IsLeaving s h by coop reason
 IsRow s h by (Left coop) = IsLeft s h by coop
 IsRow s h by (Stop cause) = IsStop s h by cause
 IsRow s h by (Abort cause) = IsAbort s h by cause

@@ -1,18 +1,23 @@
 -- The text of a history: a line for each entry that has one.
 use Rattle.std.specs.Prelude.{ℕ, ◌<◌, List, [], ◌∷◌, ◌++◌, length, codes, Option, Some, None}
+use Rattle.so_ids.specs.declared.CoopId.{CoopId}
 use Rattle.so_ids.specs.declared.Payload.{Payload}
+use Rattle.so_ids.specs.declared.Refusal.{Refusal}
+use Rattle.so_ids.specs.declared.Refusal.TheVariants as refusal
 use Rattle.so_ids.specs.declared.TextId.{TextId}
 use Rattle.so_code.specs.declared.effect.Effect.{Effect}
-use Rattle.so_code.specs.declared.effect.Effect.TheVariants.{Log}
+use Rattle.so_code.specs.declared.effect.Effect.TheVariants as effect
+use Rattle.so_code.specs.declared.effect.Answer.{Answer}
+use Rattle.so_code.specs.declared.effect.Answer.TheVariants as answer
 use Rattle.so_lines.specs.Lines.{payload_words}
 use Rattle.so_scene.specs.declared.parts.SceneParts.{SceneParts}
-use Rattle.so_scene.specs.Parts.{agent_of, text_of}
+use Rattle.so_scene.specs.Parts.{agent_of, coop_of, text_of}
 use Rattle.so_history.specs.declared.entry.Entry.{Entry}
 use Rattle.so_history.specs.declared.entry.EntryKind.{EntryKind}
-use Rattle.so_history.specs.declared.entry.EntryKind.TheVariants.{Act, Abort}
+use Rattle.so_history.specs.declared.entry.EntryKind.TheVariants.{Refuse, Act, Abort}
 use Rattle.so_history.specs.declared.entry.AbortCause.{AbortCause}
 use Rattle.so_history.specs.declared.entry.AbortCause.TheVariants.{Exception}
-use Rattle.so_history.specs.Trace.{fail_words, trace_line}
+use Rattle.so_history.specs.Trace.{fail_words, fault_words, trace_line}
 use Rattle.so_history.specs.declared.lines.Mode.{Mode}
 use Rattle.so_history.specs.declared.lines.Mode.TheVariants.{Plain, Trace}
 use Rattle.so_history.specs.Places.{entry_at, before, beginner_at}
@@ -25,14 +30,34 @@ owner s h turn = (agent_of s (beginner_at (entry_at h turn))).name
 abbrev pub log_line : SceneParts → List ℕ → TextId → Payload → List ℕ
 log_line s owner text payload = owner ++ codes ": " ++ text_of s text ++ payload_words payload ++ codes "\n"
 
-abbrev pub effect_line : SceneParts → List ℕ → Effect → List ℕ
-effect_line s owner (Log text payload) = log_line s owner text payload
-effect_line s owner other = []
+-- why a registration was refused
+abbrev pub cause_in_names : SceneParts → Refusal → List ℕ
+cause_in_names s refusal.Empty = codes "empty"
+cause_in_names s refusal.Parent = codes "parent"
+cause_in_names s refusal.Present = codes "present"
+cause_in_names s (refusal.Binding agent) = codes "binding " ++ (agent_of s agent).name
+cause_in_names s (refusal.Definition agent fault) = codes "definition " ++ (agent_of s agent).name ++ codes " " ++ fault_words fault
 
--- the text that an effect names is one of the scene's
-abbrev pub HasText : SceneParts → Effect → Type 0
-HasText s (Log text payload) = text.0 < length s.texts
-HasText s other = Unit {0}
+abbrev pub refused_line : SceneParts → CoopId → Refusal → List ℕ
+refused_line s coop cause = codes "refused " ++ (coop_of s coop).name ++ codes ": " ++ cause_in_names s cause ++ codes "\n"
+
+-- the line of an act
+abbrev pub effect_line : SceneParts → List ℕ → Effect → Answer → List ℕ
+effect_line s owner (effect.Log text payload) answer = log_line s owner text payload
+effect_line s owner (effect.Register coop) (answer.Refused cause) = refused_line s coop cause
+effect_line s owner effect answer = []
+
+-- the agent that a refusal names is there
+abbrev pub NamesCause : SceneParts → Refusal → Type 0
+NamesCause s (refusal.Binding agent) = agent.0 < length s.agents
+NamesCause s (refusal.Definition agent fault) = agent.0 < length s.agents
+NamesCause s other = Unit {0}
+
+-- what the line of an act names is there
+abbrev pub NamesLine : SceneParts → Effect → Answer → Type 0
+NamesLine s (effect.Log text payload) answer = text.0 < length s.texts
+NamesLine s (effect.Register coop) (answer.Refused cause) = (coop.0 < length s.coops) × NamesCause s cause
+NamesLine s effect answer = Unit {0}
 
 -- why the run was aborted, in names
 abbrev pub abort_line : SceneParts → List Entry → AbortCause → List ℕ
@@ -40,7 +65,8 @@ abort_line s h (Exception turn kind) = codes "abort: exception " ++ owner s h tu
 
 -- a line in plain words, in names
 abbrev pub plain_line : SceneParts → List Entry → EntryKind → List ℕ
-plain_line s h (Act turn effect answer) = effect_line s (owner s h turn.0) effect
+plain_line s h (Refuse coop cause) = refused_line s coop cause
+plain_line s h (Act turn effect answer) = effect_line s (owner s h turn.0) effect answer
 plain_line s h (Abort cause) = abort_line s h cause
 plain_line s h other = []
 

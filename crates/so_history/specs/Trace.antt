@@ -169,6 +169,7 @@ answer_words (answer.Ended why) = codes "ended " ++ ended_words why
 
 abbrev pub stop_words : StopCause → List ℕ
 stop_words stop_cause.Asked = codes "stop asked"
+stop_words stop_cause.Auto = codes "stop auto"
 stop_words stop_cause.Idle = codes "stop idle"
 
 abbrev pub abort_words : AbortCause → List ℕ
@@ -181,6 +182,7 @@ skip_words skip_why.Stale = codes "stale"
 
 abbrev pub kind_words : EntryKind → List ℕ
 kind_words (entry.Register coop) = codes "register " ++ decimal coop.0
+kind_words (entry.Refuse coop cause) = codes "refuse " ++ decimal coop.0 ++ codes " " ++ refusal_words cause
 kind_words (entry.Begin lane demand opening agent) = codes "begin " ++ decimal lane.0 ++ codes " " ++ demand_words demand ++ codes " " ++ opening_words opening
 kind_words (entry.Skip lane demand why) = codes "skip " ++ decimal lane.0 ++ codes " " ++ demand_words (Some demand) ++ codes " " ++ skip_words why
 kind_words (entry.Act turn effect answer) = codes "act " ++ decimal turn.0 ++ codes " " ++ effect_words effect ++ codes " = " ++ answer_words answer

@@ -3,6 +3,7 @@ use Rattle.std.specs.Prelude.{ℕ, ◌==◌, List, [], ◌∷◌, ◌++◌, leng
 use Rattle.std.specs.List.{filter, find}
 use Rattle.std.specs.Option.{option_map}
 use Rattle.so_ids.specs.declared.PartyId.{PartyId}
+use Rattle.so_ids.specs.declared.CoopId.{CoopId}
 use Rattle.so_ids.specs.declared.LaneId.{LaneId}
 use Rattle.so_ids.specs.declared.KeyId.{KeyId}
 use Rattle.so_ids.specs.declared.AgentId.{AgentId}
@@ -12,17 +13,21 @@ use Rattle.so_ids.specs.declared.Vars.{Vars}
 use Rattle.so_ids.specs.declared.Opening.{Opening}
 use Rattle.so_code.specs.declared.frame.Frame.{Frame}
 use Rattle.so_code.specs.declared.effect.Answer.{Answer}
+use Rattle.so_code.specs.declared.effect.Answer.TheVariants as answer
+use Rattle.so_code.specs.declared.effect.Effect.{Effect}
+use Rattle.so_code.specs.declared.effect.Effect.TheVariants as effect
 use Rattle.so_code.specs.declared.effect.Move.{Move}
 use Rattle.so_code.specs.Machine.{after}
 use Rattle.so_code.specs.Openings.{begun}
 use Rattle.so_code.specs.Answers.{answered}
 use Rattle.so_scene.specs.declared.parts.SceneParts.{SceneParts}
-use Rattle.so_scene.specs.Parts.{agent_of, code_of, vars_of}
+use Rattle.so_scene.specs.Parts.{code_of, vars_of}
 use Rattle.so_scene.specs.Lanes.{key_of}
 use Rattle.so_history.specs.declared.entry.Entry.{Entry}
 use Rattle.so_history.specs.declared.entry.EntryKind.{EntryKind}
 use Rattle.so_history.specs.declared.entry.EntryKind.TheVariants.{Register, Begin, Act, End}
 use Rattle.so_history.specs.declared.entry.EventSource.{EventSource}
+use Rattle.so_history.specs.Leaves.{is_of}
 use Rattle.so_history.specs.Demands.{message_of, event_of}
 use Rattle.so_history.specs.Safety.{is_safe}
 
@@ -99,9 +104,18 @@ abbrev pub ended_vars : SceneParts → AgentId → Option Course → Vars → Va
 ended_vars s a None v = v
 ended_vars s a (Some c) v = if c.agent.0 == a.0 && not c.safe then (move_of s c).1.vars else v
 
--- and after one more entry: a registration sets them anew
+-- after a registration: the agents of the cooperation have those of the scene
+abbrev pub first_vars : SceneParts → CoopId → AgentId → Vars → Vars
+first_vars s coop a v = if is_of s coop a then vars_of s a else v
+
+abbrev pub vars_by_effect : SceneParts → Effect → Answer → AgentId → Vars → Vars
+vars_by_effect s (effect.Register coop) answer.Okay a v = first_vars s coop a v
+vars_by_effect s effect answer a v = v
+
+-- and after one more entry
 abbrev pub vars_after : SceneParts → (ℕ → Option Course) → EntryKind → AgentId → Vars → Vars
-vars_after s courses (Register coop) a v = if (agent_of s a).coop.0 == coop.0 then vars_of s a else v
+vars_after s courses (Register coop) a v = first_vars s coop a v
+vars_after s courses (Act turn effect answer) a v = vars_by_effect s effect answer a v
 vars_after s courses (End turn) a v = ended_vars s a (courses turn.0) v
 vars_after s courses other a v = v
 

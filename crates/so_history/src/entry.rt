@@ -3,6 +3,7 @@
 use so_code::{Answer, Effect, FailKind};
 use so_ids::{
     AgentId, CoopId, DemandId, LaneId, MboxId, MsgId, Opening, PartyId, Payload, Place, Reason,
+    Refusal,
 };
 
 /// Why the run stops.
@@ -10,6 +11,8 @@ use so_ids::{
 pub enum StopCause {
     /// By a stop act.
     Asked,
+    /// The last cooperation has left (SObjectizer's autoshutdown).
+    Auto,
     /// Nothing is left to do.
     Idle,
 }
@@ -38,6 +41,11 @@ pub enum EntryKind {
     /// Main registered a cooperation.
     Register {
         coop: CoopId,
+    },
+    /// Main's registration of a cooperation was refused.
+    Refuse {
+        coop: CoopId,
+        cause: Refusal,
     },
     /// A lane took a demand, and a turn of its agent begins.
     Begin {

@@ -2,10 +2,13 @@
 
 ghost use Rattle.std.specs.Prelude.{◌≡◌, ◌<◌, List, None, length, true};
 ghost use Rattle.so_ids.specs.declared.AgentId.{AgentId};
+ghost use Rattle.so_ids.specs.declared.CoopId.{CoopId};
 ghost use Rattle.so_scene.specs.declared.parts.SceneParts.{SceneParts};
 ghost use Rattle.so_scene.specs.Checked.{IsScene};
 ghost use Rattle.so_history.specs.declared.entry.Entry.{Entry};
+ghost use Rattle.so_history.specs.Coops.{leaving};
 ghost use Rattle.so_history.specs.Steps.{finished, Legal};
+ghost use Rattle.so_history.specs.Finishing.{unfinished, IsQuiet};
 ghost use Rattle.so_history.specs.Chain.{first};
 ghost use Rattle.so_history.specs.Facts.{NoOverlap, TakenOnce, InOrder, ByChoice, WholeCoops, StartsAndFinishes};
 ghost use Rattle.so_history.specs.Sharing.{SharesByRule, NumbersQueues};
@@ -31,14 +34,20 @@ pub fn by_choice()
     ensures { (s : SceneParts) (h : List Entry) → Legal s h → ByChoice s h }
 {}
 
-/// A registration asks each agent to start, a leaving asks each to finish, and nothing is left when it has left.
+/// A registration asks each agent to start and a refused one none; a leaving asks each to finish; when a cooperation has
+/// left, nothing is left of its agents, and its children left before it.
 pub fn whole_coops()
     ensures { (s : SceneParts) (h : List Entry) → Legal s h → WholeCoops s h }
 {}
 
-/// An agent's first demand is to start, and its last is to finish.
+/// From a registration on, an agent's first demand is to start, and its last before its cooperation's Left is to finish.
 pub fn starts_and_finishes()
-    ensures { (s : SceneParts) (h : List Entry) → Legal s h → StartsAndFinishes s h }
+    ensures { (s : SceneParts) (h : List Entry) → IsScene s → Legal s h → StartsAndFinishes s h }
+{}
+
+/// Of a cooperation that is leaving, no demand waits and no turn runs as soon as its agents' finish turns are over.
+pub fn finishes_all()
+    ensures { (s : SceneParts) (h : List Entry) (c : CoopId) → IsScene s → Legal s h → leaving h c ≡ true → unfinished s h c ≡ 0 → IsQuiet s h c }
 {}
 
 /// Two agents of a scene share a queue exactly where they are bound to one dispatcher, and it puts them

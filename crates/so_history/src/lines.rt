@@ -1,18 +1,19 @@
 //! The lines of entries, as they are printed.
 
 ghost use Rattle.std.specs.Prelude.{◌≡◌, ◌+◌, ◌<◌, ◌≤◌, [], ◌++◌, length, codes, Some};
+ghost use Rattle.arrayvec.specs.ArrayVec.{array_vec_len};
 ghost use Rattle.so_scene.specs.Parts.{agent_of};
 ghost use Rattle.so_history.specs.Places.{entry_at, before, beginner, beginner_at};
 ghost use Rattle.so_history.specs.Steps.{Legal};
 ghost use Rattle.so_history.specs.Trace.{fail_words};
-ghost use Rattle.so_history.specs.Text.{HasText, effect_line, plain_line, line_at};
+ghost use Rattle.so_history.specs.Text.{NamesLine, NamesCause, log_line, effect_line, cause_in_names, refused_line, plain_line, line_at};
 
 use crate::entry::{AbortCause, Entry, EntryKind};
 use crate::history::History;
 use crate::trace::put_trace;
-use crate::words::put_fail;
-use so_code::{Effect, FailKind};
-use so_ids::{AgentId, Place};
+use crate::words::{put_fail, put_fault};
+use so_code::{Answer, Effect, FailKind};
+use so_ids::{AgentId, CoopId, Payload, Place, Refusal, TextId};
 use so_lines::{LineBuf, put, put_payload};
 use so_scene::Scene;
 
@@ -25,23 +26,73 @@ pub enum Mode {
     Trace,
 }
 
-/// Writes the line of an act's effect.
-fn put_effect(buf: &mut LineBuf, scene: &Scene, agent: AgentId, effect: Effect)
+/// Writes the line of what an agent logged.
+fn put_log(buf: &mut LineBuf, scene: &Scene, agent: AgentId, text: TextId, payload: &Payload)
     requires empty { buf.old.items ≡ [] }
     requires agent { agent.0 < length scene.now.agents }
-    requires text { HasText scene.now effect }
-    ensures { buf.new.items ≡ effect_line scene.now (agent_of scene.now agent).name effect }
+    requires text { text.0 < length scene.now.texts }
+    ensures { buf.new.items ≡ log_line scene.now (agent_of scene.now agent).name text payload.now }
+{
+    put(buf, scene.agent(agent).name.bytes());
+    put(buf, b": ");
+    put(buf, scene.text(text));
+    put_payload(buf, payload);
+    put(buf, b"\n");
+}
+
+/// Writes the line of an act.
+fn put_act(buf: &mut LineBuf, scene: &Scene, agent: AgentId, effect: Effect, answer: Answer)
+    requires empty { buf.old.items ≡ [] }
+    requires agent { agent.0 < length scene.now.agents }
+    requires named { NamesLine scene.now effect answer }
+    ensures { buf.new.items ≡ effect_line scene.now (agent_of scene.now agent).name effect answer }
 {
     match effect {
-        Effect::Log { text, payload } => {
-            put(buf, scene.agent(agent).name.bytes());
-            put(buf, b": ");
-            put(buf, scene.text(text));
-            put_payload(buf, &payload);
-            put(buf, b"\n");
-        }
+        Effect::Log { text, payload } => put_log(buf, scene, agent, text, &payload),
+        Effect::Register { coop } => match answer {
+            Answer::Refused(cause) => put_refused(buf, scene, coop, cause),
+            _ => {}
+        },
         _ => {}
     }
+}
+
+/// Appends why a registration was refused, in names.
+fn put_cause(buf: &mut LineBuf, scene: &Scene, cause: Refusal)
+    requires room { array_vec_len buf.old + 55 ≤ 512 }
+    requires agent { NamesCause scene.now cause }
+    ensures items { buf.new.items ≡ buf.old.items ++ cause_in_names scene.now cause }
+    ensures len { array_vec_len buf.new ≤ array_vec_len buf.old + 55 }
+{
+    match cause {
+        Refusal::Empty => put(buf, b"empty"),
+        Refusal::Parent => put(buf, b"parent"),
+        Refusal::Present => put(buf, b"present"),
+        Refusal::Binding(agent) => {
+            put(buf, b"binding ");
+            put(buf, scene.agent(agent).name.bytes());
+        }
+        Refusal::Definition(agent, fault) => {
+            put(buf, b"definition ");
+            put(buf, scene.agent(agent).name.bytes());
+            put(buf, b" ");
+            put_fault(buf, fault);
+        }
+    }
+}
+
+/// Writes the line of a registration that was refused.
+fn put_refused(buf: &mut LineBuf, scene: &Scene, coop: CoopId, cause: Refusal)
+    requires empty { buf.old.items ≡ [] }
+    requires coop { coop.0 < length scene.now.coops }
+    requires agent { NamesCause scene.now cause }
+    ensures { buf.new.items ≡ refused_line scene.now coop cause }
+{
+    put(buf, b"refused ");
+    put(buf, scene.coop(coop).name.bytes());
+    put(buf, b": ");
+    put_cause(buf, scene, cause);
+    put(buf, b"\n");
 }
 
 /// Writes the line of an agent's exception that aborts the run.
@@ -96,11 +147,12 @@ impl History {
     {
         let _parts = scene.parts();
         match entry.kind {
+            EntryKind::Refuse { coop, cause } => put_refused(buf, scene, coop, cause),
             EntryKind::Act {
                 turn,
                 effect,
-                answer: _,
-            } => put_effect(buf, scene, self.owner(turn), effect),
+                answer,
+            } => put_act(buf, scene, self.owner(turn), effect, answer),
             EntryKind::Abort {
                 cause: AbortCause::Exception(turn, kind),
             } => put_exception(buf, scene, self.owner(turn), kind),

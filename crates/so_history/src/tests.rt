@@ -113,6 +113,19 @@ fn leaving(reason: Reason, text: &'static str) -> Printed {
     )
 }
 
+/// A registration of main's that was refused.
+fn not_registered(cause: Refusal, text: &'static str) -> Printed {
+    line(
+        1,
+        0,
+        EntryKind::Refuse {
+            coop: CoopId(2),
+            cause,
+        },
+        text,
+    )
+}
+
 /// A put of a message without fields into a chain.
 fn stored(put: Put, text: &'static str) -> Printed {
     act(
@@ -206,6 +219,14 @@ fn each_kind_of_entry_has_its_words(rt: HostRuntime) {
             EntryKind::Register { coop: CoopId(3) },
             "0 p0 register 3\n",
         ),
+        not_registered(Refusal::Empty, "1 p0 refuse 2 empty\n"),
+        not_registered(Refusal::Parent, "1 p0 refuse 2 parent\n"),
+        not_registered(Refusal::Present, "1 p0 refuse 2 present\n"),
+        not_registered(Refusal::Binding(AgentId(6)), "1 p0 refuse 2 binding 6\n"),
+        not_registered(
+            Refusal::Definition(AgentId(6), DefFault::Twice),
+            "1 p0 refuse 2 definition 6 twice\n",
+        ),
         line(
             7,
             4,
@@ -266,6 +287,14 @@ fn each_kind_of_entry_has_its_words(rt: HostRuntime) {
                 cause: StopCause::Asked,
             },
             "21 p0 stop asked\n",
+        ),
+        line(
+            22,
+            0,
+            EntryKind::Stop {
+                cause: StopCause::Auto,
+            },
+            "22 p0 stop auto\n",
         ),
         line(
             22,
@@ -383,6 +412,11 @@ fn each_effect_has_its_words(rt: HostRuntime) {
             },
             Answer::No,
             "30 p2 act 9 drop_filter 2 = no\n",
+        ),
+        act(
+            Effect::Register { coop: CoopId(1) },
+            Answer::Okay,
+            "30 p2 act 9 register 1 = ok\n",
         ),
         act(
             Effect::Register { coop: CoopId(1) },

@@ -138,6 +138,7 @@ fn put_stop(buf: &mut LineBuf, cause: StopCause)
 {
     match cause {
         StopCause::Asked => put(buf, b"stop asked"),
+        StopCause::Auto => put(buf, b"stop auto"),
         StopCause::Idle => put(buf, b"stop idle"),
     }
 }
@@ -165,6 +166,11 @@ fn put_kind(buf: &mut LineBuf, kind: EntryKind)
 {
     match kind {
         EntryKind::Register { coop } => put_word(buf, b"register ", coop.0),
+        EntryKind::Refuse { coop, cause } => {
+            put_word(buf, b"refuse ", coop.0);
+            put(buf, b" ");
+            put_refusal(buf, cause);
+        }
         EntryKind::Begin {
             lane,
             demand,

@@ -91,7 +91,7 @@ pub(crate) fn put_fail(buf: &mut LineBuf, kind: FailKind)
 }
 
 /// Appends the definition rule that is broken.
-fn put_fault(buf: &mut LineBuf, fault: DefFault)
+pub(crate) fn put_fault(buf: &mut LineBuf, fault: DefFault)
     requires { array_vec_len buf.old + 11 ≤ 512 }
     ensures items { buf.new.items ≡ buf.old.items ++ fault_words fault }
     ensures len { array_vec_len buf.new ≤ array_vec_len buf.old + 11 }

@@ -1,6 +1,12 @@
 -- The effect of a turn that has moved, and its answer.
-use Rattle.std.proofs.Common.{◌≡◌, List, Some, refl, sym, ◌∙◌, ap, subst}
+use Rattle.std.proofs.Common.{◌≡◌, List, Option, Some, None, refl, sym, ◌∙◌, ap, subst}
+use Rattle.std.proofs.lemmas.Option.{same_Some}
+use Rattle.so_ids.specs.declared.AgentId.{AgentId}
+use Rattle.so_ids.specs.declared.CoopId.{CoopId}
+use Rattle.so_ids.specs.declared.Refusal.{Refusal}
 use Rattle.so_code.specs.declared.effect.Answer.{Answer}
+use Rattle.so_code.specs.declared.effect.Answer.TheVariants as answer
+use Rattle.so_code.specs.declared.effect.Effect.TheVariants as effect
 use Rattle.so_code.specs.declared.effect.Effect.{Effect}
 use Rattle.so_code.specs.declared.effect.Move.{Move}
 use Rattle.so_code.specs.declared.effect.Move.TheVariants.{Do}
@@ -12,16 +18,20 @@ use Rattle.so_code.proofs.Moves.{is_running}
 use Rattle.so_scene.specs.Parts.{code_of}
 use Rattle.so_scene.specs.Checked.{IsScene}
 use Rattle.so_history.specs.Turns.{move_of}
-use Rattle.so_history.specs.Steps.{NamesEffect, answer_of, IsMove, Legal}
+use Rattle.so_history.specs.Steps.{NamesEffect, answer_of, answer_to_register, IsMove, Legal}
 use Rattle.so_history.specs.declared.entry.Entry.{Entry}
 use Rattle.so_scene.specs.declared.parts.SceneParts.{SceneParts}
 use Rattle.so_history.proofs.SoundLaws.{IsSound, agent_code, moved_waits, moved_frame, names_parts, answer_fits, course_sound}
 use Rattle.so_kernel.specs.declared.answers.Turn.{Turn}
 use Rattle.so_kernel.specs.Shapes.{Core}
-use Rattle.so_history.specs.declared.entry.EntryKind.TheVariants.{Act}
+use Rattle.so_history.specs.declared.entry.EntryKind.{EntryKind}
+use Rattle.so_history.specs.declared.entry.EntryKind.TheVariants.{Register, Refuse, Act}
+use Rattle.so_scene.specs.Cooperations.{admission}
+use Rattle.so_history.specs.Coops.{standing}
+use Rattle.so_history.specs.Chain.{registering}
 use Rattle.so_history.proofs.TurnLaws.{turn_looked_up}
 use Rattle.so_history.proofs.TextLaws.{beginner_of}
-use Rattle.so_kernel.specs.Gates.{HasMoved, IsActOf, act_entry, answer_for}
+use Rattle.so_kernel.specs.Gates.{HasMoved, IsActOf, IsAnsweredBy, act_entry, answer_for}
 use Rattle.so_kernel.proofs.HeldLaws.{held_whose}
 
 module _ (k : Core) (t : Turn) (m : Move) (scene : IsScene k.scene) (legal : Legal k.scene k.history) (moved : HasMoved k.scene k.history t m) where
@@ -75,3 +85,29 @@ moves_act s h t e a moved answers = record {
   has = moved.held.course;
   is = rw (moved.moves, answers) refl;
 }
+
+-- ---- the entry of a registration
+
+said_in : Answer → EntryKind → Answer
+said_in other (Act turn effect said) = said
+said_in other kind = other
+
+pub answered_so : (s : SceneParts) (h : List Entry) (e : Entry) (a : AgentId) (x : Effect) (said : Answer) (acts : IsActOf s h e a x) → IsAnsweredBy e said → e.kind ≡ Act acts.turn x said
+unfolding said_in
+answered_so s h e a x said acts by = acts.is ∙ ap (Act acts.turn x) (ap (said_in said) (sym acts.is ∙ by.is))
+
+-- an act that registers is answered by okay or by why not
+registers_so : (o : Option Refusal) (said : Answer) → Some (answer_to_register o) ≡ Some said → (said ≡ answer.Okay → ⊥) → ((cause : Refusal) → said ≡ answer.Refused cause → ⊥) → ⊥
+registers_so None said is okay refused = okay (sym (same_Some answer.Okay said is))
+registers_so (Some cause) said is okay refused = refused cause (sym (same_Some (answer.Refused cause) said is))
+
+pub registers_act : (s : SceneParts) (h : List Entry) (e : Entry) (a : AgentId) (coop : CoopId) (said : Answer) → IsActOf s h e a (effect.Register coop) → IsAnsweredBy e said → (said ≡ answer.Okay → ⊥) → ((cause : Refusal) → said ≡ answer.Refused cause → ⊥) → ⊥
+unfolding said_in
+registers_act s h e a coop said acts by okay refused =
+    let same : acts.answer ≡ said = ap (said_in said) (sym acts.is ∙ by.is) in
+    registers_so (admission s (standing h) coop) said (acts.answers ∙ ap Some same) okay refused
+
+-- and main's is made, or refused
+pub registers_main : (coop : CoopId) (o : Option Refusal) (kind : EntryKind) → kind ≡ registering coop o → ((c : CoopId) → kind ≡ Register c → ⊥) → ((c : CoopId) (cause : Refusal) → kind ≡ Refuse c cause → ⊥) → ⊥
+registers_main coop None kind is made refused = made coop is
+registers_main coop (Some cause) kind is made refused = refused coop cause is

@@ -1,48 +1,56 @@
 -- What acts cost, and the rows of what lanes take.
-use Rattle.std.proofs.Common.{◌≡◌, ℕ, ◌+◌, ◌<◌, ◌≤◌, List, [], ◌∷◌, length, Bool, true, false, cond, Option, Some, None, arith, refl, sym, ◌∙◌, ap, subst}
+use Rattle.std.proofs.Common.{◌≡◌, ℕ, ◌+◌, ◌<◌, ◌≤◌, List, [], ◌∷◌, length, Bool, true, false, Option, Some, None, arith, refl, sym, ◌∙◌, ap, subst}
+use Rattle.std.specs.Option.{option_map}
 use Rattle.std.proofs.lemmas.Option.{same_Some}
 use Rattle.std.proofs.lemmas.List.{length-map}
+use Rattle.std.proofs.lemmas.List.Elements.{All-from_recursion}
 use Rattle.so_ids.specs.declared.AgentId.{AgentId}
+use Rattle.so_ids.specs.declared.CoopId.{CoopId}
 use Rattle.so_ids.specs.declared.LaneId.{LaneId}
 use Rattle.so_ids.specs.declared.MboxId.{MboxId}
 use Rattle.so_ids.specs.declared.MsgId.{MsgId}
 use Rattle.so_ids.specs.declared.PartyId.{PartyId}
 use Rattle.so_ids.specs.declared.Payload.{Payload}
 use Rattle.so_ids.specs.declared.Place.{Place}
+use Rattle.so_ids.specs.declared.Plan.{Plan}
 use Rattle.so_ids.specs.declared.Queued.{Queued}
-use Rattle.so_ids.specs.declared.Sent.{Sent}
+use Rattle.so_ids.specs.declared.Refusal.{Refusal}
+use Rattle.so_ids.specs.declared.StateId.{StateId}
 use Rattle.so_ids.specs.declared.Target.{Target}
 use Rattle.so_ids.specs.declared.Target.TheVariants.{Mbox, Chain}
 use Rattle.so_code.specs.declared.effect.Answer.{Answer}
 use Rattle.so_code.specs.declared.effect.Answer.TheVariants as answer
 use Rattle.so_code.specs.declared.effect.Effect.{Effect}
 use Rattle.so_code.specs.declared.effect.Effect.TheVariants as effect
-use Rattle.so_lists.proofs.EachBelow.{length-each_below}
 use Rattle.so_lists.proofs.Filters.{filter-short}
 use Rattle.so_scene.specs.declared.parts.SceneParts.{SceneParts}
-use Rattle.so_scene.specs.Parts.{agents_of}
 use Rattle.so_scene.specs.Checked.{IsScene}
+use Rattle.so_scene.specs.Cooperations.{admission}
 use Rattle.so_scene.specs.Delivery.{Outcome, is_subscribed, outcome_for, outcomes, events}
+use Rattle.so_scene.specs.Lanes.{lanes}
+use Rattle.so_scene.proofs.AgentLaws.{coop_within}
 use Rattle.so_history.specs.declared.entry.Demand.{Demand}
+use Rattle.so_history.specs.declared.entry.DemandKind.TheVariants.{Start}
 use Rattle.so_history.specs.declared.entry.Entry.{Entry}
 use Rattle.so_history.specs.declared.entry.EntryKind.TheVariants.{Act}
+use Rattle.so_history.specs.declared.entry.EventSource.{EventSource}
 use Rattle.so_history.specs.declared.entry.SkipWhy.{SkipWhy}
-use Rattle.so_history.specs.Coops.{the_coop, present}
-use Rattle.so_scene.specs.Lanes.{lanes}
+use Rattle.so_history.specs.Coops.{may_mark, standing}
 use Rattle.so_history.specs.Delivery.{registered, active_rows, active_filters, passes, is_leaving, receivers, delivered, sent}
 use Rattle.so_history.specs.Demands.{ask, asked_by_effect}
-use Rattle.so_history.specs.Order.{pick, opening_of, skipped, taking_as, taking}
-use Rattle.so_history.specs.Steps.{IsSigner, IsTaking, IsRow, answer_of, answer_to_switch, choice_for, yes_where, may_subscribe, is_active}
 use Rattle.so_history.specs.Leaves.{switch_of}
-use Rattle.so_history.specs.declared.entry.EventSource.{EventSource}
-use Rattle.so_ids.specs.declared.Plan.{Plan}
-use Rattle.std.specs.Option.{option_map}
+use Rattle.so_history.specs.Order.{pick, opening_of, skipped, taking_as, taking}
+use Rattle.so_history.specs.Steps.{NamesEffect, IsSigner, IsTaking, IsRow, Legal, answer_of, answer_to_register, answer_to_switch, choice_for, yes_where, may_subscribe, is_active}
 use Rattle.so_history.specs.Turns.{move_of}
 use Rattle.so_history.specs.Units.{cost}
+use Rattle.so_history.proofs.DemandLaws.{length-asked, registered_of}
 use Rattle.so_history.proofs.NameLaws.{length-demands_from}
-use Rattle.so_history.proofs.SoundLaws.{acts_so}
-use Rattle.so_kernel.specs.Gates.{queued_by_answer}
-use Rattle.so_kernel.proofs.MboxLaws.{all_agents}
+use Rattle.so_history.proofs.RosterLaws.{registered_once}
+use Rattle.so_history.proofs.MoveLaws.{acts_so}
+use Rattle.so_history.proofs.SoundLaws.{names_parts, course_sound}
+use Rattle.so_mbox.specs.Table.{IsAgentOf}
+use Rattle.so_mbox.proofs.TableLaws.{few_agents}
+use Rattle.so_kernel.specs.Gates.{NamesCoop, queued_by_act}
 
 -- ---- what is taken
 
@@ -66,125 +74,92 @@ events_few passes leaving mbox msg payload [] = omega arith
 events_few passes leaving mbox msg payload (a ∷ receivers) =
     omega (arith, event_few (passes a) (leaving a) (record { agent = a; mbox = mbox; msg = msg; payload = payload }) (outcomes passes leaving mbox msg payload receivers) (length receivers) (events_few passes leaving mbox msg payload receivers))
 
-registered_few : (s : SceneParts) (b : Bool) → IsScene s → length (cond b (agents_of s the_coop) []) ≤ length s.agents
-registered_few s true scene = omega (arith, ap length (all_agents s scene), length-each_below {X = AgentId} (λ k. record { 0 = 0 + k }) (length s.agents))
-registered_few s false scene = omega arith
-
-pub delivered_few : (s : SceneParts) (h : List Entry) (mbox : MboxId) (msg : MsgId) (payload : Payload) → IsScene s → length (events (delivered s h mbox msg payload)) ≤ 4096
+pub delivered_few : (s : SceneParts) (h : List Entry) (mbox : MboxId) (msg : MsgId) (payload : Payload) → IsScene s → Legal s h → length (events (delivered s h mbox msg payload)) ≤ 4096
 unfolding receivers
-delivered_few s h mbox msg payload scene =
+delivered_few s h mbox msg payload scene legal =
     omega (
       arith,
       events_few (passes s h mbox msg payload) (is_leaving s h) mbox msg payload (receivers s h mbox msg),
       filter-short (λ a. is_subscribed s mbox msg a (active_rows s h a)) (registered s h),
-      registered_few s (present h) scene,
+      few_agents s (registered s h) (All-from_recursion (IsAgentOf s) (registered s h) (registered_of s h scene)) (registered_once s h scene legal),
       scene.few_agents,
     )
 
 -- ---- what an act costs by its answer
 
-sent_in : Answer → Sent → Sent
-sent_in (answer.Sent sent) other = sent
-sent_in a other = other
+-- what an act queues
+pub record IsQueued (s : SceneParts) (h : List Entry) (x : Effect) (said : Answer) : Type 0 where
+  pub count : length (asked_by_effect s h x said) ≡ queued_by_act s x said
+  pub few : queued_by_act s x said ≤ 4096
 
--- an act that is answered by what became of a delivery
-pub record IsDelivery (s : SceneParts) (h : List Entry) (x : Effect) (n : ℕ) : Type 0 where
-  pub count : length (asked_by_effect s h x) ≡ n
-  pub few : n ≤ 4096
+sent_queued : (s : SceneParts) (h : List Entry) (target : Target) (msg : MsgId) (payload : Payload) (a : AgentId) (event : Option EventSource) (said : Answer) → IsScene s → Legal s h → answer_of s h a event (effect.Send target msg payload) ≡ Some said → IsQueued s h (effect.Send target msg payload) said
+sent_queued s h (Mbox mbox) msg payload a event said scene legal e =
+    let is : answer.Sent (sent s h mbox msg payload) ≡ said = same_Some _ said e in
+    subst (IsQueued s h (effect.Send (Mbox mbox) msg payload)) is
+    (record { count = length-map (events (delivered s h mbox msg payload)) ask; few = delivered_few s h mbox msg payload scene legal })
+sent_queued s h (Chain chain) msg payload a event said scene legal e = absurd cc
 
-delivery_of : (s : SceneParts) (h : List Entry) (target : Target) (msg : MsgId) (payload : Payload) (a : AgentId) (event : Option EventSource) (said : Sent) → IsScene s → answer_of s h a event (effect.Send target msg payload) ≡ Some (answer.Sent said) → IsDelivery s h (effect.Send target msg payload) said.queued
-unfolding sent_in
-delivery_of s h (Mbox mbox) msg payload a event said scene e =
-    let same : sent s h mbox msg payload ≡ said = ap (λ x. sent_in x said) (same_Some _ _ e) in
-    let queued : length (events (delivered s h mbox msg payload)) ≡ said.queued = ap (λ (x : Sent). x.queued) same in
-    record { count = length-map (events (delivered s h mbox msg payload)) ask ∙ queued; few = omega (arith, queued, delivered_few s h mbox msg payload scene) }
-delivery_of s h (Chain chain) msg payload a event said scene e = absurd cc
+registered_queued : (s : SceneParts) (h : List Entry) (coop : CoopId) (said : Answer) (o : Option Refusal) → IsScene s → coop.0 < length s.coops → Some (answer_to_register o) ≡ Some said → IsQueued s h (effect.Register coop) said
+registered_queued s h coop said None scene within e =
+    subst (IsQueued s h (effect.Register coop)) (same_Some answer.Okay said e)
+    (record { count = length-asked s coop Start; few = omega (arith, coop_within s coop scene within, scene.few_agents) })
+registered_queued s h coop said (Some cause) scene within e =
+    subst (IsQueued s h (effect.Register coop)) (same_Some (answer.Refused cause) said e) (record { count = refl; few = omega arith })
 
-not_sent : (b : Bool) (said : Sent) → Some (yes_where b) ≡ Some (answer.Sent said) → ⊥
-not_sent true said e = cc
-not_sent false said e = cc
+-- one that is answered by nothing sent
+none_queued : (s : SceneParts) (h : List Entry) (x : Effect) (said known : Answer) → asked_by_effect s h x known ≡ [] → queued_by_act s x known ≡ 0 → Some known ≡ Some said → IsQueued s h x said
+none_queued s h x said known none zero e = subst (IsQueued s h x) (same_Some known said e) (record { count = ap length none ∙ sym zero; few = omega (arith, zero) })
 
-switch_not_sent : (o : Option Plan) (said : Sent) → Some (answer_to_switch o) ≡ Some (answer.Sent said) → ⊥
-switch_not_sent None said e = cc
-switch_not_sent (Some plan) said e = cc
+yes_queued : (s : SceneParts) (h : List Entry) (x : Effect) (said : Answer) (b : Bool) → ((a : Answer) → asked_by_effect s h x a ≡ []) → queued_by_act s x answer.Yes ≡ 0 → queued_by_act s x answer.No ≡ 0 → Some (yes_where b) ≡ Some said → IsQueued s h x said
+yes_queued s h x said true none one two e = none_queued s h x said answer.Yes (none answer.Yes) one e
+yes_queued s h x said false none one two e = none_queued s h x said answer.No (none answer.No) two e
 
-choice_not_sent : (s : SceneParts) (h : List Entry) (a : AgentId) (event : Option EventSource) (said : Sent) → option_map (choice_for s h a) event ≡ Some (answer.Sent said) → ⊥
-choice_not_sent s h a None said e = cc
-choice_not_sent s h a (Some event) said e = cc
+switch_queued : (s : SceneParts) (h : List Entry) (to : StateId) (said : Answer) (o : Option Plan) → Some (answer_to_switch o) ≡ Some said → IsQueued s h (effect.Switch to) said
+switch_queued s h to said None e = none_queued s h (effect.Switch to) said answer.Same refl refl e
+switch_queued s h to said (Some plan) e = none_queued s h (effect.Switch to) said (answer.Planned plan) refl refl e
 
-is_delivery : (s : SceneParts) (h : List Entry) (a : AgentId) (event : Option EventSource) (x : Effect) (said : Sent) → IsScene s → answer_of s h a event x ≡ Some (answer.Sent said) → IsDelivery s h x said.queued
-is_delivery s h a event (effect.Send target msg payload) said scene e = delivery_of s h target msg payload a event said scene e
-is_delivery s h a event (effect.Log text payload) said scene e = absurd cc
-is_delivery s h a event (effect.Subscribe row) said scene e = absurd (not_sent (may_subscribe s h a row) said e)
-is_delivery s h a event (effect.Unsubscribe row) said scene e = absurd (not_sent (is_active (active_rows s h a) row.0) said e)
-is_delivery s h a event (effect.SetFilter filter) said scene e = absurd cc
-is_delivery s h a event (effect.DropFilter filter) said scene e = absurd (not_sent (is_active (active_filters s h a) filter.0) said e)
-is_delivery s h a event effect.Stop said scene e = absurd cc
-is_delivery s h a event (effect.Delayed target msg payload ms) said scene e = absurd cc
-is_delivery s h a event (effect.Timer slot target msg payload ms period) said scene e = absurd cc
-is_delivery s h a event (effect.Cancel slot) said scene e = absurd cc
-is_delivery s h a event (effect.Switch to) said scene e = absurd (switch_not_sent (switch_of s h a to) said e)
-is_delivery s h a event (effect.SetState leaf) said scene e = absurd cc
-is_delivery s h a event effect.Choose said scene e = absurd (choice_not_sent s h a event said e)
-is_delivery s h a event (effect.Register coop) said scene e = absurd cc
-is_delivery s h a event (effect.Deregister coop) said scene e = absurd cc
-is_delivery s h a event (effect.Close chain keep) said scene e = absurd cc
-is_delivery s h a event (effect.Receive place) said scene e = absurd cc
-is_delivery s h a event (effect.Take place) said scene e = absurd cc
+choice_queued : (s : SceneParts) (h : List Entry) (a : AgentId) (event : Option EventSource) (said : Answer) → option_map (choice_for s h a) event ≡ Some said → IsQueued s h effect.Choose said
+choice_queued s h a None said e = absurd cc
+choice_queued s h a (Some event) said e = none_queued s h effect.Choose said (choice_for s h a event) refl refl e
 
-pub act_delivers : (s : SceneParts) (h : List Entry) (by : PartyId) (turn : Place) (x : Effect) (said : Sent) → IsScene s → IsRow s h by (Act turn x (answer.Sent said)) → IsDelivery s h x said.queued
-act_delivers s h by turn x said scene row =
-    let so = acts_so s h row.reached.agent row.reached.event turn.0 (move_of s row.reached).0 turn x (answer.Sent said) row.is in
-    is_delivery s h row.reached.agent row.reached.event x said scene so.answers
+is_queued : (s : SceneParts) (h : List Entry) (a : AgentId) (event : Option EventSource) (x : Effect) (said : Answer) → IsScene s → Legal s h → NamesEffect s a event x → answer_of s h a event x ≡ Some said → IsQueued s h x said
+is_queued s h a event (effect.Send target msg payload) said scene legal named e = sent_queued s h target msg payload a event said scene legal e
+is_queued s h a event (effect.Register coop) said scene legal named e = registered_queued s h coop said (admission s (standing h) coop) scene named e
+is_queued s h a event (effect.Log text payload) said scene legal named e = none_queued s h (effect.Log text payload) said answer.Okay refl refl e
+is_queued s h a event (effect.Subscribe row) said scene legal named e = yes_queued s h (effect.Subscribe row) said (may_subscribe s h a row) (λ x. refl) refl refl e
+is_queued s h a event (effect.Unsubscribe row) said scene legal named e = yes_queued s h (effect.Unsubscribe row) said (is_active (active_rows s h a) row.0) (λ x. refl) refl refl e
+is_queued s h a event (effect.SetFilter filter) said scene legal named e = none_queued s h (effect.SetFilter filter) said answer.Yes refl refl e
+is_queued s h a event (effect.DropFilter filter) said scene legal named e = yes_queued s h (effect.DropFilter filter) said (is_active (active_filters s h a) filter.0) (λ x. refl) refl refl e
+is_queued s h a event (effect.Switch to) said scene legal named e = switch_queued s h to said (switch_of s h a to) e
+is_queued s h a event (effect.SetState leaf) said scene legal named e = none_queued s h (effect.SetState leaf) said answer.Okay refl refl e
+is_queued s h a event effect.Choose said scene legal named e = choice_queued s h a event said e
+is_queued s h a event (effect.Deregister coop) said scene legal named e = yes_queued s h (effect.Deregister coop) said (may_mark h coop) (λ x. refl) refl refl e
+is_queued s h a event effect.Stop said scene legal named e = none_queued s h effect.Stop said answer.Okay refl refl e
+is_queued s h a event other said scene legal named e = absurd named
 
-pub cost-delivered : (s : SceneParts) (h : List Entry) (e : Entry) (turn : Place) (x : Effect) (said : Sent) → IsScene s → IsRow s h e.by e.kind → e.kind ≡ Act turn x (answer.Sent said) → cost s h e ≡ 1 + said.queued
-cost-delivered s h e turn x said scene row is =
-    let it = act_delivers s h e.by turn x said scene (subst (IsRow s h e.by) is row) in
-    rw is (ap (λ n. 1 + n) (length-demands_from (length h) 0 (asked_by_effect s h x) ∙ it.count))
+-- of an entry
+module _ (s : SceneParts) (h : List Entry) (by : PartyId) (turn : Place) (x : Effect) (said : Answer) (scene : IsScene s) (legal : Legal s h) (row : IsRow s h by (Act turn x said)) where
+  act_named : NamesEffect s row.reached.agent row.reached.event x
+  act_named =
+      let so = acts_so s h row.reached.agent row.reached.event turn.0 (move_of s row.reached).0 turn x said row.is in
+      names_parts s scene row.reached (course_sound s scene h turn.0 row.reached legal row.has) x so.does
 
-pub few-delivered : (s : SceneParts) (h : List Entry) (e : Entry) (turn : Place) (x : Effect) (said : Sent) → IsScene s → IsRow s h e.by e.kind → e.kind ≡ Act turn x (answer.Sent said) → said.queued ≤ 4096
-few-delivered s h e turn x said scene row is = (act_delivers s h e.by turn x said scene (subst (IsRow s h e.by) is row)).few
+  act_queued : IsQueued s h x said
+  act_queued =
+      let so = acts_so s h row.reached.agent row.reached.event turn.0 (move_of s row.reached).0 turn x said row.is in
+      is_queued s h row.reached.agent row.reached.event x said scene legal act_named so.answers
 
--- and one with another answer
-asks_none : (s : SceneParts) (h : List Entry) (a : AgentId) (event : Option EventSource) (x : Effect) (said : Answer) → answer_of s h a event x ≡ Some said → ((n : Sent) → said ≡ answer.Sent n → ⊥) → asked_by_effect s h x ≡ []
-asks_none s h a event (effect.Send (Mbox mbox) msg payload) said e other = absurd (other (sent s h mbox msg payload) (sym (same_Some _ said e)))
-asks_none s h a event (effect.Send (Chain chain) msg payload) said e other = refl
-asks_none s h a event (effect.Log text payload) said e other = refl
-asks_none s h a event (effect.Subscribe row) said e other = refl
-asks_none s h a event (effect.Unsubscribe row) said e other = refl
-asks_none s h a event (effect.SetFilter filter) said e other = refl
-asks_none s h a event (effect.DropFilter filter) said e other = refl
-asks_none s h a event effect.Stop said e other = refl
-asks_none s h a event (effect.Delayed target msg payload ms) said e other = refl
-asks_none s h a event (effect.Timer slot target msg payload ms period) said e other = refl
-asks_none s h a event (effect.Cancel slot) said e other = refl
-asks_none s h a event (effect.Switch to) said e other = refl
-asks_none s h a event (effect.SetState leaf) said e other = refl
-asks_none s h a event effect.Choose said e other = refl
-asks_none s h a event (effect.Register coop) said e other = refl
-asks_none s h a event (effect.Deregister coop) said e other = refl
-asks_none s h a event (effect.Close chain keep) said e other = refl
-asks_none s h a event (effect.Receive place) said e other = refl
-asks_none s h a event (effect.Take place) said e other = refl
+its_coop : (s : SceneParts) (a : AgentId) (event : Option EventSource) (x : Effect) → NamesEffect s a event x → NamesCoop s x
+its_coop s a event (effect.Register coop) named = named
+its_coop s a event other named = tt
 
-pub cost-other : (s : SceneParts) (h : List Entry) (e : Entry) (turn : Place) (x : Effect) (said : Answer) → IsRow s h e.by e.kind → e.kind ≡ Act turn x said → ((n : Sent) → said ≡ answer.Sent n → ⊥) → cost s h e ≡ 1
-cost-other s h e turn x said row is other =
+pub act_coop : (s : SceneParts) (h : List Entry) (e : Entry) (turn : Place) (x : Effect) (said : Answer) → IsScene s → Legal s h → IsRow s h e.by e.kind → e.kind ≡ Act turn x said → NamesCoop s x
+act_coop s h e turn x said scene legal row is =
     let move : IsRow s h e.by (Act turn x said) = subst (IsRow s h e.by) is row in
-    let so = acts_so s h move.reached.agent move.reached.event turn.0 (move_of s move.reached).0 turn x said move.is in
-    rw (is, asks_none s h move.reached.agent move.reached.event x said so.answers other) refl
+    its_coop s move.reached.agent move.reached.event x (act_named s h e.by turn x said scene legal move)
 
 -- an act costs what its answer tells
-pub cost_told : (s : SceneParts) (h : List Entry) (e : Entry) (turn : Place) (x : Effect) (said : Answer) → IsScene s → IsRow s h e.by e.kind → e.kind ≡ Act turn x said → (cost s h e ≡ 1 + queued_by_answer said) × (queued_by_answer said ≤ 4096)
-cost_told s h e turn x (answer.Sent n) scene row is = (cost-delivered s h e turn x n scene row is, few-delivered s h e turn x n scene row is)
-cost_told s h e turn x answer.Okay scene row is = (cost-other s h e turn x answer.Okay row is (λ n q. cc), omega arith)
-cost_told s h e turn x answer.Yes scene row is = (cost-other s h e turn x answer.Yes row is (λ n q. cc), omega arith)
-cost_told s h e turn x answer.No scene row is = (cost-other s h e turn x answer.No row is (λ n q. cc), omega arith)
-cost_told s h e turn x (answer.Put p) scene row is = (cost-other s h e turn x (answer.Put p) row is (λ n q. cc), omega arith)
-cost_told s h e turn x (answer.Armed timer) scene row is = (cost-other s h e turn x (answer.Armed timer) row is (λ n q. cc), omega arith)
-cost_told s h e turn x answer.Unarmed scene row is = (cost-other s h e turn x answer.Unarmed row is (λ n q. cc), omega arith)
-cost_told s h e turn x answer.Same scene row is = (cost-other s h e turn x answer.Same row is (λ n q. cc), omega arith)
-cost_told s h e turn x (answer.Planned plan) scene row is = (cost-other s h e turn x (answer.Planned plan) row is (λ n q. cc), omega arith)
-cost_told s h e turn x (answer.Chose c) scene row is = (cost-other s h e turn x (answer.Chose c) row is (λ n q. cc), omega arith)
-cost_told s h e turn x (answer.Refused why) scene row is = (cost-other s h e turn x (answer.Refused why) row is (λ n q. cc), omega arith)
-cost_told s h e turn x (answer.Got case msg payload) scene row is = (cost-other s h e turn x (answer.Got case msg payload) row is (λ n q. cc), omega arith)
-cost_told s h e turn x (answer.Ended why) scene row is = (cost-other s h e turn x (answer.Ended why) row is (λ n q. cc), omega arith)
+pub cost_told : (s : SceneParts) (h : List Entry) (e : Entry) (turn : Place) (x : Effect) (said : Answer) → IsScene s → Legal s h → IsRow s h e.by e.kind → e.kind ≡ Act turn x said → (cost s h e ≡ 1 + queued_by_act s x said) × (queued_by_act s x said ≤ 4096)
+cost_told s h e turn x said scene legal row is =
+    let it = act_queued s h e.by turn x said scene legal (subst (IsRow s h e.by) is row) in
+    (rw is (ap (λ n. 1 + n) (length-demands_from (length h) 0 (asked_by_effect s h x said) ∙ it.count)), it.few)

@@ -3,13 +3,13 @@ use Rattle.std.proofs.Common.{◌≡◌, ℕ, ◌+◌, ◌<◌, ◌≤◌, List,
 use Rattle.std.specs.Prelude.{◌==◌}
 use Rattle.std.specs.List.{filter}
 use Rattle.std.proofs.lemmas.List.{append-nil, length-append}
-use Rattle.std.proofs.lemmas.List.Elements.{filter-append, filter_agree}
+use Rattle.std.proofs.lemmas.List.Elements.{filter-append}
 use Rattle.std.proofs.lemmas.List.Filters.{length-filter_both}
-use Rattle.std.proofs.lemmas.Bool.{ne_eqb, eq-eqb, eqb-true, cases_Bool, cases_eq, false≢true}
+use Rattle.std.proofs.lemmas.Bool.{ne_eqb, eq-eqb, cases_eq}
 use Rattle.so_ids.specs.declared.KeyId.{KeyId}
 use Rattle.so_ids.specs.declared.Place.{Place}
 use Rattle.so_lists.proofs.EachBelow.{get_or-each_below, each_below-same, each_below-set}
-use Rattle.so_lists.proofs.Filters.{each-weaker, filter_none, filter-swap, filter-short}
+use Rattle.so_lists.proofs.Filters.{filter-swap, filter-short}
 use Rattle.so_scene.specs.declared.parts.SceneParts.{SceneParts}
 use Rattle.so_scene.specs.Lanes.{keys, key_of}
 use Rattle.so_scene.proofs.LaneLaws.{key_in_range}
@@ -18,35 +18,18 @@ use Rattle.so_history.specs.declared.entry.EntryKind.TheVariants.{End}
 use Rattle.so_history.specs.Order.{runs_safe}
 use Rattle.so_history.specs.Turns.{Started, started_by, ends, ended, turns, running, running_at, running_with, key_number, turn_at}
 use Rattle.so_history.specs.Steps.{Legal}
-use Rattle.so_history.proofs.TurnLaws.{Frees, started_here, few_started, running_early, running_at-begun, running_at-same, running_at-ended, running_at-other, alone, turn_found}
+use Rattle.so_history.proofs.TurnLaws.{few_started, running_at-begun, running_at-same, running_at-ended, running_at-other}
+use Rattle.so_history.proofs.UnfinishedLaws.{one_there}
 use Rattle.so_events.specs.Events.{EventTable, one_more, one_less, turns_with, turns_of, after_start, after_end}
 use Rattle.so_kernel.specs.Tables.{is_other, counts, events_of}
 
--- ---- the turn at a place is one
+-- ---- how many turns run
 
-abbrev place_number : Started → ℕ
-place_number t = t.place
-
-none_now : (h : List Entry) → running_at place_number h (length h) ≡ []
-none_now h = filter_none (λ t. t.place == length h) (running h) (each-weaker _ (λ t. (t.place == length h) ≡ false) (λ t l. let early : t.place < length h = l in ne_eqb t.place (length h) (λ same. omega arith)) (running h) (running_early h))
-
-places_free : (s : SceneParts) → Frees place_number s
-places_free s h by kind row = each-weaker _ (λ t. running_at place_number h t.place ≡ []) (λ t at. let here : t.place ≡ length h = at in rw here (none_now h)) (started_by (length h) by kind) (started_here (length h) by kind)
-
-eqb-swap : (a b : ℕ) → (a == b) ≡ (b == a)
-eqb-swap a b =
-    elim (cases_Bool (a == b)) [
-      | inl y ↦ y ∙ sym (eq-eqb b a (sym (eqb-true a b y)))
-      | inr n ↦ n ∙ sym (ne_eqb b a (λ same. absurd (false≢true (sym n ∙ eq-eqb a b (sym same)))))
-    ]
-
-one_there : (s : SceneParts) (h : List Entry) (place : ℕ) (t : Started) → Legal s h → turn_at h place ≡ Some t → filter (λ x. place == x.place) (running_with s h (key_of s t.agent)) ≡ t ∷ []
-one_there s h place t legal runs =
-    let at : t.place ≡ place = (turn_found h place t runs).0 in
-    let one : filter (λ x. x.place == place) (running h) ≡ t ∷ [] = subst (λ n. filter (λ x. x.place == n) (running h) ≡ t ∷ []) at (alone place_number s h place t (places_free s) legal runs) in
-    let its : filter (λ x. place == x.place) (running h) ≡ t ∷ [] = filter_agree _ _ (λ x. eqb-swap place x.place) (running h) ∙ one in
+-- of those with its queue, one is the turn at a place
+one_with : (s : SceneParts) (h : List Entry) (place : ℕ) (t : Started) → Legal s h → turn_at h place ≡ Some t → filter (λ x. place == x.place) (running_with s h (key_of s t.agent)) ≡ t ∷ []
+one_with s h place t legal runs =
     filter-swap (λ x. place == x.place) (λ x. key_number s x == (key_of s t.agent).0) (running h)
-    ∙ rw (its, eq-eqb (key_of s t.agent).0 (key_of s t.agent).0 refl) refl
+    ∙ rw (one_there s h place t legal runs, eq-eqb (key_of s t.agent).0 (key_of s t.agent).0 refl) refl
 
 -- no more turns run than entries were made
 turns_few : (h : List Entry) → length (turns h) ≤ length h
@@ -107,7 +90,7 @@ module _ (s : SceneParts) (p : Started → Bool) where
     parts : length (filter p (filter (λ x. not (place.0 == x.place)) (running_with s h (key_of s t.agent)))) + length (filter p (t ∷ [])) ≡ length (filter p (running_with s h (key_of s t.agent)))
     parts =
         subst (λ ts. length (filter p (filter (λ x. not (place.0 == x.place)) (running_with s h (key_of s t.agent)))) + length (filter p ts) ≡ length (filter p (running_with s h (key_of s t.agent))))
-        (one_there s h place.0 t legal runs) (both_parts p (λ x. place.0 == x.place) (running_with s h (key_of s t.agent)))
+        (one_with s h place.0 t legal runs) (both_parts p (λ x. place.0 == x.place) (running_with s h (key_of s t.agent)))
 
     pub counted : t.agent.0 < length s.agents → p t ≡ true → 0 < turns_with (counts s p h) (key_of s t.agent)
     counted known on =

@@ -1,14 +1,16 @@
 -- What the gate answers, of one entry and of several.
 use Rattle.std.proofs.Common.{◌≡◌, ℕ, ◌+◌, ◌<◌, length, arith, Bool, true, false, Option, Some, None, Result, Ok, Err, refl, sym, ◌∙◌, ap, cond}
+use Rattle.so_ids.specs.declared.CoopId.{CoopId}
+use Rattle.so_ids.specs.declared.Refusal.{Refusal}
 use Rattle.so_lists.specs.Lists.{or_else, first_below}
 use Rattle.so_lists.proofs.First.{first_below-from}
 use Rattle.so_history.specs.declared.entry.Entry.{Entry}
 use Rattle.so_history.specs.Units.{fits}
 use Rattle.so_history.specs.declared.entry.EntryKind.{EntryKind}
-use Rattle.so_history.specs.declared.entry.EntryKind.TheVariants.{Register, Begin, Skip, Act, End, Leaving, Left, Stop, Abort}
+use Rattle.so_history.specs.declared.entry.EntryKind.TheVariants.{Register, Refuse, Begin, Skip, Act, End, Leaving, Left, Stop, Abort}
 use Rattle.so_history.specs.Steps.{is_over}
 use Rattle.so_history.proofs.ChainLaws.{IsTidying}
-use Rattle.so_history.specs.Chain.{first, fitting, next_entry}
+use Rattle.so_history.specs.Chain.{registering, first, fitting, next_entry}
 use Rattle.so_kernel.specs.declared.answers.Refused.{Refused}
 use Rattle.so_kernel.specs.declared.answers.Refused.TheVariants.{Nothing, Full, Over}
 use Rattle.so_kernel.specs.declared.answers.Stepped.TheVariants as stepped_answer
@@ -48,6 +50,7 @@ end_full k e t u h = some_ended k e t u (is_over k.scene k.history) k.full h
 added_something : (kind : EntryKind) → added kind ≡ stepped_answer.Nothing → ⊥
 added_something (Abort cause) h = cc
 added_something (Register coop) h = cc
+added_something (Refuse coop cause) h = cc
 added_something (Begin lane demand opening agent) h = cc
 added_something (Act turn effect answer) h = cc
 added_something (End turn) h = cc
@@ -86,9 +89,14 @@ added_tidied (Skip lane demand why) t = absurd t
 added_tidied (Stop cause) t = refl
 added_tidied (Abort cause) t = absurd t
 added_tidied (Register coop) t = absurd t
+added_tidied (Refuse coop cause) t = absurd t
 added_tidied (Begin lane demand opening agent) t = absurd t
 added_tidied (Act turn effect answer) t = absurd t
 added_tidied (End turn) t = absurd t
+
+pub added_registered : (coop : CoopId) (cause : Option Refusal) → stepped_answer.Added ≡ added (registering coop cause)
+added_registered coop None = refl
+added_registered coop (Some cause) = refl
 
 -- an answer Nothing says that there was nothing to add
 pub nothing_is : (g : Result Entry Refused) → stepped g ≡ stepped_answer.Nothing → g ≡ Err Nothing
@@ -178,6 +186,7 @@ stops k why f h = stops_cond k (first k.scene k.history) (is_over k.scene k.hist
 pub one_entry : (kind : EntryKind) → entries (added kind) ≡ 1
 one_entry (Abort cause) = refl
 one_entry (Register coop) = refl
+one_entry (Refuse coop cause) = refl
 one_entry (Begin lane demand opening agent) = refl
 one_entry (Act turn effect answer) = refl
 one_entry (End turn) = refl

@@ -6,7 +6,9 @@ use Rattle.std.proofs.lemmas.List.{length-set, get_or-set_same, get_or-set_other
 use Rattle.std.proofs.lemmas.Bool.{cases_Bool, cases_eq, ne_eqb, eq-eqb, eqb-true}
 use Rattle.std.proofs.lemmas.Option.{same_Some}
 use Rattle.so_ids.specs.declared.PartyId.{PartyId}
+use Rattle.so_ids.specs.declared.CoopId.{CoopId}
 use Rattle.so_ids.specs.declared.LaneId.{LaneId}
+use Rattle.so_ids.specs.declared.Refusal.{Refusal}
 use Rattle.so_ids.specs.declared.AgentId.{AgentId}
 use Rattle.so_ids.specs.declared.Place.{Place}
 use Rattle.so_ids.specs.Ids.{party_of}
@@ -21,20 +23,24 @@ use Rattle.so_code.specs.Answers.{answered}
 use Rattle.so_code.specs.declared.effect.FailKind.{FailKind}
 use Rattle.so_scene.specs.declared.parts.SceneParts.{SceneParts}
 use Rattle.so_scene.specs.Checked.{IsScene}
+use Rattle.so_scene.specs.Cooperations.{admission}
 use Rattle.so_scene.specs.Lanes.{lanes}
 use Rattle.so_history.specs.declared.entry.Entry.{Entry}
 use Rattle.so_history.specs.declared.entry.EntryKind.{EntryKind}
-use Rattle.so_history.specs.declared.entry.EntryKind.TheVariants.{Register, Begin, Skip, Act, End, Leaving, Left, Stop, Abort}
+use Rattle.so_history.specs.declared.entry.EntryKind.TheVariants.{Register, Refuse, Begin, Skip, Act, End, Leaving, Left, Stop, Abort}
 use Rattle.so_history.specs.declared.entry.Demand.{Demand}
+use Rattle.so_history.specs.declared.entry.DemandKind.{DemandKind}
+use Rattle.so_history.specs.declared.entry.DemandKind.TheVariants.{Start, Finish, Event}
 use Rattle.so_history.specs.declared.entry.SkipWhy.{SkipWhy}
 use Rattle.so_ids.specs.declared.Opening.{Opening}
 use Rattle.so_history.specs.Turns.{Started, Course, vars, ends, running_at, running_on, lane_number, turn_at, move_of, answer_to, course}
-use Rattle.so_history.specs.Coops.{aborted}
+use Rattle.so_history.specs.Coops.{aborted, standing}
+use Rattle.so_history.specs.Finishing.{asks_finish, is_finish, is_finishing}
 use Rattle.so_history.specs.Safety.{is_safe}
 use Rattle.so_history.specs.Demands.{message_of, event_of}
-use Rattle.so_history.specs.Order.{runs_safe, pick, opening_of, skipped, taking_as, taking}
+use Rattle.so_history.specs.Order.{runs_safe, pick, opening_for, opening_of, skipped, taking_as, taking}
 use Rattle.so_history.specs.Steps.{finished, answer_of, Legal}
-use Rattle.so_history.specs.Chain.{registration, tidying, turn_on, turn_entry, lane_entry, first}
+use Rattle.so_history.specs.Chain.{registering, registration, tidying, turn_on, turn_entry, lane_entry, first}
 use Rattle.so_history.proofs.TurnLaws.{running_at-begun, running_at-same, running_at-ended, alone, turn_found, turn-begun, turn-spared, turn_of, turn_looked_up, turn_agent, lanes_free}
 use Rattle.so_history.proofs.CourseLaws.{acts_for, course-spared, course-acted, course-begun, has_course}
 use Rattle.so_history.proofs.ChainLaws.{registered, tidied, IsTidying, first-turn, lane_entry-turn, lane_entry-free, has_move}
@@ -51,15 +57,22 @@ use Rattle.so_kernel.specs.Held.{IsLaneHeld, AreHeld, turn_move, Moves}
 use Rattle.so_kernel.proofs.KeptLaws.{gated_next}
 use Rattle.so_kernel.proofs.TableLaws.{begins_turn}
 
+-- a turn begins as a finish turn where its demand asks so
+opens_finish : (s : SceneParts) (h : List Entry) (a : AgentId) (kind : DemandKind) → is_finishing (opening_for s h a kind) ≡ asks_finish kind
+opens_finish s h a Start = refl
+opens_finish s h a Finish = refl
+opens_finish s h a (Event mbox msg payload) = refl
+
 -- the turn that a Begin hands out is held
 pub held_begun : (s : SceneParts) (h : List Entry) (e : Entry) (lane : LaneId) (d : Demand) → Legal s h → e.kind ≡ Begin lane (Some d.id) (opening_of s h d) d.agent →
-    IsHeld s (e ∷ h) (record { begun = record { 0 = length h }; by = e.by; lane = lane; agent = d.agent; safe = is_safe s d.agent (opening_of s h d); event = event_of s h (Some d.id); frame = begun (opening_of s h d) (vars s h d.agent) (message_of s h (Some d.id)) })
+    IsHeld s (e ∷ h) (record { begun = record { 0 = length h }; by = e.by; lane = lane; agent = d.agent; safe = is_safe s d.agent (opening_of s h d); finishes = is_finish d; event = event_of s h (Some d.id); frame = begun (opening_of s h d) (vars s h d.agent) (message_of s h (Some d.id)) })
 held_begun s h e lane d legal is =
     record {
       turn = record { place = length h; by = e.by; lane = lane; agent = d.agent; opening = opening_of s h d };
       runs = turn-begun s h e _ legal (λ x. rw is refl) (rw is refl) refl;
       by = refl;
       lane = refl;
+      finishes = opens_finish s h d.agent d.kind;
       course = course-begun s h e _ (λ g. rw (is, eq-eqb (length h) (length h) refl) refl);
     }
 
@@ -76,6 +89,7 @@ held_acted k t effect legal moved =
       runs = turn-spared k.scene k.history (act_entry k t effect) t.begun.0 moved.held.turn legal refl moved.held.runs;
       by = moved.held.by;
       lane = moved.held.lane;
+      finishes = moved.held.finishes;
       course = course-acted k.scene k.history t.by t.begun.0 effect (answer_for k t effect) c moved.held.course ∙ ap Some after_it;
     }
 
@@ -104,6 +118,7 @@ spared s h e t legal held ends_not acts_not =
       runs = turn-spared s h e t.begun.0 held.turn legal ends_not held.runs;
       by = held.by;
       lane = held.lane;
+      finishes = held.finishes;
       course = course-spared s h e t.begun.0 acts_not (turn_found h t.begun.0 held.turn held.runs).1 ∙ held.course;
     }
 
@@ -114,6 +129,7 @@ lane_spared s h by (Begin lane demand opening agent) j None legal going spares f
     rw (running_at-begun lane_number s h (record { by = by; kind = Begin lane demand opening agent }) j legal (λ t. refl), free going, other) refl
 lane_spared s h by (End turn) j None legal going spares free = λ _. rw (running_at-ended lane_number h (record { by = by; kind = End turn }) j refl, free going) refl
 lane_spared s h by (Register coop) j None legal going spares free = λ _. rw (running_at-same lane_number s h (record { by = by; kind = Register coop }) j legal refl (λ t. refl)) (free going)
+lane_spared s h by (Refuse coop cause) j None legal going spares free = λ _. rw (running_at-same lane_number s h (record { by = by; kind = Refuse coop cause }) j legal refl (λ t. refl)) (free going)
 lane_spared s h by (Act turn effect answer) j None legal going spares free = λ _. rw (running_at-same lane_number s h (record { by = by; kind = Act turn effect answer }) j legal refl (λ t. refl)) (free going)
 lane_spared s h by (Leaving coop reason) j None legal going spares free = λ _. rw (running_at-same lane_number s h (record { by = by; kind = Leaving coop reason }) j legal refl (λ t. refl)) (free going)
 lane_spared s h by (Left coop) j None legal going spares free = λ _. rw (running_at-same lane_number s h (record { by = by; kind = Left coop }) j legal refl (λ t. refl)) (free going)
@@ -124,6 +140,7 @@ lane_spared s h by (Begin lane demand opening agent) j (Some t) legal going spar
 lane_spared s h by (End turn) j (Some t) legal going spares held = (spared s h (record { by = by; kind = End turn }) t legal held.0 (other_turn s h turn.0 t j held.0 held.1 spares) refl, held.1)
 lane_spared s h by (Act turn effect answer) j (Some t) legal going spares held = (spared s h (record { by = by; kind = Act turn effect answer }) t legal held.0 refl (other_turn s h turn.0 t j held.0 held.1 spares), held.1)
 lane_spared s h by (Register coop) j (Some t) legal going spares held = (spared s h (record { by = by; kind = Register coop }) t legal held.0 refl refl, held.1)
+lane_spared s h by (Refuse coop cause) j (Some t) legal going spares held = (spared s h (record { by = by; kind = Refuse coop cause }) t legal held.0 refl refl, held.1)
 lane_spared s h by (Leaving coop reason) j (Some t) legal going spares held = (spared s h (record { by = by; kind = Leaving coop reason }) t legal held.0 refl refl, held.1)
 lane_spared s h by (Left coop) j (Some t) legal going spares held = (spared s h (record { by = by; kind = Left coop }) t legal held.0 refl refl, held.1)
 lane_spared s h by (Skip lane demand why) j (Some t) legal going spares held = (spared s h (record { by = by; kind = Skip lane demand why }) t legal held.0 refl refl, held.1)
@@ -191,15 +208,22 @@ tidied_spares h (Skip lane demand why) j t = absurd t
 tidied_spares h (Stop cause) j t = tt
 tidied_spares h (Abort cause) j t = absurd t
 tidied_spares h (Register coop) j t = absurd t
+tidied_spares h (Refuse coop cause) j t = absurd t
 tidied_spares h (Begin lane demand opening agent) j t = absurd t
 tidied_spares h (Act turn effect answer) j t = absurd t
 tidied_spares h (End turn) j t = absurd t
 
-pub held_registered : (k : Core) (ts : List (Option Turn)) → Legal k.scene k.history → AreHeld k ts → AreHeld (core_after k (gated k (registration k.history))) ts
+registered_spares : (h : List Entry) (coop : CoopId) (cause : Option Refusal) (j : ℕ) → Spares h (registering coop cause) j
+registered_spares h coop None j = tt
+registered_spares h coop (Some cause) j = tt
+
+pub held_registered : (k : Core) (ts : List (Option Turn)) → Legal k.scene k.history → AreHeld k ts → AreHeld (core_after k (gated k (registration k.scene k.history))) ts
 held_registered k ts legal held =
-    main_spared k (gated k (registration k.history)) ts legal (λ e g. ok_going k (registration k.history) e g)
-    (λ e g j. let P : Entry → Type 0 = λ x. Spares k.history x.kind j in
-    subst P (sym (registered k.history e (gated_next k (registration k.history) e g))) tt)
+    main_spared k (gated k (registration k.scene k.history)) ts legal (λ e g. ok_going k (registration k.scene k.history) e g)
+    (λ e g j.
+    let it = registered k.scene k.history e (gated_next k (registration k.scene k.history) e g) in
+    let P : Entry → Type 0 = λ x. Spares k.history x.kind j in
+    subst P (sym it.is) (registered_spares k.history it.coop (admission k.scene (standing k.history) it.coop) j))
     held
 
 pub held_tidied : (k : Core) (ts : List (Option Turn)) → Legal k.scene k.history → AreHeld k ts → AreHeld (core_after k (gated k (tidying k.scene k.history))) ts
@@ -440,6 +464,7 @@ skip_added k l by lane b =
 skip_spares : (h : List Entry) (kind : EntryKind) (j : ℕ) → is_skip kind ≡ true → Spares h kind j
 skip_spares h (Skip lane demand why) j e = tt
 skip_spares h (Register coop) j e = cc
+skip_spares h (Refuse coop cause) j e = cc
 skip_spares h (Begin lane demand opening agent) j e = cc
 skip_spares h (Act turn effect answer) j e = cc
 skip_spares h (End turn) j e = cc

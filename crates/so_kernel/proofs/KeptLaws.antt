@@ -1,31 +1,42 @@
 -- What the kernel keeps goes on after one more entry.
-use Rattle.std.proofs.Common.{◌≡◌, ℕ, ◌+◌, ◌<◌, ◌≤◌, List, [], ◌∷◌, length, Bool, true, false, Option, Some, None, Ok, Err, arith, refl, sym, ◌∙◌, ap, subst, cond, inl, inr}
+use Rattle.std.proofs.Common.{◌≡◌, ℕ, ◌+◌, ◌<◌, ◌≤◌, List, [], ◌∷◌, length, Bool, true, false, Option, Some, None, Ok, Err, arith, refl, sym, ◌∙◌, ap, subst, cond}
+use Rattle.std.specs.List.{All}
 use Rattle.std.proofs.lemmas.List.{length-append}
-use Rattle.std.proofs.lemmas.Bool.{leb-true, cases_Bool, false≢true, or_parts}
+use Rattle.std.proofs.lemmas.Bool.{leb-true, false≢true, or_parts}
 use Rattle.so_ids.specs.declared.LaneId.{LaneId}
 use Rattle.so_ids.specs.declared.CoopId.{CoopId}
+use Rattle.so_ids.specs.declared.AgentId.{AgentId}
 use Rattle.so_ids.specs.declared.Reason.{Reason}
+use Rattle.so_ids.specs.declared.Refusal.{Refusal}
 use Rattle.so_scene.specs.Lanes.{lanes}
-use Rattle.so_history.specs.declared.entry.EntryKind.{EntryKind}
-use Rattle.so_history.specs.declared.entry.EntryKind.TheVariants.{Register, Leaving, Left}
+use Rattle.so_history.specs.declared.entry.EntryKind.TheVariants.{Register, Refuse, Leaving, Left}
 use Rattle.so_history.specs.declared.entry.Demand.{Demand}
 use Rattle.so_history.specs.Order.{opening_of, skipped, taking_as, taking}
 use Rattle.so_history.specs.declared.entry.SkipWhy.{SkipWhy}
 use Rattle.so_ids.specs.declared.Opening.{Opening}
 use Rattle.so_ids.specs.declared.PartyId.{PartyId}
-use Rattle.so_history.proofs.CoopLaws.{present_tried}
 use Rattle.so_scene.specs.declared.parts.SceneParts.{SceneParts}
-use Rattle.so_scene.specs.Checked.{IsScene}
+use Rattle.so_scene.specs.Parts.{agents_of}
+use Rattle.so_coop.specs.declared.coops.Coop.{Coop}
+use Rattle.so_coop.specs.Coops.{standing_at}
+use Rattle.so_mbox.specs.Table.{is_entered}
 use Rattle.so_history.specs.declared.entry.Entry.{Entry}
 use Rattle.so_history.specs.Units.{units, cost, fits}
-use Rattle.so_history.specs.Coops.{the_coop, present, aborted}
-use Rattle.so_history.specs.Steps.{finished, is_over, IsRow}
+use Rattle.so_history.specs.Coops.{aborted}
+use Rattle.so_history.specs.Steps.{finished, is_over, IsRow, Legal}
 use Rattle.so_history.specs.Demands.{demands, queued_by}
 use Rattle.so_history.proofs.DemandLaws.{demands_early, waiting-units}
 use Rattle.so_kernel.specs.declared.answers.Refused.TheVariants.{Full, Over}
 use Rattle.so_kernel.specs.declared.tables.Tables.{Tables}
 use Rattle.so_kernel.specs.Shapes.{Core}
-use Rattle.so_kernel.specs.Tables.{tables_of, HasRoom, IsLater}
+use Rattle.so_kernel.specs.Tables.{tables_of, AreFor, HasRoom, IsLater}
+use Rattle.so_history.proofs.CoopLaws.{may_leave_parts}
+use Rattle.so_history.proofs.PresenceLaws.{leaves_present}
+use Rattle.so_history.proofs.RosterLaws.{present_within, leaving_present}
+use Rattle.so_kernel.proofs.Entering.{Enters, was_open, entered_known}
+use Rattle.so_history.proofs.TextLaws.{next_within}
+use Rattle.so_kernel.proofs.CoopTableLaws.{coop_found}
+use Rattle.so_kernel.proofs.MboxLaws.{nobody_entered}
 use Rattle.so_ids.specs.declared.Place.{Place}
 use Rattle.so_kernel.specs.Kept.{IsKept, IsReady}
 use Rattle.so_kernel.specs.Gates.{gated, gated_entry}
@@ -42,6 +53,9 @@ kept_after e u kept ready tables =
       tables = tables;
       full = λ f. absurd (false≢true (sym ready.unmarked ∙ f));
     }
+
+pub next_legal : {s : SceneParts} {limit : ℕ} {h : List Entry} {t : Tables} {full : Bool} (e : Entry) → IsKept s limit h t full → IsReady (record { scene = s; limit = limit; history = h; full = full }) e → Legal s (e ∷ h)
+next_legal e kept ready = (kept.legal, ready.step)
 
 -- the demands and the entries cost just what all cost
 demands-units : (s : SceneParts) (h : List Entry) → length (demands s h) + length h ≡ units s h
@@ -97,28 +111,36 @@ fits_gated k a e h =
     let fit : units k.scene k.history + cost k.scene k.history e ≤ k.limit = leb-true _ _ (fits_cond k a (is_over k.scene k.history) k.full e h) in
     omega (arith, waiting-units k.scene k.history)
 
--- the cooperation that is registered or leaves is there, and the lane of a Begin too
-the_coop_there : (s : SceneParts) (coop : CoopId) → IsScene s → coop ≡ the_coop → coop.0 < length s.coops
-the_coop_there s coop scene is =
-    let zero : coop.0 ≡ 0 = ap (λ (x : CoopId). x.0) is in
-    omega (arith, scene.one_coop)
+-- ---- the cooperation of an entry is one of the scene's
 
-pub registered_coop : {s : SceneParts} {limit : ℕ} {h : List Entry} {t : Tables} {full : Bool} (e : Entry) (coop : CoopId) → IsKept s limit h t full →
-    IsReady (record { scene = s; limit = limit; history = h; full = full }) e → e.kind ≡ Register coop → coop.0 < length s.coops
-registered_coop {s} {limit} {h} e coop kept ready is =
-    let row : IsRow s h e.by (Register coop) = subst (IsRow s h e.by) is ready.step.row in
-    the_coop_there s coop kept.scene row.the_one
+module _ {s : SceneParts} {limit : ℕ} {h : List Entry} {t : Tables} {full : Bool} (e : Entry) (coop : CoopId) (kept : IsKept s limit h t full) (ready : IsReady (record { scene = s; limit = limit; history = h; full = full }) e) where
+  pub registered_coop : e.kind ≡ Register coop → coop.0 < length s.coops
+  registered_coop is = let row : IsRow s h e.by (Register coop) = subst (IsRow s h e.by) is ready.step.row in next_within s h coop row.next
 
-coop_in : EntryKind → CoopId
-coop_in (Leaving coop reason) = coop
-coop_in other = the_coop
+  pub refused_coop : (cause : Refusal) → e.kind ≡ Refuse coop cause → coop.0 < length s.coops
+  refused_coop cause is = let row : IsRow s h e.by (Refuse coop cause) = subst (IsRow s h e.by) is ready.step.row in next_within s h coop row.next
 
-pub leaving_coop : {s : SceneParts} {limit : ℕ} {h : List Entry} {t : Tables} {full : Bool} (e : Entry) (coop : CoopId) (reason : Reason) → IsKept s limit h t full →
-    IsReady (record { scene = s; limit = limit; history = h; full = full }) e → e.kind ≡ Leaving coop reason → coop.0 < length s.coops
-unfolding coop_in
-leaving_coop {s} {limit} {h} e coop reason kept ready is =
-    let row : IsRow s h e.by (Leaving coop reason) = subst (IsRow s h e.by) is ready.step.row in
-    the_coop_there s coop kept.scene (ap coop_in row.is)
+  pub leaving_coop : (reason : Reason) → e.kind ≡ Leaving coop reason → coop.0 < length s.coops
+  leaving_coop reason is = present_within s h coop kept.legal (leaves_present s h e.by coop reason (subst (IsRow s h e.by) is ready.step.row)).0
+
+  pub left_coop : e.kind ≡ Left coop → coop.0 < length s.coops
+  left_coop is =
+      let row : IsRow s h e.by (Left coop) = subst (IsRow s h e.by) is ready.step.row in
+      present_within s h coop kept.legal (leaving_present s h coop kept.legal (may_leave_parts s h coop row.may).goes)
+
+  -- one that is registered was not present, nor were its agents entered
+  pub entering_absent : Enters e.kind coop → (standing_at t.coops coop).present ≡ false
+  entering_absent its =
+      rw kept.tables (
+      ap (λ (x : Coop). x.present) (coop_found s h coop (entered_known s h e coop ready.step.row its))
+      ∙ (was_open s h e coop ready.step.row its).absent
+      )
+
+  pub entering_nobody : Enters e.kind coop → All (λ (a : AgentId). is_entered t.mboxes a ≡ false) (agents_of s coop)
+  entering_nobody its = rw kept.tables (nobody_entered s h coop kept.scene ((was_open s h e coop ready.step.row its).absent))
+
+pub tables_for : {s : SceneParts} {limit : ℕ} {h : List Entry} {t : Tables} {full : Bool} → IsKept s limit h t full → AreFor s t
+tables_for kept = rw kept.tables (record { events = refl; mboxes = refl; coops = refl })
 
 -- the lane of what is taken is one of the scene's
 taking_lane : (s : SceneParts) (h : List Entry) (by : PartyId) (lane : LaneId) (d : Demand) (o : Opening) (w : Option SkipWhy) → IsRow s h by (taking_as lane d o w) → lane.0 < lanes s
@@ -129,30 +151,6 @@ pub begun_lane : {s : SceneParts} {limit : ℕ} {h : List Entry} {t : Tables} {f
     IsReady (record { scene = s; limit = limit; history = h; full = full }) e → e.kind ≡ taking s h lane d → lane.0 < lanes s
 begun_lane {s} {limit} {h} e lane d kept ready is =
     taking_lane s h e.by lane d (opening_of s h d) (skipped (opening_of s h d)) (subst (IsRow s h e.by) is ready.step.row)
-
-pub left_one : {s : SceneParts} {limit : ℕ} {h : List Entry} {t : Tables} {full : Bool} (e : Entry) (coop : CoopId) → IsKept s limit h t full →
-    IsReady (record { scene = s; limit = limit; history = h; full = full }) e → e.kind ≡ Left coop → coop ≡ the_coop
-left_one {s} {limit} {h} e coop kept ready is =
-    let row : IsRow s h e.by (Left coop) = subst (IsRow s h e.by) is ready.step.row in row.the_one
-
-pub left_coop : {s : SceneParts} {limit : ℕ} {h : List Entry} {t : Tables} {full : Bool} (e : Entry) (coop : CoopId) → IsKept s limit h t full →
-    IsReady (record { scene = s; limit = limit; history = h; full = full }) e → e.kind ≡ Left coop → coop.0 < length s.coops
-left_coop {s} {limit} {h} e coop kept ready is = the_coop_there s coop kept.scene (left_one e coop kept ready is)
-
--- a cooperation that is registered isn't there before
-pub absent_before : {s : SceneParts} {limit : ℕ} {h : List Entry} {t : Tables} {full : Bool} (e : Entry) (coop : CoopId) → IsKept s limit h t full →
-    IsReady (record { scene = s; limit = limit; history = h; full = full }) e → e.kind ≡ Register coop → present h ≡ false
-absent_before {s} {limit} {h} e coop kept ready is =
-    let row : IsRow s h e.by (Register coop) = subst (IsRow s h e.by) is ready.step.row in
-    elim (cases_Bool (present h)) [
-      | inl y ↦ absurd (false≢true (sym row.untried ∙ present_tried h y))
-      | inr n ↦ n
-    ]
-
-pub registered_one : {s : SceneParts} {limit : ℕ} {h : List Entry} {t : Tables} {full : Bool} (e : Entry) (coop : CoopId) → IsKept s limit h t full →
-    IsReady (record { scene = s; limit = limit; history = h; full = full }) e → e.kind ≡ Register coop → coop ≡ the_coop
-registered_one {s} {limit} {h} e coop kept ready is =
-    let row : IsRow s h e.by (Register coop) = subst (IsRow s h e.by) is ready.step.row in row.the_one
 
 -- no entry follows an abort
 pub going : {s : SceneParts} {limit : ℕ} {h : List Entry} {t : Tables} {full : Bool} (e : Entry) → IsKept s limit h t full → IsReady (record { scene = s; limit = limit; history = h; full = full }) e → aborted h ≡ false

@@ -9,3 +9,9 @@ pub mod GateLaws
 pub mod HeldLaws
 pub mod ActLaws
 pub mod VarLaws
+pub mod EachLaws
+pub mod AdmittedLaws
+pub mod CoopTableLaws
+pub mod DecideLaws
+pub mod CoopSteps
+pub mod Entering

@@ -1,8 +1,8 @@
 -- How the agents stand after one more entry.
-use Rattle.std.proofs.Common.{◌≡◌, ℕ, ◌+◌, ◌<◌, List, [], ◌∷◌, ◌++◌, length, Bool, true, false, cond, arith, refl, sym, ◌∙◌, ap, subst, inl, inr, get_or}
-use Rattle.std.specs.Prelude.{slice_set}
-use Rattle.std.proofs.lemmas.List.{get_or-set_same, get_or-set_other, get_or_push, get_or_append_left}
-use Rattle.std.proofs.lemmas.Bool.{cases_eq, cases_lt, eq-eqb}
+use Rattle.std.proofs.Common.{◌≡◌, ℕ, ◌+◌, ◌<◌, List, [], ◌∷◌, ◌++◌, length, Bool, true, false, ◌&&◌, ◌≤◌, cond, arith, refl, sym, ◌∙◌, ap, subst, inl, inr, get_or}
+use Rattle.std.specs.Prelude.{slice_set, nat_le, nat_lt}
+use Rattle.std.proofs.lemmas.List.{length-set, get_or-set_same, get_or-set_other, get_or_push, get_or_append_left}
+use Rattle.std.proofs.lemmas.Bool.{cases_eq, cases_lt, eq-eqb, eqb-true, lt-leb, le-ltb, le-leb, lt-ltb, leb-true, ltb-true, and_parts, false≢true, false_from_ne_true}
 use Rattle.so_ids.specs.declared.AgentId.{AgentId}
 use Rattle.so_ids.specs.declared.CoopId.{CoopId}
 use Rattle.so_ids.specs.declared.StateId.{StateId}
@@ -13,15 +13,18 @@ use Rattle.so_state.specs.declared.choice.Row.{Row}
 use Rattle.so_state.specs.Choice.{chosen}
 use Rattle.so_ids.specs.declared.MboxId.{MboxId}
 use Rattle.so_ids.specs.declared.MsgId.{MsgId}
+use Rattle.so_ids.specs.declared.Place.{Place}
+use Rattle.so_code.specs.declared.effect.Answer.{Answer}
 use Rattle.so_scene.specs.declared.parts.SceneParts.{SceneParts}
-use Rattle.so_scene.specs.Parts.{no_agent, agent_of, states_of}
-use Rattle.so_scene.specs.Checked.{IsScene}
+use Rattle.so_scene.specs.Parts.{agent_of, coop_of, states_of}
+use Rattle.so_scene.specs.Checked.{IsMember, IsScene}
+use Rattle.so_scene.proofs.AgentLaws.{its_coop}
 use Rattle.so_history.specs.declared.entry.Entry.{Entry}
-use Rattle.so_history.specs.declared.entry.EntryKind.TheVariants.{Register}
-use Rattle.so_history.specs.Coops.{the_coop}
-use Rattle.so_history.specs.Leaves.{is_turn_of, leaves_by_effect, leaves_by, leaves}
+use Rattle.so_history.specs.declared.entry.EntryKind.TheVariants.{Act}
+use Rattle.so_history.specs.Leaves.{is_of, leaves_by_effect, leaves_by, leaves}
+use Rattle.so_kernel.proofs.Entering.{Enters, as_main, as_act}
 use Rattle.so_kernel.specs.declared.states.Standing.{Standing}
-use Rattle.so_kernel.specs.States.{nowhere, Stands, AreNew, AllStand, none_entered, with_entered}
+use Rattle.so_kernel.specs.States.{nowhere, Stands, AreNew, AllStand, none_entered, is_between, with_none, with_entered}
 use Rattle.so_kernel.specs.Gates.{is_quiet, IsActOf, IsQuietActOf}
 
 -- ---- agents that have entered none
@@ -38,15 +41,6 @@ new_pushed n xs x size new all = record {
       ];
 }
 
-pub new_set : (n : ℕ) (xs : List Standing) (x : Standing) → n < length xs → ((states : List State) → Stands states [] x) → AreNew n xs → AreNew (n + 1) (slice_set xs n x)
-new_set n xs x within new all = record {
-  each = λ k l states.
-      elim (cases_eq k n) [
-        | inl same ↦ subst (Stands states []) (sym (ap (λ i. get_or (slice_set xs n x) i nowhere) same ∙ get_or-set_same xs n x nowhere within)) (new states)
-        | inr other ↦ subst (Stands states []) (sym (get_or-set_other xs n k x nowhere other)) (all.each k (omega (arith, l, other)) states)
-      ];
-}
-
 pub all_new : (s : SceneParts) (xs : List Standing) → length xs ≡ length s.agents → AreNew (length s.agents) xs → AllStand s none_entered xs
 all_new s xs size new = record { size = size; each = λ a known. new.each a.0 known (states_of s a) }
 
@@ -60,36 +54,91 @@ pub stands_same : (s : SceneParts) (h : List Entry) (e : Entry) (xs : List Stand
 unfolding leaves
 stands_same s h e xs same all = stands_as s (leaves s h) (leaves s (e ∷ h)) xs (λ a known. same a (leaves s h a)) all
 
-act_same : (b : Bool) (x : Effect) (l : List StateId) → leaves_by_effect x l ≡ l → cond b (leaves_by_effect x l) l ≡ l
-act_same true x l same = same
-act_same false x l same = refl
+pub stands_acted : (s : SceneParts) (h : List Entry) (e : Entry) (turn : Place) (x : Effect) (said : Answer) (xs : List Standing) → e.kind ≡ Act turn x said → ((b : AgentId) (l : List StateId) → leaves_by_effect s h turn x said b l ≡ l) → AllStand s (leaves s h) xs → AllStand s (leaves s (e ∷ h)) xs
+stands_acted s h e turn x said xs is same all = stands_same s h e xs (λ b l. rw is (same b l)) all
 
-pub stands_acted : (s : SceneParts) (h : List Entry) (e : Entry) (a : AgentId) (x : Effect) (xs : List Standing) → IsActOf s h e a x → ((l : List StateId) → leaves_by_effect x l ≡ l) → AllStand s (leaves s h) xs → AllStand s (leaves s (e ∷ h)) xs
-stands_acted s h e a x xs acts same all = stands_same s h e xs (λ b l. rw acts.is (act_same (is_turn_of h acts.turn b) x l (same l))) all
-
-quiet_leaves : (x : Effect) (l : List StateId) → is_quiet x ≡ true → leaves_by_effect x l ≡ l
-quiet_leaves (effect.Log text payload) l q = refl
-quiet_leaves (effect.Switch to) l q = refl
-quiet_leaves effect.Choose l q = refl
-quiet_leaves other l q = absurd cc
+quiet_leaves : (s : SceneParts) (h : List Entry) (turn : Place) (x : Effect) (said : Answer) (b : AgentId) (l : List StateId) → is_quiet x ≡ true → leaves_by_effect s h turn x said b l ≡ l
+quiet_leaves s h turn (effect.Log text payload) said b l q = refl
+quiet_leaves s h turn (effect.Switch to) said b l q = refl
+quiet_leaves s h turn effect.Choose said b l q = refl
+quiet_leaves s h turn other said b l q = absurd cc
 
 pub stands_quiet : (s : SceneParts) (h : List Entry) (e : Entry) (a : AgentId) (xs : List Standing) → IsQuietActOf s h e a → AllStand s (leaves s h) xs → AllStand s (leaves s (e ∷ h)) xs
-stands_quiet s h e a xs q all = stands_acted s h e a q.effect xs q.act (λ l. quiet_leaves q.effect l q.quiet) all
+stands_quiet s h e a xs q all = stands_acted s h e q.act.turn q.effect q.act.answer xs q.act.is (λ b l. quiet_leaves s h q.act.turn q.effect q.act.answer b l q.quiet) all
 
 -- one by which an agent enters a leaf
 pub stands_entered : (s : SceneParts) (h : List Entry) (e : Entry) (a : AgentId) (leaf : StateId) (xs : List Standing) → IsActOf s h e a (effect.SetState leaf) → AllStand s (with_entered a leaf (leaves s h)) xs → AllStand s (leaves s (e ∷ h)) xs
 unfolding leaves
 stands_entered s h e a leaf xs acts all = stands_as s (with_entered a leaf (leaves s h)) (leaves s (e ∷ h)) xs (λ b known. rw (acts.is, acts.whose) refl) all
 
+-- ---- agents that have entered none, again
+
+off_last : (a b : Bool) → b ≡ false → (a && b) ≡ false
+off_last true b e = e
+off_last false b e = refl
+
+-- the numbers from one on, up to before another
+none_between : (from k : ℕ) → is_between from (from + 0) k ≡ false
+none_between from k =
+    elim (cases_lt k from) [
+      | inl before ↦ ap (λ b. b && nat_lt k (from + 0)) (lt-leb from k before)
+      | inr later ↦ off_last (nat_le from k) (nat_lt k (from + 0)) (le-ltb k (from + 0) (omega arith))
+    ]
+
+last_between : (from k i : ℕ) → i ≡ from + k → is_between from (from + (k + 1)) i ≡ true
+last_between from k i is = rw (le-leb from i (omega arith), lt-ltb i (from + (k + 1)) (omega arith)) refl
+
+more_between : (from k i : ℕ) → (i ≡ from + k → ⊥) → is_between from (from + (k + 1)) i ≡ is_between from (from + k) i
+more_between from k i other =
+    elim (cases_lt i (from + k)) [
+      | inl before ↦ rw (lt-ltb i (from + (k + 1)) (omega arith), lt-ltb i (from + k) before) refl
+      | inr later ↦
+          (let past : (i ≡ from + k) → ⊥ = other in
+          rw (le-ltb i (from + k) later, le-ltb i (from + (k + 1)) (omega arith)) refl)
+    ]
+
+pub stands_none : (s : SceneParts) (from : ℕ) (leaves : AgentId → List StateId) (xs : List Standing) → AllStand s leaves xs → AllStand s (with_none from (from + 0) leaves) xs
+stands_none s from leaves xs all = stands_as s leaves (with_none from (from + 0) leaves) xs (λ a known. rw (none_between from a.0) refl) all
+
+pub stands_more : (s : SceneParts) (from k : ℕ) (leaves : AgentId → List StateId) (xs : List Standing) (x : Standing) → from + k < length xs → ((states : List State) → Stands states [] x) → AllStand s (with_none from (from + k) leaves) xs →
+    AllStand s (with_none from (from + (k + 1)) leaves) (slice_set xs (from + k) x)
+stands_more s from k leaves xs x within new all = record {
+  size = length-set xs (from + k) x ∙ all.size;
+  each = λ a known.
+      elim (cases_eq a.0 (from + k)) [
+        | inl same ↦
+            rw (last_between from k a.0 same)
+            (subst (Stands (states_of s a) []) (sym (ap (λ i. get_or (slice_set xs (from + k) x) i nowhere) same ∙ get_or-set_same xs (from + k) x nowhere within)) (new (states_of s a)))
+        | inr other ↦
+            rw (more_between from k a.0 other)
+            (subst (Stands (states_of s a) (with_none from (from + k) leaves a)) (sym (get_or-set_other xs (from + k) a.0 x nowhere other)) (all.each a known))
+      ];
+}
+
+-- the agents of a cooperation have these numbers
+between_true : (from to k : ℕ) → from ≤ k → k < to → is_between from to k ≡ true
+between_true from to k after before = rw (le-leb from k after, lt-ltb k to before) refl
+
+between_case : (s : SceneParts) (c : CoopId) (a : AgentId) (b : Bool) → IsScene s → c.0 < length s.coops → a.0 < length s.agents → is_of s c a ≡ b → is_between (coop_of s c).first.0 ((coop_of s c).first.0 + (coop_of s c).count) a.0 ≡ b
+between_case s c a true scene within known is =
+    let same : (agent_of s a).coop ≡ c = ap (λ n. record { 0 = n }) (eqb-true (agent_of s a).coop.0 c.0 is) in
+    let member : IsMember (coop_of s c) a = subst (λ x. IsMember (coop_of s x) a) same (scene.members a known) in
+    between_true _ _ a.0 member.0 member.1
+between_case s c a false scene within known is =
+    false_from_ne_true _
+    (λ between.
+    let both = and_parts (nat_le (coop_of s c).first.0 a.0) _ between in
+    let member : IsMember (coop_of s c) a = (leb-true (coop_of s c).first.0 a.0 both.0, ltb-true a.0 _ both.1) in
+    false≢true (sym is ∙ eq-eqb (agent_of s a).coop.0 c.0 (its_coop s c a scene within known member)))
+
 -- a registration
-pub stands_registered : (s : SceneParts) (h : List Entry) (e : Entry) (coop : CoopId) (xs : List Standing) → IsScene s → e.kind ≡ Register coop → coop ≡ the_coop → AllStand s none_entered xs → AllStand s (leaves s (e ∷ h)) xs
+pub stands_entered_coop : (s : SceneParts) (h : List Entry) (e : Entry) (coop : CoopId) (xs : List Standing) → IsScene s → coop.0 < length s.coops → Enters e.kind coop →
+    AllStand s (with_none (coop_of s coop).first.0 ((coop_of s coop).first.0 + (coop_of s coop).count) (leaves s h)) xs → AllStand s (leaves s (e ∷ h)) xs
 unfolding leaves
-stands_registered s h e coop xs scene is one all =
-    stands_as s none_entered (leaves s (e ∷ h)) xs
-    (λ a known.
-    let its : (agent_of s a).coop.0 ≡ coop.0 = (scene.agents a.0 no_agent known).coop ∙ sym (ap (λ (c : CoopId). c.0) one) in
-    rw (is, eq-eqb _ _ its) refl)
-    all
+stands_entered_coop s h e coop xs scene within (as_main is) all =
+    stands_as s _ (leaves s (e ∷ h)) xs (λ a known. rw is (ap (λ b. cond b [] (leaves s h a)) (sym (between_case s coop a (is_of s coop a) scene within known refl)))) all
+stands_entered_coop s h e coop xs scene within (as_act turn is) all =
+    stands_as s _ (leaves s (e ∷ h)) xs (λ a known. rw is (ap (λ b. cond b [] (leaves s h a)) (sym (between_case s coop a (is_of s coop a) scene within known refl)))) all
 
 -- at the start
 pub stands_fresh : (s : SceneParts) (xs : List Standing) → AllStand s none_entered xs → AllStand s (leaves s []) xs

@@ -1,5 +1,5 @@
 -- The tables after one more entry: one law for each kind.
-use Rattle.std.proofs.Common.{◌≡◌, ℕ, ◌<◌, List, [], ◌∷◌, ◌++◌, length, map, Bool, true, false, Option, Some, None, arith, refl, sym, ◌∙◌, ap, subst, inl, inr, get_or}
+use Rattle.std.proofs.Common.{◌≡◌, ℕ, ◌<◌, List, [], ◌∷◌, ◌++◌, length, map, Bool, true, false, cond, Option, Some, None, arith, refl, sym, ◌∙◌, ap, subst, inl, inr, get_or}
 use Rattle.std.specs.Prelude.{◌==◌, ◌↔◌, IsTrue, slice_set}
 use Rattle.std.specs.List.{filter, All}
 use Rattle.std.specs.Option.{is_none}
@@ -20,15 +20,16 @@ use Rattle.so_ids.specs.declared.Payload.{Payload}
 use Rattle.so_ids.specs.declared.StateId.{StateId}
 use Rattle.so_ids.specs.declared.Vars.{Vars}
 use Rattle.so_ids.specs.declared.Reason.{Reason}
+use Rattle.so_ids.specs.declared.Refusal.{Refusal}
 use Rattle.so_code.specs.declared.effect.Effect.{Effect}
 use Rattle.so_code.specs.declared.effect.Effect.TheVariants as effect
 use Rattle.so_code.specs.declared.effect.Answer.{Answer}
-use Rattle.so_code.specs.declared.effect.Answer.TheVariants.{Yes, No}
+use Rattle.so_code.specs.declared.effect.Answer.TheVariants.{Okay, Yes, No, Refused}
 use Rattle.so_lists.specs.Lists.{is_empty}
 use Rattle.so_lists.proofs.First.{empty-list}
 use Rattle.so_lists.proofs.EachBelow.{length-each_below, get_or-each_below, each_below-same, each_below-set, each_below-replicate}
 use Rattle.so_scene.specs.declared.parts.SceneParts.{SceneParts}
-use Rattle.so_scene.specs.Parts.{no_agent, agent_of, agents_of, rows_of, filters_of}
+use Rattle.so_scene.specs.Parts.{agents_of, vars_of, rows_of, filters_of}
 use Rattle.so_scene.specs.Checked.{IsScene}
 use Rattle.so_scene.specs.Definition.{is_not_owner, is_twice}
 use Rattle.so_scene.specs.Delivery.{events}
@@ -36,7 +37,7 @@ use Rattle.so_scene.specs.Subscriptions.{row_of, row_set, row_dropped, filter_se
 use Rattle.so_scene.specs.Lanes.{lanes, keys, key_of}
 use Rattle.so_scene.specs.Rounds.{first_round}
 use Rattle.so_history.specs.declared.entry.Entry.{Entry}
-use Rattle.so_history.specs.declared.entry.EntryKind.TheVariants.{Register, Begin, Skip, Act, End, Leaving, Left, Stop, Abort}
+use Rattle.so_history.specs.declared.entry.EntryKind.TheVariants.{Register, Refuse, Begin, Skip, Act, End, Leaving, Left, Stop, Abort}
 use Rattle.so_history.specs.declared.entry.AbortCause.{AbortCause}
 use Rattle.so_history.specs.declared.entry.Demand.{Demand}
 use Rattle.so_history.specs.declared.entry.SkipWhy.{SkipWhy}
@@ -46,22 +47,30 @@ use Rattle.so_history.specs.Places.{entry_at, beginner_at}
 use Rattle.so_history.specs.Delivery.{rows_by_effect, active_rows, filters_by_effect, active_filters, delivered}
 use Rattle.so_history.specs.Demands.{ask, ask_each, asked_by_effect, queued_by, demands, taken, waiting}
 use Rattle.so_history.specs.Units.{cost, units}
-use Rattle.so_history.specs.Turns.{Started, Course, move_of, vars_after, vars, course, started_by, ends, turns, running, running_at, running_on, lane_number, key_number, turn_at}
-use Rattle.so_history.specs.Coops.{the_coop, tried, present, leaving, is_stop, stop_asked, stopped, aborted}
+use Rattle.so_history.specs.Turns.{Started, Course, move_of, vars_by_effect, vars_after, vars, course, started_by, ends, turns, running, running_at, running_on, lane_number, key_number, turn_at}
+use Rattle.so_history.specs.Coops.{roster, roster_by_effect, mark_by_effect, is_stop, stop_asked, some_left, stopped, aborted}
+use Rattle.so_history.specs.Finishing.{finishes}
+use Rattle.so_history.specs.Leaves.{is_of}
 use Rattle.so_history.specs.Heads.{round}
 use Rattle.so_history.specs.Safety.{is_safe}
 use Rattle.so_history.specs.Order.{runs_safe, pick, opening_of, skipped, taking_as, taking}
 use Rattle.so_history.specs.Steps.{Legal, yes_where, may_subscribe, is_active}
 use Rattle.so_history.proofs.DemandLaws.{waiting-queued, waiting-same, waiting-taken, picked}
 use Rattle.so_history.proofs.NameLaws.{length-demands_from}
+use Rattle.so_kernel.proofs.Entering.{Enters, as_main, as_act}
 use Rattle.so_history.proofs.TurnLaws.{Frees, running_at-begun, running_at-same, running_at-ended, running_at-other, alone, turn_found, running_nowhere, running_at-nil, lanes_free}
 use Rattle.so_mbox.specs.Table.{after_unsubscribe, after_set_filter, after_drop_filter}
 use Rattle.so_events.specs.Events.{after_taking, after_start as turn_started, after_end as turn_ended}
 use Rattle.so_kernel.specs.Gates.{is_skip, is_quiet, IsActOf, IsQuietActOf}
-use Rattle.so_kernel.specs.Tables.{is_other, round_at, events_of, tables_of, variables_of, subscriptions_of, initial, places, first_place, brought_back, fresh, queued, with_mboxes, subscribed, after_asking, after_abort, after_register, after_begin, after_skip, after_act, after_end, after_leaving, after_left, after_stop}
+use Rattle.so_kernel.specs.declared.tables.Tables.{Tables}
+use Rattle.so_kernel.specs.Tables.{is_other, round_at, events_of, attempts_of, tables_of, variables_of, subscriptions_of, places, first_place, set_back, brought_back, fresh, queued, with_mboxes, subscribed, after_register, after_trying, after_refuse, after_marking, after_asking, after_abort, after_begin, after_skip, after_act, after_end, after_leaving, after_left, after_stop}
 use Rattle.so_kernel.proofs.CountLaws.{counts-same, counts-started, counts-ended}
 use Rattle.so_kernel.proofs.TakeLaws.{off_right, rounds-same, rounds-taken}
-use Rattle.so_kernel.proofs.MboxLaws.{mboxes-fresh, mboxes-same, mboxes-registered, mboxes-left, mboxes-quiet, mboxes-rows, mboxes-filters, rows_here, filters_here, set-down, its_owner}
+use Rattle.so_kernel.proofs.EachLaws.{each-its, set_back-each}
+use Rattle.so_kernel.proofs.AdmittedLaws.{KeepsRules}
+use Rattle.so_kernel.proofs.CoopTableLaws.{coops-fresh, coops-still, attempts-same, attempts-tried, attempts-fresh}
+use Rattle.so_kernel.proofs.CoopSteps.{coops-entered, coops-leaving, coops-left, coops-marked, coops-sent, coops-begun, coops-skipped, coops-ended}
+use Rattle.so_kernel.proofs.MboxLaws.{mboxes-fresh, mboxes-same, mboxes-entered, mboxes-left, mboxes-quiet, mboxes-rows, mboxes-filters, rows_here, filters_here, set-down, its_owner}
 
 -- where turns run after an entry that begins and ends nothing
 places-same : (f : Started → ℕ) (s : SceneParts) (h : List Entry) (e : Entry) (n : ℕ) → Legal s h → started_by (length h) e.by e.kind ≡ [] → ((t : ℕ) → ends e.kind t ≡ false) →
@@ -83,12 +92,15 @@ unfolding vars
 vars-same s h e quiet = each_below-same _ _ (length s.agents) (λ a _. quiet (course s h) (record { 0 = a }) (vars s h (record { 0 = a })))
 
 -- after a registration
-vars-registered : (s : SceneParts) (h : List Entry) (e : Entry) (coop : CoopId) → IsScene s → e.kind ≡ Register coop → coop ≡ the_coop → variables_of s (e ∷ h) ≡ initial s
+vars_each : (s : SceneParts) (h : List Entry) (e : Entry) (coop : CoopId) → IsScene s → ((c : ℕ → Option Course) (a : AgentId) (v : Vars) → vars_after s c e.kind a v ≡ cond (is_of s coop a) (vars_of s a) v) → variables_of s (e ∷ h) ≡ set_back s (agents_of s coop) (variables_of s h)
 unfolding vars
-vars-registered s h e coop scene is one =
-    each_below-same _ _ (length s.agents) (λ a within.
-    let its : (agent_of s (record { 0 = a })).coop.0 ≡ coop.0 = (scene.agents a no_agent within).coop ∙ sym (ap (λ (c : CoopId). c.0) one) in
-    rw (is, eq-eqb _ _ its) refl)
+vars_each s h e coop scene its =
+    each-its s (λ a. vars_of s (record { 0 = a })) (λ a. vars s h (record { 0 = a })) (λ a. vars s (e ∷ h) (record { 0 = a })) coop scene (λ k l. its (course s h) (record { 0 = k }) (vars s h (record { 0 = k })))
+    ∙ sym (set_back-each s (agents_of s coop) (variables_of s h))
+
+vars-entered : (s : SceneParts) (h : List Entry) (e : Entry) (coop : CoopId) → IsScene s → Enters e.kind coop → variables_of s (e ∷ h) ≡ set_back s (agents_of s coop) (variables_of s h)
+vars-entered s h e coop scene (as_main is) = vars_each s h e coop scene (λ c a v. rw is refl)
+vars-entered s h e coop scene (as_act turn is) = vars_each s h e coop scene (λ c a v. rw is refl)
 
 -- and after the End of a turn, which brings its variables back where it isn't thread-safe
 vars_case : (s : SceneParts) (h : List Entry) (e : Entry) (place : Place) (c : Course) (safe : Bool) → c.safe ≡ safe → e.kind ≡ End place → course s h place.0 ≡ Some c → c.agent.0 < length s.agents →
@@ -105,130 +117,285 @@ vars-ended : (s : SceneParts) (h : List Entry) (e : Entry) (place : Place) (c : 
 vars-ended s h e place c is has known = vars_case s h e place c c.safe refl is has known
 
 pub tables-fresh : (s : SceneParts) (room : ℕ) → tables_of s room [] ≡ fresh s room
-unfolding waiting demands taken units tried present leaving stop_asked stopped aborted running turns vars round
+unfolding waiting demands taken units some_left stop_asked stopped aborted running turns vars round
 tables-fresh s room =
     rw (
       mboxes-fresh s,
+      coops-fresh s,
+      attempts-fresh s,
       each_below-replicate (λ i. first_place (running_at lane_number [] i)) (lanes s) None (λ i. refl),
       each_below-replicate (λ i. length (filter (runs_safe s) (running_at (key_number s) [] i))) (keys s) 0 (λ i. refl),
       each_below-replicate (round_at s []) (length s.dispatchers) first_round (λ i. refl),
     ) refl
 
-pub tables-register : (s : SceneParts) (room : ℕ) (h : List Entry) (e : Entry) (coop : CoopId) → e.kind ≡ Register coop → Legal s h → IsScene s → coop ≡ the_coop → present h ≡ false → aborted h ≡ false →
-    tables_of s room (e ∷ h) ≡ after_register s (length h) (agents_of s coop) (tables_of s room h)
-unfolding tried present leaving stop_asked stopped aborted units
-tables-register s room h e coop is legal scene one absent going =
-    rw (mboxes-registered s h e coop scene is one absent, vars-registered s h e coop scene is one, going, demands-queued s h e, waiting-queued s h e legal (λ d. rw is refl), places-same lane_number s h e (lanes s) legal (rw is refl) (λ t. rw is refl), counts-same s (runs_safe s) h e legal (rw is refl) (λ t. rw is refl), counts-same s (is_other s) h e legal (rw is refl) (λ t. rw is refl), rounds-same s h e (λ d. rw is refl), is, length-demands_from (length h) 0 (ask_each Start (agents_of s coop))) refl
+-- the registration of a cooperation, but for main's attempts
+abbrev after_entering : SceneParts → List Entry → Entry → CoopId → Tables → Tables
+after_entering s h e coop t = record (after_register s (length h) coop t) { attempts = attempts_of s (e ∷ h) }
 
-pub tables-leaving : (s : SceneParts) (room : ℕ) (h : List Entry) (e : Entry) (coop : CoopId) (reason : Reason) → e.kind ≡ Leaving coop reason → Legal s h → aborted h ≡ false →
-    tables_of s room (e ∷ h) ≡ after_leaving (length h) (agents_of s coop) (tables_of s room h)
-unfolding tried present leaving stop_asked stopped aborted units
-tables-leaving s room h e coop reason is legal going =
-    rw (mboxes-same s h e (rw is refl) (λ a r. rw is refl) (λ a f. rw is refl), vars-same s h e (λ c a v. rw is refl), going, demands-queued s h e, waiting-queued s h e legal (λ d. rw is refl), places-same lane_number s h e (lanes s) legal (rw is refl) (λ t. rw is refl), counts-same s (runs_safe s) h e legal (rw is refl) (λ t. rw is refl), counts-same s (is_other s) h e legal (rw is refl) (λ t. rw is refl), rounds-same s h e (λ d. rw is refl), is, length-demands_from (length h) 0 (ask_each Finish (agents_of s coop))) refl
+tables-entered : (s : SceneParts) (room : ℕ) (h : List Entry) (e : Entry) (coop : CoopId) → Enters e.kind coop → Legal s (e ∷ h) → IsScene s → aborted h ≡ false → tables_of s room (e ∷ h) ≡ after_entering s h e coop (tables_of s room h)
+unfolding some_left stop_asked stopped aborted units
+tables-entered s room h e coop (as_main is) legal scene going =
+    rw (
+      mboxes-entered s h e coop scene (as_main is),
+      vars-entered s h e coop scene (as_main is),
+      coops-entered s h e coop scene legal (as_main is),
+      going,
+      demands-queued s h e,
+      waiting-queued s h e legal.0 (λ d. rw is refl),
+      places-same lane_number s h e (lanes s) legal.0 (rw is refl) (λ t. rw is refl),
+      counts-same s (runs_safe s) h e legal.0 (rw is refl) (λ t. rw is refl),
+      counts-same s (is_other s) h e legal.0 (rw is refl) (λ t. rw is refl),
+      rounds-same s h e (λ d. rw is refl),
+      is,
+      length-demands_from (length h) 0 (ask_each Start (agents_of s coop)),
+    ) refl
+tables-entered s room h e coop (as_act turn is) legal scene going =
+    rw (
+      mboxes-entered s h e coop scene (as_act turn is),
+      vars-entered s h e coop scene (as_act turn is),
+      coops-entered s h e coop scene legal (as_act turn is),
+      going,
+      demands-queued s h e,
+      waiting-queued s h e legal.0 (λ d. rw is refl),
+      places-same lane_number s h e (lanes s) legal.0 (rw is refl) (λ t. rw is refl),
+      counts-same s (runs_safe s) h e legal.0 (rw is refl) (λ t. rw is refl),
+      counts-same s (is_other s) h e legal.0 (rw is refl) (λ t. rw is refl),
+      rounds-same s h e (λ d. rw is refl),
+      is,
+      length-demands_from (length h) 0 (ask_each Start (agents_of s coop)),
+    ) refl
 
--- an act that changes neither variables nor demands
-module _ (s : SceneParts) (room : ℕ) (h : List Entry) (e : Entry) (a : AgentId) (x : Effect) (acts : IsActOf s h e a x) (legal : Legal s h) (going : aborted h ≡ false) where
-  acted : asked_by_effect s h x ≡ [] → is_stop x ≡ false → tables_of s room (e ∷ h) ≡ with_mboxes (subscriptions_of s (e ∷ h)) (tables_of s room h)
-  unfolding tried present leaving stop_asked stopped aborted units
-  acted nothing quiet =
-      let none : queued_by s h e.kind ≡ [] = rw (acts.is, nothing) refl in
-      rw (vars-same s h e (λ c b v. rw acts.is refl), going, demands-same s h e none, waiting-same s h e legal none (λ d. rw acts.is refl), places-same lane_number s h e (lanes s) legal (rw acts.is refl) (λ t. rw acts.is refl), counts-same s (runs_safe s) h e legal (rw acts.is refl) (λ t. rw acts.is refl), counts-same s (is_other s) h e legal (rw acts.is refl) (λ t. rw acts.is refl), rounds-same s h e (λ d. rw acts.is refl), acts.is, nothing, quiet) refl
+pub tables-register : (s : SceneParts) (room : ℕ) (h : List Entry) (e : Entry) (coop : CoopId) → e.kind ≡ Register coop → Legal s (e ∷ h) → IsScene s → coop.0 < length s.coops → aborted h ≡ false →
+    tables_of s room (e ∷ h) ≡ after_trying coop (after_register s (length h) coop (tables_of s room h))
+tables-register s room h e coop is legal scene within going =
+    tables-entered s room h e coop (as_main is) legal scene going
+    ∙ ap (λ a. record (after_register s (length h) coop (tables_of s room h)) { attempts = a }) (attempts-tried s h e coop within (λ c b. rw is refl))
 
-asks_nothing : (s : SceneParts) (h : List Entry) (x : Effect) → is_quiet x ≡ true → asked_by_effect s h x ≡ []
-asks_nothing s h (effect.Log text payload) q = refl
-asks_nothing s h (effect.Switch to) q = refl
-asks_nothing s h effect.Choose q = refl
-asks_nothing s h other q = absurd cc
+pub tables-registering : (s : SceneParts) (room : ℕ) (h : List Entry) (e : Entry) (coop : CoopId) (turn : Place) → e.kind ≡ Act turn (effect.Register coop) Okay → Legal s (e ∷ h) → IsScene s → aborted h ≡ false →
+    tables_of s room (e ∷ h) ≡ after_register s (length h) coop (tables_of s room h)
+tables-registering s room h e coop turn is legal scene going =
+    tables-entered s room h e coop (as_act turn is) legal scene going
+    ∙ ap (λ a. record (after_register s (length h) coop (tables_of s room h)) { attempts = a }) (attempts-same s h e (λ c b. rw is refl))
 
-asks_no_stop : (x : Effect) → is_quiet x ≡ true → is_stop x ≡ false
-asks_no_stop (effect.Log text payload) q = refl
-asks_no_stop (effect.Switch to) q = refl
-asks_no_stop effect.Choose q = refl
-asks_no_stop other q = absurd cc
+pub tables-refuse : (s : SceneParts) (room : ℕ) (h : List Entry) (e : Entry) (coop : CoopId) (cause : Refusal) → e.kind ≡ Refuse coop cause → Legal s h → coop.0 < length s.coops → aborted h ≡ false →
+    tables_of s room (e ∷ h) ≡ after_refuse coop (tables_of s room h)
+unfolding some_left stop_asked stopped aborted units
+tables-refuse s room h e coop cause is legal within going =
+    rw (
+      mboxes-same s h e (rw is refl) (λ a r. rw is refl) (λ a f. rw is refl),
+      vars-same s h e (λ c a v. rw is refl),
+      coops-still s h e legal (rw is refl) (λ c b. rw is refl) (λ c m. rw is refl) (rw is refl) (λ d. rw is refl) (rw is refl) (λ t. rw is refl),
+      attempts-tried s h e coop within (λ c b. rw is refl),
+      going,
+      demands-same s h e (rw is refl),
+      waiting-same s h e legal (rw is refl) (λ d. rw is refl),
+      places-same lane_number s h e (lanes s) legal (rw is refl) (λ t. rw is refl),
+      counts-same s (runs_safe s) h e legal (rw is refl) (λ t. rw is refl),
+      counts-same s (is_other s) h e legal (rw is refl) (λ t. rw is refl),
+      rounds-same s h e (λ d. rw is refl),
+      is,
+    ) refl
 
-quiet_rows : (x : Effect) (answer : Answer) (r : List Bool) → is_quiet x ≡ true → rows_by_effect x answer r ≡ r
-quiet_rows (effect.Log text payload) answer r q = refl
-quiet_rows (effect.Switch to) answer r q = refl
-quiet_rows effect.Choose answer r q = refl
-quiet_rows other answer r q = absurd cc
+pub tables-leaving : (s : SceneParts) (room : ℕ) (h : List Entry) (e : Entry) (coop : CoopId) (reason : Reason) → e.kind ≡ Leaving coop reason → Legal s (e ∷ h) → IsScene s → aborted h ≡ false →
+    tables_of s room (e ∷ h) ≡ after_leaving s (length h) coop (tables_of s room h)
+unfolding some_left stop_asked stopped aborted units
+tables-leaving s room h e coop reason is legal scene going =
+    rw (
+      mboxes-same s h e (rw is refl) (λ a r. rw is refl) (λ a f. rw is refl),
+      vars-same s h e (λ c a v. rw is refl),
+      coops-leaving s h e coop reason scene legal is,
+      attempts-same s h e (λ c b. rw is refl),
+      going,
+      demands-queued s h e,
+      waiting-queued s h e legal.0 (λ d. rw is refl),
+      places-same lane_number s h e (lanes s) legal.0 (rw is refl) (λ t. rw is refl),
+      counts-same s (runs_safe s) h e legal.0 (rw is refl) (λ t. rw is refl),
+      counts-same s (is_other s) h e legal.0 (rw is refl) (λ t. rw is refl),
+      rounds-same s h e (λ d. rw is refl),
+      is,
+      length-demands_from (length h) 0 (ask_each Finish (agents_of s coop)),
+    ) refl
 
-quiet_filters : (s : SceneParts) (b : AgentId) (x : Effect) (answer : Answer) (f : List Bool) → is_quiet x ≡ true → filters_by_effect s b x answer f ≡ f
-quiet_filters s b (effect.Log text payload) answer f q = refl
-quiet_filters s b (effect.Switch to) answer f q = refl
-quiet_filters s b effect.Choose answer f q = refl
-quiet_filters s b other answer f q = absurd cc
+-- ---- acts
 
-pub tables-quiet : (s : SceneParts) (room : ℕ) (h : List Entry) (e : Entry) (a : AgentId) → IsQuietActOf s h e a → a.0 < length s.agents → Legal s h → aborted h ≡ false →
+-- an act that changes neither variables nor demands, and no cooperation
+record IsStill (s : SceneParts) (h : List Entry) (x : Effect) (said : Answer) : Type 0 where
+  same_vars : (a : AgentId) (v : Vars) → vars_by_effect s x said a v ≡ v
+  asks_none : asked_by_effect s h x said ≡ []
+  same_roster : roster_by_effect x said (roster h) ≡ roster h
+  same_marks : (c : CoopId) (m : Option Reason) → mark_by_effect x said c m ≡ m
+  no_stop : is_stop x ≡ false
+
+module _ (s : SceneParts) (room : ℕ) (h : List Entry) (e : Entry) (turn : Place) (x : Effect) (said : Answer) (is : e.kind ≡ Act turn x said) (legal : Legal s h) (going : aborted h ≡ false) where
+  acted : IsStill s h x said → tables_of s room (e ∷ h) ≡ with_mboxes (subscriptions_of s (e ∷ h)) (tables_of s room h)
+  unfolding some_left stop_asked stopped aborted units
+  acted still =
+      let none : queued_by s h e.kind ≡ [] = rw (is, still.asks_none) refl in
+      rw (
+        vars-same s h e (λ c a v. rw is (still.same_vars a v)),
+        coops-still s h e legal (rw is still.same_roster) (λ c b. rw is refl) (λ c m. rw is (still.same_marks c m)) none (λ d. rw is refl) (rw is refl) (λ t. rw is refl),
+        attempts-same s h e (λ c b. rw is refl),
+        going,
+        demands-same s h e none,
+        waiting-same s h e legal none (λ d. rw is refl),
+        places-same lane_number s h e (lanes s) legal (rw is refl) (λ t. rw is refl),
+        counts-same s (runs_safe s) h e legal (rw is refl) (λ t. rw is refl),
+        counts-same s (is_other s) h e legal (rw is refl) (λ t. rw is refl),
+        rounds-same s h e (λ d. rw is refl),
+        is,
+        still.asks_none,
+        still.no_stop,
+      ) refl
+
+-- those of an agent's own states, rows and filters, and those that tell or choose
+abbrev is_own : Effect → Bool
+is_own (effect.Subscribe row) = true
+is_own (effect.Unsubscribe row) = true
+is_own (effect.SetFilter filter) = true
+is_own (effect.DropFilter filter) = true
+is_own (effect.SetState leaf) = true
+is_own (effect.Log text payload) = true
+is_own (effect.Switch to) = true
+is_own effect.Choose = true
+is_own other = false
+
+own_still : (s : SceneParts) (h : List Entry) (x : Effect) (said : Answer) → is_own x ≡ true → IsStill s h x said
+own_still s h (effect.Subscribe row) said own = record { same_vars = λ a v. refl; asks_none = refl; same_roster = refl; same_marks = λ c m. refl; no_stop = refl }
+own_still s h (effect.Unsubscribe row) said own = record { same_vars = λ a v. refl; asks_none = refl; same_roster = refl; same_marks = λ c m. refl; no_stop = refl }
+own_still s h (effect.SetFilter filter) said own = record { same_vars = λ a v. refl; asks_none = refl; same_roster = refl; same_marks = λ c m. refl; no_stop = refl }
+own_still s h (effect.DropFilter filter) said own = record { same_vars = λ a v. refl; asks_none = refl; same_roster = refl; same_marks = λ c m. refl; no_stop = refl }
+own_still s h (effect.SetState leaf) said own = record { same_vars = λ a v. refl; asks_none = refl; same_roster = refl; same_marks = λ c m. refl; no_stop = refl }
+own_still s h (effect.Log text payload) said own = record { same_vars = λ a v. refl; asks_none = refl; same_roster = refl; same_marks = λ c m. refl; no_stop = refl }
+own_still s h (effect.Switch to) said own = record { same_vars = λ a v. refl; asks_none = refl; same_roster = refl; same_marks = λ c m. refl; no_stop = refl }
+own_still s h effect.Choose said own = record { same_vars = λ a v. refl; asks_none = refl; same_roster = refl; same_marks = λ c m. refl; no_stop = refl }
+own_still s h other said own = absurd cc
+
+quiet_still : (s : SceneParts) (h : List Entry) (x : Effect) (said : Answer) → is_quiet x ≡ true → IsStill s h x said
+quiet_still s h (effect.Log text payload) said q = own_still s h (effect.Log text payload) said refl
+quiet_still s h (effect.Switch to) said q = own_still s h (effect.Switch to) said refl
+quiet_still s h effect.Choose said q = own_still s h effect.Choose said refl
+quiet_still s h other said q = absurd cc
+
+-- one that changes nothing but the units, and one by which an agent enters a leaf
+quiet_rows : (s : SceneParts) (h : List Entry) (turn : Place) (x : Effect) (said : Answer) (b : AgentId) (r : List Bool) → is_quiet x ≡ true → rows_by_effect s h turn x said b r ≡ r
+quiet_rows s h turn (effect.Log text payload) said b r q = refl
+quiet_rows s h turn (effect.Switch to) said b r q = refl
+quiet_rows s h turn effect.Choose said b r q = refl
+quiet_rows s h turn other said b r q = absurd cc
+
+quiet_filters : (s : SceneParts) (h : List Entry) (turn : Place) (x : Effect) (said : Answer) (b : AgentId) (f : List Bool) → is_quiet x ≡ true → filters_by_effect s h turn x said b f ≡ f
+quiet_filters s h turn (effect.Log text payload) said b f q = refl
+quiet_filters s h turn (effect.Switch to) said b f q = refl
+quiet_filters s h turn effect.Choose said b f q = refl
+quiet_filters s h turn other said b f q = absurd cc
+
+pub tables-quiet : (s : SceneParts) (room : ℕ) (h : List Entry) (e : Entry) (a : AgentId) → IsQuietActOf s h e a → Legal s h → aborted h ≡ false →
     tables_of s room (e ∷ h) ≡ after_act (tables_of s room h)
-tables-quiet s room h e a q known legal going =
-    acted s room h e a q.effect q.act legal going (asks_nothing s h q.effect q.quiet) (asks_no_stop q.effect q.quiet)
-    ∙ ap (λ m. with_mboxes m (tables_of s room h)) (mboxes-quiet s h e q.act.turn q.effect q.act.answer a q.act.is q.act.whose known (λ r. quiet_rows q.effect q.act.answer r q.quiet) (λ b f. quiet_filters s b q.effect q.act.answer f q.quiet))
+tables-quiet s room h e a q legal going =
+    let still = quiet_still s h q.effect q.act.answer q.quiet in
+    acted s room h e q.act.turn q.effect q.act.answer q.act.is legal going still
+    ∙ ap (λ m. with_mboxes m (tables_of s room h))
+    (mboxes-quiet s h e q.act.turn q.effect q.act.answer q.act.is still.same_roster (λ b r. quiet_rows s h q.act.turn q.effect q.act.answer b r q.quiet) (λ b f. quiet_filters s h q.act.turn q.effect q.act.answer b f q.quiet))
 
--- and an agent's entering of a leaf, which changes its state alone
-pub tables-entered : (s : SceneParts) (room : ℕ) (h : List Entry) (e : Entry) (a : AgentId) (leaf : StateId) → IsActOf s h e a (effect.SetState leaf) → a.0 < length s.agents → Legal s h → aborted h ≡ false →
+pub tables-set_state : (s : SceneParts) (room : ℕ) (h : List Entry) (e : Entry) (a : AgentId) (leaf : StateId) → IsActOf s h e a (effect.SetState leaf) → Legal s h → aborted h ≡ false →
     tables_of s room (e ∷ h) ≡ after_act (tables_of s room h)
-tables-entered s room h e a leaf acts known legal going =
-    acted s room h e a (effect.SetState leaf) acts legal going refl refl
-    ∙ ap (λ m. with_mboxes m (tables_of s room h)) (mboxes-quiet s h e acts.turn (effect.SetState leaf) acts.answer a acts.is acts.whose known (λ r. refl) (λ b f. refl))
+tables-set_state s room h e a leaf acts legal going =
+    acted s room h e acts.turn (effect.SetState leaf) acts.answer acts.is legal going (own_still s h (effect.SetState leaf) acts.answer refl)
+    ∙ ap (λ m. with_mboxes m (tables_of s room h)) (mboxes-quiet s h e acts.turn (effect.SetState leaf) acts.answer acts.is refl (λ b r. refl) (λ b f. refl))
+
+-- a registration that is refused
+refused_still : (s : SceneParts) (h : List Entry) (coop : CoopId) (cause : Refusal) → IsStill s h (effect.Register coop) (Refused cause)
+refused_still s h coop cause = record { same_vars = λ a v. refl; asks_none = refl; same_roster = refl; same_marks = λ c m. refl; no_stop = refl }
+
+pub tables-refused : (s : SceneParts) (room : ℕ) (h : List Entry) (e : Entry) (coop : CoopId) (turn : Place) (cause : Refusal) → e.kind ≡ Act turn (effect.Register coop) (Refused cause) → Legal s h → aborted h ≡ false →
+    tables_of s room (e ∷ h) ≡ after_act (tables_of s room h)
+tables-refused s room h e coop turn cause is legal going =
+    acted s room h e turn (effect.Register coop) (Refused cause) is legal going (refused_still s h coop cause)
+    ∙ ap (λ m. with_mboxes m (tables_of s room h)) (mboxes-quiet s h e turn (effect.Register coop) (Refused cause) is refl (λ b r. refl) (λ b f. refl))
+
+-- one that marks a cooperation to leave, where it can be marked
+pub tables-marking : (s : SceneParts) (room : ℕ) (h : List Entry) (e : Entry) (a : AgentId) (coop : CoopId) → IsActOf s h e a (effect.Deregister coop) → IsScene s → coop.0 < length s.coops → Legal s h → aborted h ≡ false →
+    tables_of s room (e ∷ h) ≡ after_marking coop (tables_of s room h)
+unfolding some_left stop_asked stopped aborted units
+tables-marking s room h e a coop acts scene within legal going =
+    let is = acts.is in
+    rw (
+      mboxes-quiet s h e acts.turn (effect.Deregister coop) acts.answer is refl (λ b r. refl) (λ b f. refl),
+      vars-same s h e (λ c b v. rw is refl),
+      coops-marked s h e acts.turn coop within legal (is ∙ ap (Act acts.turn (effect.Deregister coop)) (sym (same_Some _ acts.answer acts.answers))),
+      attempts-same s h e (λ c b. rw is refl),
+      going,
+      demands-same s h e (rw is refl),
+      waiting-same s h e legal (rw is refl) (λ d. rw is refl),
+      places-same lane_number s h e (lanes s) legal (rw is refl) (λ t. rw is refl),
+      counts-same s (runs_safe s) h e legal (rw is refl) (λ t. rw is refl),
+      counts-same s (is_other s) h e legal (rw is refl) (λ t. rw is refl),
+      rounds-same s h e (λ d. rw is refl),
+      is,
+    ) refl
 
 -- what an act costs
-pub cost-acted : (s : SceneParts) (h : List Entry) (e : Entry) (a : AgentId) (x : Effect) → IsActOf s h e a x → asked_by_effect s h x ≡ [] → cost s h e ≡ 1
-cost-acted s h e a x acts nothing = rw (acts.is, nothing) refl
+pub cost-acted : (s : SceneParts) (h : List Entry) (e : Entry) (turn : Place) (x : Effect) (said : Answer) → e.kind ≡ Act turn x said → asked_by_effect s h x said ≡ [] → cost s h e ≡ 1
+cost-acted s h e turn x said is nothing = rw (is, nothing) refl
 
 pub cost-quiet : (s : SceneParts) (h : List Entry) (e : Entry) (a : AgentId) → IsQuietActOf s h e a → cost s h e ≡ 1
-cost-quiet s h e a q = cost-acted s h e a q.effect q.act (asks_nothing s h q.effect q.quiet)
+cost-quiet s h e a q = cost-acted s h e q.act.turn q.effect q.act.answer q.act.is (quiet_still s h q.effect q.act.answer q.quiet).asks_none
 
 -- what a send costs
 pub cost-sent : (s : SceneParts) (h : List Entry) (turn : Place) (mbox : MboxId) (msg : MsgId) (payload : Payload) (answer : Answer) →
     length (queued_by s h (Act turn (effect.Send (Mbox mbox) msg payload) answer)) ≡ length (events (delivered s h mbox msg payload))
 cost-sent s h turn mbox msg payload answer = length-demands_from (length h) 0 (map ask (events (delivered s h mbox msg payload))) ∙ length-map (events (delivered s h mbox msg payload)) ask
 
-pub tables-send : (s : SceneParts) (room : ℕ) (h : List Entry) (e : Entry) (a : AgentId) (mbox : MboxId) (msg : MsgId) (payload : Payload) → IsActOf s h e a (effect.Send (Mbox mbox) msg payload) → a.0 < length s.agents → Legal s h → aborted h ≡ false →
+pub tables-send : (s : SceneParts) (room : ℕ) (h : List Entry) (e : Entry) (a : AgentId) (mbox : MboxId) (msg : MsgId) (payload : Payload) → IsActOf s h e a (effect.Send (Mbox mbox) msg payload) → Legal s h → aborted h ≡ false →
     tables_of s room (e ∷ h) ≡ queued (length h) (map ask (events (delivered s h mbox msg payload))) (tables_of s room h)
-unfolding tried present leaving stop_asked stopped aborted units
-tables-send s room h e a mbox msg payload acts known legal going =
+unfolding some_left stop_asked stopped aborted units
+tables-send s room h e a mbox msg payload acts legal going =
+    let is = acts.is in
     rw (
-      mboxes-quiet s h e acts.turn (effect.Send (Mbox mbox) msg payload) acts.answer a acts.is acts.whose known (λ r. refl) (λ b f. refl),
-      vars-same s h e (λ c b v. rw acts.is refl),
+      mboxes-quiet s h e acts.turn (effect.Send (Mbox mbox) msg payload) acts.answer is refl (λ b r. refl) (λ b f. refl),
+      vars-same s h e (λ c b v. rw is refl),
+      coops-sent s h e acts.turn mbox msg payload acts.answer legal is,
+      attempts-same s h e (λ c b. rw is refl),
       going,
       demands-queued s h e,
-      waiting-queued s h e legal (λ d. rw acts.is refl),
-      places-same lane_number s h e (lanes s) legal (rw acts.is refl) (λ t. rw acts.is refl),
-      counts-same s (runs_safe s) h e legal (rw acts.is refl) (λ t. rw acts.is refl),
-      counts-same s (is_other s) h e legal (rw acts.is refl) (λ t. rw acts.is refl),
-      rounds-same s h e (λ d. rw acts.is refl),
-      acts.is,
+      waiting-queued s h e legal (λ d. rw is refl),
+      places-same lane_number s h e (lanes s) legal (rw is refl) (λ t. rw is refl),
+      counts-same s (runs_safe s) h e legal (rw is refl) (λ t. rw is refl),
+      counts-same s (is_other s) h e legal (rw is refl) (λ t. rw is refl),
+      rounds-same s h e (λ d. rw is refl),
+      is,
       length-demands_from (length h) 0 (map ask (events (delivered s h mbox msg payload))),
     ) refl
 
+-- the agent's own rows and filters
 subscribe_case : (s : SceneParts) (h : List Entry) (e : Entry) (a : AgentId) (row : RowId) (turn : Place) (b : Bool) → may_subscribe s h a row ≡ b → e.kind ≡ Act turn (effect.Subscribe row) (yes_where b) → beginner_at (entry_at h turn.0) ≡ a → a.0 < length s.agents → is_not_owner s a (row_of s a row) ≡ false →
     subscriptions_of s (e ∷ h) ≡ subscribed a row (subscriptions_of s h)
 subscribe_case s h e a row turn true may is whose known owner =
     let rows : get_or (subscriptions_of s h).rows a.0 [] ≡ active_rows s h a = rows_here s h e turn (effect.Subscribe row) Yes a is whose known in
-    mboxes-rows s h e turn (effect.Subscribe row) Yes a is whose known (row_set row (active_rows s h a)) refl (λ b f. refl)
+    mboxes-rows s h e turn (effect.Subscribe row) Yes a is whose known (λ b r. row_set row r) refl (λ b r. refl) (λ b f. refl)
     ∙ rw (owner, rows, not-true (is_twice (rows_of s a) (active_rows s h a) (row_of s a row)) may) refl
 subscribe_case s h e a row turn false may is whose known owner =
     let rows : get_or (subscriptions_of s h).rows a.0 [] ≡ active_rows s h a = rows_here s h e turn (effect.Subscribe row) No a is whose known in
-    mboxes-quiet s h e turn (effect.Subscribe row) No a is whose known (λ r. refl) (λ b f. refl)
+    mboxes-quiet s h e turn (effect.Subscribe row) No is refl (λ b r. refl) (λ b f. refl)
     ∙ rw (owner, rows, not-false (is_twice (rows_of s a) (active_rows s h a) (row_of s a row)) may) refl
 
-pub tables-subscribe : (s : SceneParts) (room : ℕ) (h : List Entry) (e : Entry) (a : AgentId) (row : RowId) → IsActOf s h e a (effect.Subscribe row) → IsScene s → a.0 < length s.agents → row.0 < length (rows_of s a) → Legal s h → aborted h ≡ false →
+pub tables-subscribe : (s : SceneParts) (room : ℕ) (h : List Entry) (e : Entry) (a : AgentId) (row : RowId) → IsActOf s h e a (effect.Subscribe row) → a.0 < length s.agents → KeepsRules s a → row.0 < length (rows_of s a) → Legal s h → aborted h ≡ false →
     tables_of s room (e ∷ h) ≡ with_mboxes (subscribed a row (subscriptions_of s h)) (tables_of s room h)
-tables-subscribe s room h e a row acts scene known within legal going =
+tables-subscribe s room h e a row acts known keeps within legal going =
     let answer : acts.answer ≡ yes_where (may_subscribe s h a row) = sym (same_Some _ acts.answer acts.answers) in
     let is : e.kind ≡ Act acts.turn (effect.Subscribe row) (yes_where (may_subscribe s h a row)) = acts.is ∙ ap (Act acts.turn (effect.Subscribe row)) answer in
-    acted s room h e a (effect.Subscribe row) acts legal going refl refl
-    ∙ ap (λ m. with_mboxes m (tables_of s room h)) (subscribe_case s h e a row acts.turn (may_subscribe s h a row) refl is acts.whose known (its_owner s a row scene known within))
+    acted s room h e acts.turn (effect.Subscribe row) acts.answer acts.is legal going (own_still s h (effect.Subscribe row) acts.answer refl)
+    ∙ ap (λ m. with_mboxes m (tables_of s room h)) (subscribe_case s h e a row acts.turn (may_subscribe s h a row) refl is acts.whose known (its_owner s a row keeps within))
 
 unsubscribe_case : (s : SceneParts) (h : List Entry) (e : Entry) (a : AgentId) (row : RowId) (turn : Place) (b : Bool) → is_active (active_rows s h a) row.0 ≡ b → e.kind ≡ Act turn (effect.Unsubscribe row) (yes_where b) → beginner_at (entry_at h turn.0) ≡ a → a.0 < length s.agents →
     subscriptions_of s (e ∷ h) ≡ after_unsubscribe a row (subscriptions_of s h)
 unsubscribe_case s h e a row turn true was is whose known =
     let rows : get_or (subscriptions_of s h).rows a.0 [] ≡ active_rows s h a = rows_here s h e turn (effect.Unsubscribe row) Yes a is whose known in
-    mboxes-rows s h e turn (effect.Unsubscribe row) Yes a is whose known (row_dropped row (active_rows s h a)) refl (λ b f. refl)
+    mboxes-rows s h e turn (effect.Unsubscribe row) Yes a is whose known (λ b r. row_dropped row r) refl (λ b r. refl) (λ b f. refl)
     ∙ rw rows refl
 unsubscribe_case s h e a row turn false was is whose known =
     let rows : get_or (subscriptions_of s h).rows a.0 [] ≡ active_rows s h a = rows_here s h e turn (effect.Unsubscribe row) No a is whose known in
-    mboxes-quiet s h e turn (effect.Unsubscribe row) No a is whose known (λ r. refl) (λ b f. refl)
+    mboxes-quiet s h e turn (effect.Unsubscribe row) No is refl (λ b r. refl) (λ b f. refl)
     ∙ sym (ap (λ r. record (subscriptions_of s h) { rows = slice_set (subscriptions_of s h).rows a.0 r }) (ap (λ r. slice_set r row.0 false) rows ∙ (set-down (active_rows s h a) row.0 was ∙ sym rows))
     ∙ ap (λ r. record (subscriptions_of s h) { rows = r }) (set-get_or (subscriptions_of s h).rows a.0 []))
 
@@ -237,7 +404,7 @@ pub tables-unsubscribe : (s : SceneParts) (room : ℕ) (h : List Entry) (e : Ent
 tables-unsubscribe s room h e a row acts known legal going =
     let answer : acts.answer ≡ yes_where (is_active (active_rows s h a) row.0) = sym (same_Some _ acts.answer acts.answers) in
     let is : e.kind ≡ Act acts.turn (effect.Unsubscribe row) (yes_where (is_active (active_rows s h a) row.0)) = acts.is ∙ ap (Act acts.turn (effect.Unsubscribe row)) answer in
-    acted s room h e a (effect.Unsubscribe row) acts legal going refl refl
+    acted s room h e acts.turn (effect.Unsubscribe row) acts.answer acts.is legal going (own_still s h (effect.Unsubscribe row) acts.answer refl)
     ∙ ap (λ m. with_mboxes m (tables_of s room h)) (unsubscribe_case s h e a row acts.turn (is_active (active_rows s h a) row.0) refl is acts.whose known)
 
 pub tables-set_filter : (s : SceneParts) (room : ℕ) (h : List Entry) (e : Entry) (a : AgentId) (filter : FilterId) → IsActOf s h e a (effect.SetFilter filter) → a.0 < length s.agents → Legal s h → aborted h ≡ false →
@@ -246,20 +413,20 @@ tables-set_filter s room h e a filter acts known legal going =
     let answer : acts.answer ≡ Yes = sym (same_Some _ acts.answer acts.answers) in
     let is : e.kind ≡ Act acts.turn (effect.SetFilter filter) Yes = acts.is ∙ ap (Act acts.turn (effect.SetFilter filter)) answer in
     let filters : get_or (subscriptions_of s h).filters a.0 [] ≡ active_filters s h a = filters_here s h e acts.turn (effect.SetFilter filter) Yes a is acts.whose known in
-    acted s room h e a (effect.SetFilter filter) acts legal going refl refl
+    acted s room h e acts.turn (effect.SetFilter filter) acts.answer acts.is legal going (own_still s h (effect.SetFilter filter) acts.answer refl)
     ∙ ap (λ m. with_mboxes m (tables_of s room h))
-    (mboxes-filters s h e acts.turn (effect.SetFilter filter) Yes a is acts.whose known (filter_set (filters_of s a) filter.0 (active_filters s h a)) refl (λ r. refl)
+    (mboxes-filters s h e acts.turn (effect.SetFilter filter) Yes a is acts.whose known (λ b f. filter_set (filters_of s b) filter.0 f) refl (λ b f. refl) (λ b r. refl)
     ∙ rw filters refl)
 
 drop_case : (s : SceneParts) (h : List Entry) (e : Entry) (a : AgentId) (filter : FilterId) (turn : Place) (b : Bool) → is_active (active_filters s h a) filter.0 ≡ b → e.kind ≡ Act turn (effect.DropFilter filter) (yes_where b) → beginner_at (entry_at h turn.0) ≡ a → a.0 < length s.agents →
     subscriptions_of s (e ∷ h) ≡ after_drop_filter a filter (subscriptions_of s h)
 drop_case s h e a filter turn true was is whose known =
     let filters : get_or (subscriptions_of s h).filters a.0 [] ≡ active_filters s h a = filters_here s h e turn (effect.DropFilter filter) Yes a is whose known in
-    mboxes-filters s h e turn (effect.DropFilter filter) Yes a is whose known (filter_dropped filter.0 (active_filters s h a)) refl (λ r. refl)
+    mboxes-filters s h e turn (effect.DropFilter filter) Yes a is whose known (λ b f. filter_dropped filter.0 f) refl (λ b f. refl) (λ b r. refl)
     ∙ rw filters refl
 drop_case s h e a filter turn false was is whose known =
     let filters : get_or (subscriptions_of s h).filters a.0 [] ≡ active_filters s h a = filters_here s h e turn (effect.DropFilter filter) No a is whose known in
-    mboxes-quiet s h e turn (effect.DropFilter filter) No a is whose known (λ r. refl) (λ b f. refl)
+    mboxes-quiet s h e turn (effect.DropFilter filter) No is refl (λ b r. refl) (λ b f. refl)
     ∙ sym (ap (λ r. record (subscriptions_of s h) { filters = slice_set (subscriptions_of s h).filters a.0 r }) (ap (λ r. slice_set r filter.0 false) filters ∙ (set-down (active_filters s h a) filter.0 was ∙ sym filters))
     ∙ ap (λ r. record (subscriptions_of s h) { filters = r }) (set-get_or (subscriptions_of s h).filters a.0 []))
 
@@ -268,43 +435,88 @@ pub tables-drop_filter : (s : SceneParts) (room : ℕ) (h : List Entry) (e : Ent
 tables-drop_filter s room h e a filter acts known legal going =
     let answer : acts.answer ≡ yes_where (is_active (active_filters s h a) filter.0) = sym (same_Some _ acts.answer acts.answers) in
     let is : e.kind ≡ Act acts.turn (effect.DropFilter filter) (yes_where (is_active (active_filters s h a) filter.0)) = acts.is ∙ ap (Act acts.turn (effect.DropFilter filter)) answer in
-    acted s room h e a (effect.DropFilter filter) acts legal going refl refl
+    acted s room h e acts.turn (effect.DropFilter filter) acts.answer acts.is legal going (own_still s h (effect.DropFilter filter) acts.answer refl)
     ∙ ap (λ m. with_mboxes m (tables_of s room h)) (drop_case s h e a filter acts.turn (is_active (active_filters s h a) filter.0) refl is acts.whose known)
 
-pub tables-asking : (s : SceneParts) (room : ℕ) (h : List Entry) (e : Entry) (a : AgentId) → IsActOf s h e a effect.Stop → a.0 < length s.agents → Legal s h → aborted h ≡ false →
+pub tables-asking : (s : SceneParts) (room : ℕ) (h : List Entry) (e : Entry) (a : AgentId) → IsActOf s h e a effect.Stop → Legal s h → aborted h ≡ false →
     tables_of s room (e ∷ h) ≡ after_asking (tables_of s room h)
-unfolding tried present leaving stop_asked stopped aborted units
-tables-asking s room h e a acts known legal going =
+unfolding some_left stop_asked stopped aborted units
+tables-asking s room h e a acts legal going =
+    let is = acts.is in
     rw (
-      mboxes-quiet s h e acts.turn effect.Stop acts.answer a acts.is acts.whose known (λ r. refl) (λ b f. refl),
-      vars-same s h e (λ c b v. rw acts.is refl),
+      mboxes-quiet s h e acts.turn effect.Stop acts.answer is refl (λ b r. refl) (λ b f. refl),
+      vars-same s h e (λ c b v. rw is refl),
+      coops-still s h e legal (rw is refl) (λ c b. rw is refl) (λ c m. rw is refl) (rw is refl) (λ d. rw is refl) (rw is refl) (λ t. rw is refl),
+      attempts-same s h e (λ c b. rw is refl),
       going,
-      demands-same s h e (rw acts.is refl),
-      waiting-same s h e legal (rw acts.is refl) (λ d. rw acts.is refl),
-      places-same lane_number s h e (lanes s) legal (rw acts.is refl) (λ t. rw acts.is refl),
-      counts-same s (runs_safe s) h e legal (rw acts.is refl) (λ t. rw acts.is refl),
-      counts-same s (is_other s) h e legal (rw acts.is refl) (λ t. rw acts.is refl),
-      rounds-same s h e (λ d. rw acts.is refl),
-      acts.is,
+      demands-same s h e (rw is refl),
+      waiting-same s h e legal (rw is refl) (λ d. rw is refl),
+      places-same lane_number s h e (lanes s) legal (rw is refl) (λ t. rw is refl),
+      counts-same s (runs_safe s) h e legal (rw is refl) (λ t. rw is refl),
+      counts-same s (is_other s) h e legal (rw is refl) (λ t. rw is refl),
+      rounds-same s h e (λ d. rw is refl),
+      is,
     ) refl
+
+-- ---- the other entries
 
 pub tables-abort : (s : SceneParts) (room : ℕ) (h : List Entry) (e : Entry) → (cause : AbortCause) × (e.kind ≡ Abort cause) → Legal s h →
     tables_of s room (e ∷ h) ≡ after_abort (tables_of s room h)
-unfolding tried present leaving stop_asked stopped aborted units
-tables-abort s room h e is legal =
-    rw (mboxes-same s h e (rw is.1 refl) (λ a r. rw is.1 refl) (λ a f. rw is.1 refl), vars-same s h e (λ c a v. rw is.1 refl), demands-same s h e (rw is.1 refl), waiting-same s h e legal (rw is.1 refl) (λ d. rw is.1 refl), places-same lane_number s h e (lanes s) legal (rw is.1 refl) (λ t. rw is.1 refl), counts-same s (runs_safe s) h e legal (rw is.1 refl) (λ t. rw is.1 refl), counts-same s (is_other s) h e legal (rw is.1 refl) (λ t. rw is.1 refl), rounds-same s h e (λ d. rw is.1 refl), is.1) refl
+unfolding some_left stop_asked stopped aborted units
+tables-abort s room h e kind legal =
+    let is = kind.1 in
+    rw (
+      mboxes-same s h e (rw is refl) (λ a r. rw is refl) (λ a f. rw is refl),
+      vars-same s h e (λ c a v. rw is refl),
+      coops-still s h e legal (rw is refl) (λ c b. rw is refl) (λ c m. rw is refl) (rw is refl) (λ d. rw is refl) (rw is refl) (λ t. rw is refl),
+      attempts-same s h e (λ c b. rw is refl),
+      demands-same s h e (rw is refl),
+      waiting-same s h e legal (rw is refl) (λ d. rw is refl),
+      places-same lane_number s h e (lanes s) legal (rw is refl) (λ t. rw is refl),
+      counts-same s (runs_safe s) h e legal (rw is refl) (λ t. rw is refl),
+      counts-same s (is_other s) h e legal (rw is refl) (λ t. rw is refl),
+      rounds-same s h e (λ d. rw is refl),
+      is,
+    ) refl
 
-pub tables-left : (s : SceneParts) (room : ℕ) (h : List Entry) (e : Entry) (coop : CoopId) → e.kind ≡ Left coop → Legal s h → IsScene s → coop ≡ the_coop → aborted h ≡ false →
-    tables_of s room (e ∷ h) ≡ after_left (agents_of s coop) (tables_of s room h)
-unfolding tried present leaving stop_asked stopped aborted units
-tables-left s room h e coop is legal scene one going =
-    rw (mboxes-left s h e coop scene is one, vars-same s h e (λ c a v. rw is refl), going, demands-same s h e (rw is refl), waiting-same s h e legal (rw is refl) (λ d. rw is refl), places-same lane_number s h e (lanes s) legal (rw is refl) (λ t. rw is refl), counts-same s (runs_safe s) h e legal (rw is refl) (λ t. rw is refl), counts-same s (is_other s) h e legal (rw is refl) (λ t. rw is refl), rounds-same s h e (λ d. rw is refl), is) refl
+pub tables-left : (s : SceneParts) (room : ℕ) (h : List Entry) (e : Entry) (coop : CoopId) → e.kind ≡ Left coop → Legal s (e ∷ h) → IsScene s → aborted h ≡ false →
+    tables_of s room (e ∷ h) ≡ after_left s coop (tables_of s room h)
+unfolding some_left stop_asked stopped aborted units
+tables-left s room h e coop is legal scene going =
+    rw (
+      mboxes-left s h e coop scene is,
+      vars-same s h e (λ c a v. rw is refl),
+      coops-left s h e coop scene legal is,
+      attempts-same s h e (λ c b. rw is refl),
+      going,
+      demands-same s h e (rw is refl),
+      waiting-same s h e legal.0 (rw is refl) (λ d. rw is refl),
+      places-same lane_number s h e (lanes s) legal.0 (rw is refl) (λ t. rw is refl),
+      counts-same s (runs_safe s) h e legal.0 (rw is refl) (λ t. rw is refl),
+      counts-same s (is_other s) h e legal.0 (rw is refl) (λ t. rw is refl),
+      rounds-same s h e (λ d. rw is refl),
+      is,
+    ) refl
 
 pub tables-stop : (s : SceneParts) (room : ℕ) (h : List Entry) (e : Entry) → (cause : StopCause) × (e.kind ≡ Stop cause) → Legal s h → aborted h ≡ false →
     tables_of s room (e ∷ h) ≡ after_stop (tables_of s room h)
-unfolding tried present leaving stop_asked stopped aborted units
-tables-stop s room h e is legal going =
-    rw (mboxes-same s h e (rw is.1 refl) (λ a r. rw is.1 refl) (λ a f. rw is.1 refl), vars-same s h e (λ c a v. rw is.1 refl), going, demands-same s h e (rw is.1 refl), waiting-same s h e legal (rw is.1 refl) (λ d. rw is.1 refl), places-same lane_number s h e (lanes s) legal (rw is.1 refl) (λ t. rw is.1 refl), counts-same s (runs_safe s) h e legal (rw is.1 refl) (λ t. rw is.1 refl), counts-same s (is_other s) h e legal (rw is.1 refl) (λ t. rw is.1 refl), rounds-same s h e (λ d. rw is.1 refl), is.1) refl
+unfolding some_left stop_asked stopped aborted units
+tables-stop s room h e kind legal going =
+    let is = kind.1 in
+    rw (
+      mboxes-same s h e (rw is refl) (λ a r. rw is refl) (λ a f. rw is refl),
+      vars-same s h e (λ c a v. rw is refl),
+      coops-still s h e legal (rw is refl) (λ c b. rw is refl) (λ c m. rw is refl) (rw is refl) (λ d. rw is refl) (rw is refl) (λ t. rw is refl),
+      attempts-same s h e (λ c b. rw is refl),
+      going,
+      demands-same s h e (rw is refl),
+      waiting-same s h e legal (rw is refl) (λ d. rw is refl),
+      places-same lane_number s h e (lanes s) legal (rw is refl) (λ t. rw is refl),
+      counts-same s (runs_safe s) h e legal (rw is refl) (λ t. rw is refl),
+      counts-same s (is_other s) h e legal (rw is refl) (λ t. rw is refl),
+      rounds-same s h e (λ d. rw is refl),
+      is,
+    ) refl
 
 -- a Begin where no turn runs
 places-begin : (f : Started → ℕ) (s : SceneParts) (h : List Entry) (e : Entry) (n i : ℕ) (t : Started) → Legal s h → ((x : ℕ) → ends e.kind x ≡ false) → started_by (length h) e.by e.kind ≡ t ∷ [] → t.place ≡ length h → f t ≡ i → i < n → running_at f h i ≡ [] →
@@ -342,26 +554,30 @@ module _ (s : SceneParts) (room : ℕ) (h : List Entry) (e : Entry) (lane : Lane
       rw (demands-same s h e (rw is refl), waiting-taken s h e d.id (rw is refl) (λ x. rw is refl), rounds-taken s h e lane d scene picks takes_it) refl
       ∙ counts-started s h e t (is_safe s d.agent (opening_of s h d)) (after_taking lane d (events_of s room h)) legal (λ x. rw is refl) (rw is refl) known refl
 
-  pub tables-begin : e.kind ≡ Begin lane (Some d.id) (opening_of s h d) d.agent → lane.0 < lanes s → d.agent.0 < length s.agents → aborted h ≡ false →
+  pub tables-begin : Legal s (e ∷ h) → e.kind ≡ Begin lane (Some d.id) (opening_of s h d) d.agent → lane.0 < lanes s → d.agent.0 < length s.agents → aborted h ≡ false →
       tables_of s room (e ∷ h) ≡ after_begin (record { 0 = length h }) lane (is_safe s d.agent (opening_of s h d)) (key_of s d.agent) d (tables_of s room h)
-  unfolding tried present leaving stop_asked stopped aborted units
-  tables-begin is in_range known going =
+  unfolding some_left stop_asked stopped aborted units
+  tables-begin whole is in_range known going =
       let t : Started = record { place = length h; by = e.by; lane = lane; agent = d.agent; opening = opening_of s h d } in
       ap (λ events. record (tables_of s room (e ∷ h)) { events = events }) (begun_events is known)
       ∙ rw (
         mboxes-same s h e (rw is refl) (λ a r. rw is refl) (λ a f. rw is refl),
         vars-same s h e (λ c a v. rw is refl),
+        coops-begun s h e lane d whole is,
+        attempts-same s h e (λ c b. rw is refl),
         going,
         places-begin lane_number s h e (lanes s) lane.0 t legal (λ x. rw is refl) (rw is refl) refl refl in_range (free_lane s h lane d picks),
         is,
       ) refl
 
-  pub tables-skip : (why : SkipWhy) → e.kind ≡ Skip lane d.id why → aborted h ≡ false → tables_of s room (e ∷ h) ≡ after_skip lane d (tables_of s room h)
-  unfolding tried present leaving stop_asked stopped aborted units
-  tables-skip why is going =
+  pub tables-skip : (why : SkipWhy) → Legal s (e ∷ h) → e.kind ≡ Skip lane d.id why → aborted h ≡ false → tables_of s room (e ∷ h) ≡ after_skip lane d (tables_of s room h)
+  unfolding some_left stop_asked stopped aborted units
+  tables-skip why whole is going =
       rw (
         mboxes-same s h e (rw is refl) (λ a r. rw is refl) (λ a f. rw is refl),
         vars-same s h e (λ c a v. rw is refl),
+        coops-skipped s h e lane d why whole is,
+        attempts-same s h e (λ c b. rw is refl),
         going,
         demands-same s h e (rw is refl),
         waiting-taken s h e d.id (rw is refl) (λ x. rw is refl),
@@ -388,14 +604,16 @@ ended_events s room h e place t safe is legal runs known its =
     ∙ counts-ended s h e place t safe (events_of s room h) is legal runs known its
 
 pub tables-end : (s : SceneParts) (room : ℕ) (h : List Entry) (e : Entry) (place : Place) (t : Started) (c : Course) → e.kind ≡ End place → Legal s h → t.lane.0 < lanes s → turn_at h place.0 ≡ Some t →
-    course s h place.0 ≡ Some c → t.agent ≡ c.agent → runs_safe s t ≡ c.safe → c.agent.0 < length s.agents → aborted h ≡ false →
-    tables_of s room (e ∷ h) ≡ after_end t.lane c.safe (key_of s t.agent) c.agent (move_of s c).1.vars (tables_of s room h)
-unfolding tried present leaving stop_asked stopped aborted units
-tables-end s room h e place t c is legal in_range runs has whose safe known going =
+    course s h place.0 ≡ Some c → t.agent ≡ c.agent → runs_safe s t ≡ c.safe → IsScene s → c.agent.0 < length s.agents → aborted h ≡ false →
+    tables_of s room (e ∷ h) ≡ after_end t.lane c.safe (finishes t) (key_of s t.agent) c.agent (move_of s c).1.vars (tables_of s room h)
+unfolding some_left stop_asked stopped aborted units
+tables-end s room h e place t c is legal in_range runs has whose safe scene known going =
     ap (λ events. record (tables_of s room (e ∷ h)) { events = events }) (ended_events s room h e place t c.safe is legal runs (subst (λ (a : AgentId). a.0 < length s.agents) (sym whose) known) safe)
     ∙ rw (
       mboxes-same s h e (rw is refl) (λ a r. rw is refl) (λ a f. rw is refl),
       vars-ended s h e place c is has known,
+      coops-ended s h e place t scene legal is runs (subst (λ (a : AgentId). a.0 < length s.agents) (sym whose) known) c.agent whose,
+      attempts-same s h e (λ c b. rw is refl),
       going,
       places-end lane_number s h e (lanes s) place t (lanes_free s) is legal in_range runs,
       is,

@@ -1,11 +1,12 @@
 -- The variables of one agent more.
-use Rattle.std.proofs.Common.{◌≡◌, ℕ, suc, ◌+◌, ◌<◌, List, [], ◌∷◌, ◌++◌, length, take, set, ap, refl, sym, ◌∙◌, arith}
-use Rattle.std.proofs.lemmas.List.{take_more_set}
+use Rattle.std.proofs.Common.{◌≡◌, ℕ, suc, ◌+◌, List, [], ◌∷◌, ◌++◌, set, ap, refl, sym, ◌∙◌, arith}
+use Rattle.so_ids.specs.declared.AgentId.{AgentId}
 use Rattle.so_ids.specs.declared.Vars.{Vars}
 use Rattle.so_lists.specs.Lists.{each_below}
 use Rattle.so_scene.specs.declared.parts.SceneParts.{SceneParts}
-use Rattle.so_scene.specs.Parts.{vars_of}
-use Rattle.so_kernel.specs.Tables.{first_vars}
+use Rattle.so_scene.specs.Parts.{agents_from, vars_of}
+use Rattle.so_events.proofs.Asking.{agents_from-next}
+use Rattle.so_kernel.specs.Tables.{first_vars, set_back}
 
 add_one : (n : ℕ) → n + 1 ≡ suc n
 add_one n = omega arith
@@ -21,5 +22,17 @@ no_vars s = refl
 pub vars_more : (s : SceneParts) (k : ℕ) → first_vars s (k + 1) ≡ first_vars s k ++ vars_of s (record { 0 = k }) ∷ []
 vars_more s k = each_below-next (λ a. vars_of s (record { 0 = a })) k
 
-pub vars_set : (s : SceneParts) (vs : List Vars) (k : ℕ) → k < length vs → take k vs ≡ first_vars s k → take (k + 1) (set vs k (vars_of s (record { 0 = k }))) ≡ first_vars s (k + 1)
-vars_set s vs k within so_far = take_more_set vs k (vars_of s (record { 0 = k })) within ∙ (ap (λ l. l ++ vars_of s (record { 0 = k }) ∷ []) so_far ∙ sym (vars_more s k))
+-- ---- agents that have those of the scene again
+
+set_back-append : (s : SceneParts) (xs ys : List AgentId) (vs : List Vars) → set_back s (xs ++ ys) vs ≡ set_back s ys (set_back s xs vs)
+set_back-append s [] ys vs = refl
+set_back-append s (x ∷ xs) ys vs = set_back-append s xs ys (set vs x.0 (vars_of s x))
+
+pub set_back_none : (s : SceneParts) (first : AgentId) (vs : List Vars) → vs ≡ set_back s (agents_from first 0) vs
+unfolding each_below
+set_back_none s first vs = refl
+
+pub set_back_next : (s : SceneParts) (first : AgentId) (k : ℕ) (vs now : List Vars) → now ≡ set_back s (agents_from first k) vs → set now (first.0 + k) (vars_of s (record { 0 = first.0 + k })) ≡ set_back s (agents_from first (k + 1)) vs
+set_back_next s first k vs now so_far =
+    ap (λ l. set l (first.0 + k) (vars_of s (record { 0 = first.0 + k }))) so_far
+    ∙ sym (ap (λ xs. set_back s xs vs) (agents_from-next first k) ∙ set_back-append s (agents_from first k) (record { 0 = first.0 + k } ∷ []) vs)

@@ -1,3 +1,4 @@
+pub mod Attempts
 pub mod Shapes
 pub mod States
 pub mod Classes

@@ -1,5 +1,5 @@
 -- In which state each agent is, as the kernel keeps it.
-use Rattle.std.specs.Prelude.{◌≡◌, ℕ, ◌<◌, List, [], ◌∷◌, length, ◌==◌, if◌then◌else◌, slice_index_or, replicate, None, unwrap_or}
+use Rattle.std.specs.Prelude.{◌≡◌, ℕ, ◌<◌, List, [], ◌∷◌, length, ◌==◌, Bool, nat_le, nat_lt, ◌&&◌, if◌then◌else◌, slice_index_or, replicate, None, unwrap_or}
 use Rattle.so_ids.specs.declared.AgentId.{AgentId}
 use Rattle.so_ids.specs.declared.StateId.{StateId}
 use Rattle.so_lists.specs.Lists.{head}
@@ -30,6 +30,13 @@ pub record AllStand (s : SceneParts) (leaves : AgentId → List StateId) (xs : L
 -- no agent has entered any
 abbrev pub none_entered : AgentId → List StateId
 none_entered a = []
+
+-- of these agents, those from one number to before another have entered none
+abbrev pub is_between : ℕ → ℕ → ℕ → Bool
+is_between from to k = nat_le from k && nat_lt k to
+
+abbrev pub with_none : ℕ → ℕ → (AgentId → List StateId) → AgentId → List StateId
+with_none from to leaves a = if is_between from to a.0 then [] else leaves a
 
 -- the first of these agents have entered none
 pub record AreNew (n : ℕ) (xs : List Standing) : Type 0 where

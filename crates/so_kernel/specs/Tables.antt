@@ -1,15 +1,18 @@
 -- The tables of a history, and what each entry makes of them.
-use Rattle.std.specs.Prelude.{ℕ, ◌+◌, ◌<◌, ◌≤◌, ◌^◌, List, [], ◌∷◌, length, Bool, true, false, not, Option, Some, None, is_ok, if◌then◌else◌, slice_set, replicate}
+use Rattle.std.specs.Prelude.{◌≡◌, ℕ, ◌+◌, ◌<◌, ◌≤◌, ◌^◌, List, [], ◌∷◌, length, Bool, true, false, not, Option, Some, None, is_ok, if◌then◌else◌, slice_set, replicate}
 use Rattle.std.specs.List.{filter, AllByRecursion}
 use Rattle.so_ids.specs.declared.AgentId.{AgentId}
+use Rattle.so_ids.specs.declared.CoopId.{CoopId}
 use Rattle.so_ids.specs.declared.KeyId.{KeyId}
 use Rattle.so_ids.specs.declared.LaneId.{LaneId}
 use Rattle.so_ids.specs.declared.Place.{Place}
+use Rattle.so_ids.specs.declared.Reason.TheVariants as reason
 use Rattle.so_ids.specs.declared.RowId.{RowId}
 use Rattle.so_ids.specs.declared.Vars.{Vars}
 use Rattle.so_lists.specs.Lists.{each_below}
 use Rattle.so_scene.specs.declared.parts.SceneParts.{SceneParts}
-use Rattle.so_scene.specs.Parts.{vars_of}
+use Rattle.so_scene.specs.Parts.{agents_of, vars_of}
+use Rattle.so_scene.specs.Cooperations.{coop_number}
 use Rattle.so_scene.specs.Lanes.{lanes, keys}
 use Rattle.so_scene.specs.declared.round.Round.{Round}
 use Rattle.so_history.specs.declared.entry.Entry.{Entry}
@@ -17,14 +20,18 @@ use Rattle.so_history.specs.declared.entry.Demand.{Demand}
 use Rattle.so_history.specs.declared.entry.DemandKind.TheVariants.{Start, Finish}
 use Rattle.so_history.specs.Demands.{Asked, ask_each, demands_from, demands, waiting}
 use Rattle.so_events.specs.Events.{EventTable, no_events, after_demands, after_taking, after_start as turn_started, after_end as turn_ended}
-use Rattle.so_mbox.specs.Table.{Subscriptions, nobody, after_enter, after_leave, after_subscribe}
+use Rattle.so_mbox.specs.Table.{Subscriptions, nobody, after_subscribe, entered, departed}
 use Rattle.so_mbox.specs.Answers.{subscribe_answer}
 use Rattle.so_history.specs.Delivery.{registered, active_rows, active_filters}
 use Rattle.so_history.specs.Turns.{Started, running_at, lane_number, key_number, vars}
 use Rattle.so_history.specs.Heads.{round}
 use Rattle.so_history.specs.Order.{runs_safe}
 use Rattle.so_history.specs.Units.{units}
-use Rattle.so_history.specs.Coops.{tried, present, leaving, stop_asked, stopped, aborted}
+use Rattle.so_history.specs.Coops.{tried, present, leaving, mark, some_left, stop_asked, stopped, aborted}
+use Rattle.so_history.specs.Finishing.{unfinished}
+use Rattle.so_coop.specs.declared.coops.Coop.{Coop}
+use Rattle.so_coop.specs.Coops.{CoopTable, nobody as nobody_registered, after_enter as coop_entered, after_mark, after_leave_begin, after_finished, after_left as coop_left}
+use Rattle.so_kernel.specs.Attempts.{AttemptTable, none_tried, after_attempt}
 use Rattle.so_kernel.specs.declared.tables.Marks.{Marks}
 use Rattle.so_kernel.specs.declared.tables.Tables.{Tables}
 
@@ -64,7 +71,26 @@ events_of s room h = record {
 }
 
 abbrev pub marks_of : List Entry → Marks
-marks_of h = record { tried = tried h; present = present h; leaving = leaving h; asked = stop_asked h; stopped = stopped h; aborted = aborted h }
+marks_of h = record { left = some_left h; asked = stop_asked h; stopped = stopped h; aborted = aborted h }
+
+-- how each cooperation stands
+abbrev pub coop_at : SceneParts → List Entry → ℕ → Coop
+coop_at s h k = record {
+  present = present h (coop_number k);
+  leaving = leaving h (coop_number k);
+  mark = mark h (coop_number k);
+  unfinished = unfinished s h (coop_number k);
+}
+
+abbrev pub coops_of : SceneParts → List Entry → CoopTable
+coops_of s h = record { scene = s; coops = each_below (coop_at s h) (length s.coops) }
+
+-- which cooperations main has tried to register
+abbrev pub tried_at : List Entry → ℕ → Bool
+tried_at h k = tried h (coop_number k)
+
+abbrev pub attempts_of : SceneParts → List Entry → AttemptTable
+attempts_of s h = record { scene = s; tried = each_below (tried_at h) (length s.coops) }
 
 -- the variables of each agent, after a history and at the start
 abbrev pub variables_of : SceneParts → List Entry → List Vars
@@ -99,6 +125,8 @@ tables_of s room h =
       lanes = places lane_number h (lanes s);
       variables = variables_of s h;
       mboxes = subscriptions_of s h;
+      coops = coops_of s h;
+      attempts = attempts_of s h;
       marks = marks_of h;
       units = units s h;
     }
@@ -111,9 +139,17 @@ fresh s room =
       lanes = replicate (lanes s) None;
       variables = initial s;
       mboxes = nobody s;
-      marks = record { tried = false; present = false; leaving = false; asked = false; stopped = false; aborted = false };
+      coops = nobody_registered s;
+      attempts = none_tried s;
+      marks = record { left = false; asked = false; stopped = false; aborted = false };
       units = 0;
     }
+
+-- the tables are for this scene
+pub record AreFor (s : SceneParts) (t : Tables) : Type 0 where
+  pub events : t.events.scene ≡ s
+  pub mboxes : t.mboxes.scene ≡ s
+  pub coops : t.coops.scene ≡ s
 
 -- an entry that queues this many demands fits
 pub record HasRoom (t : Tables) (n : ℕ) : Type 0 where
@@ -132,18 +168,30 @@ queued place asked t =
       units = t.units + (1 + length asked);
     }
 
--- these agents are registered one after the other, or leave so
-abbrev pub entered : List AgentId → Subscriptions → Subscriptions
-entered [] t = t
-entered (a ∷ agents) t = entered agents (after_enter a t)
+-- these agents have the variables of the scene again
+abbrev pub set_back : SceneParts → List AgentId → List Vars → List Vars
+set_back s [] variables = variables
+set_back s (a ∷ agents) variables = set_back s agents (slice_set variables a.0 (vars_of s a))
 
-abbrev pub departed : List AgentId → Subscriptions → Subscriptions
-departed [] t = t
-departed (a ∷ agents) t = departed agents (after_leave a t)
+-- a cooperation is registered
+abbrev pub after_register : SceneParts → ℕ → CoopId → Tables → Tables
+after_register s place coop t =
+    record (queued place (ask_each Start (agents_of s coop)) t) {
+      variables = set_back s (agents_of s coop) t.variables;
+      mboxes = entered (agents_of s coop) t.mboxes;
+      coops = coop_entered coop t.coops;
+    }
 
-abbrev pub after_register : SceneParts → ℕ → List AgentId → Tables → Tables
-after_register s place agents t =
-    record (queued place (ask_each Start agents) t) { variables = initial s; mboxes = entered agents t.mboxes; marks = record t.marks { tried = true; present = true } }
+-- main has tried one
+abbrev pub after_trying : CoopId → Tables → Tables
+after_trying coop t = record t { attempts = after_attempt coop t.attempts }
+
+abbrev pub after_refuse : CoopId → Tables → Tables
+after_refuse coop t = record t { attempts = after_attempt coop t.attempts; units = t.units + 1 }
+
+-- an act marks a cooperation to leave, where it can be marked
+abbrev pub after_marking : CoopId → Tables → Tables
+after_marking coop t = record t { coops = after_mark coop reason.Asked t.coops; units = t.units + 1 }
 
 abbrev pub after_begin : Place → LaneId → Bool → KeyId → Demand → Tables → Tables
 after_begin place lane safe key d t =
@@ -177,20 +225,32 @@ abbrev pub brought_back : Bool → AgentId → Vars → List Vars → List Vars
 brought_back true agent vars variables = variables
 brought_back false agent vars variables = slice_set variables agent.0 vars
 
-abbrev pub after_end : LaneId → Bool → KeyId → AgentId → Vars → Tables → Tables
-after_end lane safe key agent vars t =
+-- a finish turn that has ended is one less to come
+abbrev pub finished_turn : Bool → AgentId → CoopTable → CoopTable
+finished_turn true agent t = after_finished agent t
+finished_turn false agent t = t
+
+abbrev pub after_end : LaneId → Bool → Bool → KeyId → AgentId → Vars → Tables → Tables
+after_end lane safe finishes key agent vars t =
     record t {
       lanes = slice_set t.lanes lane.0 None;
       events = turn_ended safe key t.events;
       variables = brought_back safe agent vars t.variables;
+      coops = finished_turn finishes agent t.coops;
       units = t.units + 1;
     }
 
-abbrev pub after_leaving : ℕ → List AgentId → Tables → Tables
-after_leaving place agents t = record (queued place (ask_each Finish agents) t) { marks = record t.marks { leaving = true } }
+abbrev pub after_leaving : SceneParts → ℕ → CoopId → Tables → Tables
+after_leaving s place coop t = record (queued place (ask_each Finish (agents_of s coop)) t) { coops = after_leave_begin coop t.coops }
 
-abbrev pub after_left : List AgentId → Tables → Tables
-after_left agents t = record t { mboxes = departed agents t.mboxes; marks = record t.marks { present = false; leaving = false }; units = t.units + 1 }
+abbrev pub after_left : SceneParts → CoopId → Tables → Tables
+after_left s coop t =
+    record t {
+      mboxes = departed (agents_of s coop) t.mboxes;
+      coops = coop_left coop t.coops;
+      marks = record t.marks { left = true };
+      units = t.units + 1;
+    }
 
 abbrev pub after_stop : Tables → Tables
 after_stop t = record t { marks = record t.marks { stopped = true }; units = t.units + 1 }

@@ -1,35 +1,66 @@
 //! What a step decides on, read off the tables.
 
-ghost use Rattle.std.specs.Prelude.{◌≡◌, ◌<◌, ◌≤◌, ◌&&◌, IfSome, length};
+ghost use Rattle.std.specs.Prelude.{◌≡◌, ◌<◌, ◌≤◌, Some, IfSome, length};
 ghost use Rattle.so_lists.specs.Lists.{is_empty};
 ghost use Rattle.so_scene.specs.Lanes.{lanes};
 ghost use Rattle.so_history.specs.Delivery.{chosen_for};
 ghost use Rattle.so_history.specs.Demands.{waiting, payload_of, source_of};
+ghost use Rattle.so_history.specs.Finishing.{asks_finish};
 ghost use Rattle.so_history.specs.Turns.{running};
 ghost use Rattle.so_history.specs.Units.{cost};
 ghost use Rattle.so_history.specs.Order.{pick, opening_of, skipped, taking};
-ghost use Rattle.so_history.specs.Steps.{finished, is_over, IsRow, IsSigner};
-ghost use Rattle.so_history.specs.Chain.{by_main, registration, tidying};
-ghost use Rattle.so_kernel.specs.Gates.{begin_by, queued_by_answer};
+ghost use Rattle.so_history.specs.Steps.{left_next, finished, is_over, is_auto, is_idle, may_stop, IsRow, IsSigner};
+ghost use Rattle.so_history.specs.Coops.{roster, next_coop, all_tried, standing};
+ghost use Rattle.so_history.specs.Chain.{by_main, registering, registration, stop_entry, leaving_entry, left_entry, tidying};
+ghost use Rattle.so_scene.specs.Cooperations.{admission, leaving_next};
+ghost use Rattle.so_coop.specs.Coops.{answer_to};
+ghost use Rattle.so_kernel.specs.Gates.{begin_by, queued_by_act, NamesCoop};
 
 use crate::kernel::Kernel;
-use so_code::Answer;
+use so_code::{Answer, Effect};
 use so_history::{Demand, DemandKind, Entry, EntryKind, EventSource, SkipWhy, StopCause};
-use so_ids::{AgentId, Chosen, CoopId, LaneId, MboxId, MsgId, Opening, PartyId, Payload, Reason};
+use so_ids::{
+    AgentId, Chosen, CoopId, LaneId, MboxId, MsgId, Opening, PartyId, Payload, Reason, Refusal,
+};
 use so_state::choose;
 
 impl<'a> Kernel<'a> {
-    /// The registration that main has not tried yet.
+    /// Main's next registration.
     #[tactic(auto, unfolding(so_history::specs::Chain::registration))]
     pub(crate) fn registration(&self) -> Option<Entry>
-        ensures value { result ≡ registration self.now.history }
+        ensures value { result ≡ registration self.now.scene self.now.history }
         ensures row { IfSome result (λ e. IsRow self.now.scene self.now.history e.by e.kind) }
     {
-        if self.tables.marks.tried {
-            None
-        } else {
-            Some(by_main(EntryKind::Register { coop: CoopId(0) }))
+        match self.next_coop() {
+            Some(coop) => Some(by_main(self.registering(coop))),
+            None => None,
         }
+    }
+
+    /// The cooperation that main registers next.
+    fn next_coop(&self) -> Option<CoopId>
+        ensures { result ≡ next_coop self.now.scene self.now.history }
+    {
+        self.tables.attempts.next()
+    }
+
+    /// What main's registration of a cooperation comes to: it is registered, or refused.
+    fn registering(&self, coop: CoopId) -> EntryKind
+        requires { coop.0 < length self.now.scene.coops }
+        ensures { result ≡ registering coop (admission self.now.scene (standing self.now.history) coop) }
+    {
+        match self.admit(coop) {
+            Ok(()) => EntryKind::Register { coop },
+            Err(cause) => EntryKind::Refuse { coop, cause },
+        }
+    }
+
+    /// Whether a cooperation may be registered now, or why not.
+    pub(crate) fn admit(&self, coop: CoopId) -> Result<(), Refusal>
+        requires { coop.0 < length self.now.scene.coops }
+        ensures { result ≡ answer_to (admission self.now.scene (standing self.now.history) coop) }
+    {
+        self.tables.coops.admit(coop, self.tables.marks.stopped)
     }
 
     /// Tells whether nothing follows.
@@ -44,8 +75,14 @@ impl<'a> Kernel<'a> {
     pub(crate) fn is_finished(&self) -> bool
         ensures { result ≡ finished self.now.scene self.now.history }
     {
-        let marks = self.tables.marks;
-        marks.stopped && !marks.present && self.tables.events.is_empty()
+        self.tables.marks.stopped && self.none_present() && self.none_waits()
+    }
+
+    /// Tells whether no cooperation is registered.
+    fn none_present(&self) -> bool
+        ensures { result ≡ is_empty (roster self.now.history) }
+    {
+        self.tables.coops.present() == 0
     }
 
     /// What an entry costs.
@@ -59,46 +96,150 @@ impl<'a> Kernel<'a> {
             EntryKind::Leaving { coop, reason: _ } => 1 + self.scene.coop(coop).count,
             EntryKind::Act {
                 turn: _,
-                effect: _,
+                effect,
                 answer,
-            } => 1 + queued_by(answer),
+            } => 1 + self.queued_by_act(effect, answer),
             _ => 1,
         }
     }
 
+    /// How many demands an act with this answer queues.
+    fn queued_by_act(&self, effect: Effect, answer: Answer) -> u32
+        requires { NamesCoop self.now.scene effect }
+        ensures { result ≡ queued_by_act self.now.scene effect answer }
+    {
+        match answer {
+            Answer::Sent(sent) => sent.queued,
+            Answer::Okay => match effect {
+                Effect::Register { coop } => self.scene.coop(coop).count,
+                _ => 0,
+            },
+            _ => 0,
+        }
+    }
+
     /// What is to be tidied.
-    #[tactic(auto, unfolding(so_history::specs::Chain::tidying, so_history::specs::Coops::has_reason, so_history::specs::Steps::may_leave, so_history::specs::Steps::is_idle))]
+    #[tactic(auto, unfolding(so_history::specs::Chain::tidying))]
     pub(crate) fn tidying(&self) -> Option<Entry>
         ensures value { result ≡ tidying self.now.scene self.now.history }
         ensures row { IfSome result (λ e. IsRow self.now.scene self.now.history e.by e.kind) }
     {
-        let marks = self.tables.marks;
-        let quiet = self.is_quiet();
-        if !marks.stopped && marks.asked {
-            Some(by_main(EntryKind::Stop {
-                cause: StopCause::Asked,
-            }))
-        } else if marks.stopped && marks.present && !marks.leaving {
-            Some(by_main(EntryKind::Leaving {
-                coop: CoopId(0),
-                reason: Reason::Shutdown,
-            }))
-        } else if marks.leaving && quiet {
-            Some(by_main(EntryKind::Left { coop: CoopId(0) }))
-        } else if !marks.stopped && marks.tried && quiet {
-            Some(by_main(EntryKind::Stop {
-                cause: StopCause::Idle,
-            }))
+        if let Some(entry) = self.stop_entry(StopCause::Asked) {
+            return Some(entry);
+        }
+        if let Some(entry) = self.stop_entry(StopCause::Auto) {
+            return Some(entry);
+        }
+        if let Some(entry) = self.leaving_entry() {
+            return Some(entry);
+        }
+        if let Some(entry) = self.left_entry() {
+            return Some(entry);
+        }
+        self.stop_entry(StopCause::Idle)
+    }
+
+    /// The Stop of this cause, if it may be made.
+    fn stop_entry(&self, cause: StopCause) -> Option<Entry>
+        ensures { result ≡ stop_entry self.now.scene self.now.history cause }
+    {
+        if self.may_stop(cause) {
+            Some(by_main(EntryKind::Stop { cause }))
         } else {
             None
         }
     }
 
-    /// Tells whether no demand waits and no turn runs.
-    fn is_quiet(&self) -> bool
-        ensures { result ≡ (is_empty (waiting self.now.scene self.now.history) && is_empty (running self.now.history)) }
+    /// Tells whether the run may stop for this cause.
+    fn may_stop(&self, cause: StopCause) -> bool
+        ensures { result ≡ may_stop self.now.scene self.now.history cause }
     {
-        self.tables.events.is_empty() && self.tables.lanes.all_free()
+        let marks = self.tables.marks;
+        match cause {
+            StopCause::Asked => !marks.stopped && marks.asked,
+            StopCause::Auto => !marks.stopped && !marks.asked && self.is_auto(),
+            StopCause::Idle => {
+                !marks.stopped && !marks.asked && !self.is_auto() && self.is_idle()
+            }
+        }
+    }
+
+    /// The Leaving of the least cooperation that has a reason, if one has.
+    fn leaving_entry(&self) -> Option<Entry>
+        ensures { result ≡ leaving_entry self.now.scene self.now.history }
+    {
+        match self.leaving_next() {
+            Some((coop, reason)) => Some(by_main(EntryKind::Leaving { coop, reason })),
+            None => None,
+        }
+    }
+
+    /// The Left of the least cooperation that may leave, if one may.
+    fn left_entry(&self) -> Option<Entry>
+        ensures { result ≡ left_entry self.now.scene self.now.history }
+    {
+        match self.left_next() {
+            Some(coop) => Some(by_main(EntryKind::Left { coop })),
+            None => None,
+        }
+    }
+
+    /// The least cooperation that has a reason to leave, with it.
+    fn leaving_next(&self) -> Option<(CoopId, Reason)>
+        ensures { result ≡ leaving_next self.now.scene (standing self.now.history) }
+    {
+        self.tables.coops.leaving_next(self.tables.marks.stopped)
+    }
+
+    /// The least cooperation that may leave for good.
+    fn left_next(&self) -> Option<CoopId>
+        ensures { result ≡ left_next self.now.scene self.now.history }
+    {
+        self.tables.coops.left_next()
+    }
+
+    /// Tells whether the scene stops when all its cooperations are gone, and they are.
+    #[tactic(auto, unfolding(so_history::specs::Coops::all_gone))]
+    fn is_auto(&self) -> bool
+        ensures { result ≡ is_auto self.now.scene self.now.history }
+    {
+        self.scene.autoshutdown()
+            && self.all_tried()
+            && self.tables.marks.left
+            && self.none_present()
+    }
+
+    /// Tells whether nothing is left to do.
+    #[tactic(auto, unfolding(so_history::specs::Steps::is_idle))]
+    fn is_idle(&self) -> bool
+        ensures { result ≡ is_idle self.now.scene self.now.history }
+    {
+        self.all_tried()
+            && self.none_waits()
+            && self.none_runs()
+            && self.leaving_next().is_none()
+            && self.left_next().is_none()
+    }
+
+    /// Tells whether main has tried all its registrations.
+    fn all_tried(&self) -> bool
+        ensures { result ≡ all_tried self.now.scene self.now.history }
+    {
+        self.next_coop().is_none()
+    }
+
+    /// Tells whether no demand waits.
+    fn none_waits(&self) -> bool
+        ensures { result ≡ is_empty (waiting self.now.scene self.now.history) }
+    {
+        self.tables.events.is_empty()
+    }
+
+    /// Tells whether no turn runs.
+    fn none_runs(&self) -> bool
+        ensures { result ≡ is_empty (running self.now.history) }
+    {
+        self.tables.lanes.all_free()
     }
 
     /// The demand that a lane may take.
@@ -181,16 +322,6 @@ impl<'a> Kernel<'a> {
     }
 }
 
-/// How many demands an act with this answer queues.
-fn queued_by(answer: Answer) -> u32
-    ensures { result ≡ queued_by_answer answer }
-{
-    match answer {
-        Answer::Sent(sent) => sent.queued,
-        _ => 0,
-    }
-}
-
 /// Why a demand with this opening begins no turn, `None` where it begins one.
 pub(crate) fn skipped(opening: Opening) -> Option<SkipWhy>
     ensures { result ≡ skipped opening }
@@ -216,6 +347,16 @@ pub(crate) fn payload_of(kind: DemandKind) -> Payload
             msg: _,
             payload,
         } => payload,
+    }
+}
+
+/// Tells whether a demand asks its agent to finish.
+pub(crate) fn asks_finish(kind: DemandKind) -> bool
+    ensures { result ≡ asks_finish kind }
+{
+    match kind {
+        DemandKind::Finish => true,
+        _ => false,
     }
 }
 

@@ -4,13 +4,14 @@ ghost use Rattle.std.specs.Prelude.{◌≡◌, ◌<◌, length, Some};
 ghost use Rattle.so_scene.specs.Parts.{rows_of, filters_of, mboxes};
 ghost use Rattle.so_history.specs.Delivery.{active_rows, active_filters, sent};
 ghost use Rattle.so_history.specs.Leaves.{switch_of};
-ghost use Rattle.so_history.specs.Steps.{NamesEffect, answer_of, answer_to_switch, yes_where, may_subscribe, is_active};
+ghost use Rattle.so_scene.specs.Cooperations.{admission};
+ghost use Rattle.so_history.specs.Coops.{may_mark, standing};
+ghost use Rattle.so_history.specs.Steps.{NamesEffect, answer_of, answer_to_register, answer_to_switch, yes_where, may_subscribe, is_active};
 
 use crate::kernel::Kernel;
 use so_code::{Answer, Effect};
-use so_deliver::plan_delivery;
 use so_history::EventSource;
-use so_ids::{AgentId, FilterId, MboxId, MsgId, Payload, RowId, Sent, StateId, Target};
+use so_ids::{AgentId, CoopId, FilterId, MboxId, MsgId, Payload, RowId, Sent, StateId, Target};
 use so_scene::is_twice;
 
 impl<'a> Kernel<'a> {
@@ -38,12 +39,32 @@ impl<'a> Kernel<'a> {
                 payload,
             } => Answer::Sent(self.sent(mbox, msg, payload)),
             Effect::Switch { to } => self.switched(agent, to),
+            Effect::Register { coop } => self.registered(coop),
+            Effect::Deregister { coop } => yes_where(self.may_mark(coop)),
             Effect::Choose => match event {
                 Some(event) => Answer::Chose(self.chosen_for(agent, event.mbox, event.msg)),
                 None => unreachable!(),
             },
             _ => unreachable!(),
         }
+    }
+
+    /// The answer to the registration of a cooperation.
+    fn registered(&self, coop: CoopId) -> Answer
+        requires { coop.0 < length self.now.scene.coops }
+        ensures { result ≡ answer_to_register (admission self.now.scene (standing self.now.history) coop) }
+    {
+        match self.admit(coop) {
+            Ok(()) => Answer::Okay,
+            Err(cause) => Answer::Refused(cause),
+        }
+    }
+
+    /// Tells whether a cooperation can be marked to leave.
+    fn may_mark(&self, coop: CoopId) -> bool
+        ensures { result ≡ may_mark self.now.history coop }
+    {
+        self.tables.coops.may_mark(coop)
     }
 
     /// The answer to a switch of the agent.
@@ -64,17 +85,7 @@ impl<'a> Kernel<'a> {
         ensures value { result ≡ sent self.old.scene self.old.history mbox msg payload }
         ensures same { self.new ≡ self.old }
     {
-        let closed = self.tables.marks.leaving;
-        let target = Target::Mbox(mbox);
-        let planned = plan_delivery(
-            &self.tables.mboxes,
-            closed,
-            target,
-            msg,
-            payload,
-            &mut self.outcomes,
-        );
-        planned.sent()
+        self.tables.plan(mbox, msg, payload, &mut self.outcomes)
     }
 
     /// Tells whether a row of the agent may become active.

@@ -18,7 +18,7 @@ use crate::tables::Tables;
 use so_code::{Effect, FailKind};
 use so_deliver::Outcomes;
 use so_history::{AbortCause, Demand, Entry, EntryKind, History};
-use so_ids::{CoopId, LaneId, NoMemory, PartyId};
+use so_ids::{LaneId, NoMemory, PartyId};
 use so_scene::Scene;
 use std::alloc::Global;
 use std::marker::Model;
@@ -125,22 +125,23 @@ impl<'a> Kernel<'a> {
         }
     }
 
-    /// Main's next registration. Nothing where none is left.
+    /// Main's next registration: a Register or a Refuse. Nothing where none is left.
     pub fn register_next(&mut self) -> Stepped
-        ensures answer { result ≡ stepped (gated self.old (registration self.old.history)) }
-        ensures after { self.new ≡ core_after self.old (gated self.old (registration self.old.history)) }
+        ensures answer { result ≡ stepped (gated self.old (registration self.old.scene self.old.history)) }
+        ensures after { self.new ≡ core_after self.old (gated self.old (registration self.old.scene self.old.history)) }
     {
         let next = self.registration();
         match self.gate(next) {
             Ok(entry) => {
-                self.add_register(entry, CoopId(0));
+                self.add_registration(entry);
                 Stepped::Added
             }
             Err(why) => why.stepped(),
         }
     }
 
-    /// The first of: the run stops since a turn asked for it, the cooperation leaves, it has left, the run stops since nothing is left to do.
+    /// The first of: the run stops since a turn asked for it, it stops since all cooperations are gone, the least cooperation
+    /// with a reason leaves, the least that may leave has left, the run stops since nothing is left to do.
     pub fn tidy(&mut self) -> Stepped
         ensures answer { result ≡ stepped (gated self.old (tidying self.old.scene self.old.history)) }
         ensures after { self.new ≡ core_after self.old (gated self.old (tidying self.old.scene self.old.history)) }

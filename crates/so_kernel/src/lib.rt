@@ -5,6 +5,7 @@
 #![tactic(auto)]
 
 mod answers;
+mod attempts;
 mod classes;
 mod decide;
 mod delivery;
@@ -18,6 +19,7 @@ mod turns;
 mod variables;
 
 pub use answers::{Acted, Begun, Ended, Refused, RunState, Stepped, Turn};
+pub use attempts::Attempts;
 pub use kernel::Kernel;
 pub use slots::Slots;
 pub use states::{Standing, States};

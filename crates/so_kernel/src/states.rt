@@ -1,13 +1,13 @@
 //! In which state each agent is, and what it remembers of the states before.
 
-ghost use Rattle.std.specs.Prelude.{◌≡◌, ◌<◌, [], ◌∷◌, length, List, IfOk, slice_set};
+ghost use Rattle.std.specs.Prelude.{◌≡◌, ◌<◌, ◌≤◌, ◌+◌, ◌^◌, [], ◌∷◌, length, List, IfOk, slice_set};
 ghost use Rattle.so_ids.specs.declared.StateId.{StateId as StateNumber};
 ghost use Rattle.so_ids.specs.declared.AgentId.{AgentId as AgentNumber};
 ghost use Rattle.so_state.specs.declared.states.State.{State as AnyState};
 ghost use Rattle.so_state.specs.Plan.{plan};
 ghost use Rattle.so_scene.specs.declared.parts.SceneParts.{SceneParts as AnyScene};
 ghost use Rattle.so_scene.specs.Parts.{states_of};
-ghost use Rattle.so_kernel.specs.States.{newest, Stands, AllStand, none_entered, with_entered};
+ghost use Rattle.so_kernel.specs.States.{newest, Stands, AllStand, none_entered, with_none, with_entered};
 
 use so_ids::{AgentId, NoMemory, Plan, StateId};
 use so_scene::Scene;
@@ -79,14 +79,15 @@ impl States {
         Ok(States { list })
     }
 
-    /// All have entered none, again.
-    pub fn reset(&mut self, scene: &Scene)
-        requires { length self.old ≡ length scene.now.agents }
-        ensures { AllStand scene.now none_entered self.new }
+    /// The agents from `first` on have entered none, again.
+    pub fn set_back(&mut self, scene: &Scene, first: AgentId, count: u32)
+        requires size { length self.old ≡ length scene.now.agents }
+        requires range { first.0 + count ≤ length scene.now.agents }
+        requires numbers { first.0 + count < 2 ^ 32 }
+        ensures { (leaves : AgentNumber → List StateNumber) → AllStand scene.now leaves self.old → AllStand scene.now (with_none first.0 (first.0 + count) leaves) self.new }
     {
-        let _parts = scene.parts();
-        for agent in 0..scene.agents() {
-            self.set(agent, Standing::new());
+        for k in 0..count {
+            self.set(first.0 + k, Standing::new());
         }
     }
 

@@ -1,36 +1,40 @@
 //! What the steps look up: tables that stand for what the history says. A table knows no history.
 
-ghost use Rattle.std.specs.Prelude.{◌≡◌, ◌<◌, ◌≤◌, ◌+◌, ◌-◌, ◌^◌, [], length, map, true, None, Some, IfOk};
+ghost use Rattle.std.specs.Prelude.{◌≡◌, ◌<◌, ◌≤◌, ◌+◌, ◌-◌, ◌^◌, length, map, true, false, None, Some, IfOk};
 ghost use Rattle.std.specs.List.{All, find};
 ghost use Rattle.so_ids.specs.declared.Queued.{Queued as Event};
 ghost use Rattle.so_scene.specs.Lanes.{lanes, keys};
 ghost use Rattle.so_events.specs.Events.{turns_of, is_beside};
 ghost use Rattle.so_events.specs.Tied.{overlaps};
-ghost use Rattle.so_scene.specs.Parts.{agents_from, rows_of, filters_of};
+ghost use Rattle.so_scene.specs.Parts.{agent_of, agents_from, agents_of, coop_of, mboxes, rows_of, filters_of};
+ghost use Rattle.so_scene.specs.Delivery.{events, sent_of};
+ghost use Rattle.so_deliver.specs.Planned.{outcomes_of, with_queued};
 ghost use Rattle.so_scene.specs.Definition.{filter_fault_of};
 ghost use Rattle.so_scene.specs.Subscriptions.{filter_of};
-ghost use Rattle.so_mbox.specs.Table.{IsAgentOf, after_unsubscribe, after_set_filter, after_drop_filter};
-ghost use Rattle.so_kernel.specs.Tables.{entered, departed};
+ghost use Rattle.so_ids.specs.declared.AgentId.{AgentId as AnyAgent};
+ghost use Rattle.so_mbox.specs.Table.{IsAgentOf, is_entered, after_unsubscribe, after_set_filter, after_drop_filter, entered, departed};
+ghost use Rattle.so_coop.specs.Coops.{standing_at};
 
+use crate::attempts::Attempts;
 use crate::slots::Slots;
 use crate::variables::Variables;
-use so_deliver::Outcomes;
+use so_coop::Coops;
+use so_deliver::{Outcomes, plan_delivery};
 use so_events::Events;
 use so_history::{Demand, DemandKind};
-use so_ids::{AgentId, FilterId, KeyId, LaneId, NoMemory, Place, RowId, Vars};
+use so_ids::{
+    AgentId, CoopId, FilterId, KeyId, LaneId, MboxId, MsgId, NoMemory, Payload, Place, Reason,
+    RowId, Sent, Target, Vars,
+};
 use so_mbox::Table;
 use so_scene::Scene;
 use std::alloc::Global;
 
-/// How the cooperation and the run stand.
+/// How the run stands.
 #[derive(Clone, Copy, Debug, PartialEq, Eq)]
 pub struct Marks {
-    /// Main has tried its registration.
-    pub tried: bool,
-    /// The cooperation is registered.
-    pub present: bool,
-    /// It is leaving.
-    pub leaving: bool,
+    /// A cooperation has left.
+    pub left: bool,
     /// A turn asked for a stop.
     pub asked: bool,
     /// A stop was made.
@@ -46,12 +50,14 @@ pub struct Tables<'a> {
     pub lanes: Slots,
     pub variables: Variables,
     pub mboxes: Table<'a>,
+    pub coops: Coops<'a>,
+    pub attempts: Attempts<'a>,
     pub marks: Marks,
     pub units: u32,
 }
 
 impl<'a> Tables<'a> {
-    ghost use Rattle.so_kernel.specs.Tables.{fresh, queued, with_mboxes, subscribed, after_skip, after_register, after_begin, after_act, after_asking, after_abort, after_end, after_leaving, after_left, after_stop, HasRoom, IsLater};
+    ghost use Rattle.so_kernel.specs.Tables.{fresh, queued, with_mboxes, subscribed, after_skip, after_register, after_trying, after_refuse, after_marking, after_begin, after_act, after_asking, after_abort, after_end, after_leaving, after_left, after_stop, AreFor, HasRoom, IsLater};
     ghost use Rattle.so_history.specs.Demands.{ask, ask_each};
     ghost use Rattle.so_ids.specs.declared.AgentId.{AgentId as AgentNumber};
 
@@ -64,10 +70,10 @@ impl<'a> Tables<'a> {
             lanes: Slots::with(alloc, scene.lanes())?,
             variables: Variables::with(alloc, scene)?,
             mboxes: Table::with(alloc, scene)?,
+            coops: Coops::with(alloc, scene)?,
+            attempts: Attempts::with(alloc, scene)?,
             marks: Marks {
-                tried: false,
-                present: false,
-                leaving: false,
+                left: false,
                 asked: false,
                 stopped: false,
                 aborted: false,
@@ -76,23 +82,51 @@ impl<'a> Tables<'a> {
         })
     }
 
-    /// After the registration of the scene's cooperation, the agents from `first` on.
-    pub fn registered(&mut self, scene: &Scene, place: Place, first: AgentId, count: u32)
-        requires agents { first.0 + count < 2 ^ 32 }
+    /// After the registration of a cooperation.
+    pub fn registered(&mut self, scene: &Scene, place: Place, coop: CoopId)
+        requires coop { coop.0 < length scene.now.coops }
         requires variables { length self.old.variables ≡ length scene.now.agents }
-        requires scene { self.old.mboxes.scene ≡ scene.now }
-        requires range { first.0 + count ≤ length scene.now.agents }
-        requires events { self.old.events.scene ≡ scene.now }
+        requires scene { AreFor scene.now self.old }
         requires later { IsLater place self.old }
-        requires nobody { self.old.mboxes.order ≡ [] }
-        requires room { HasRoom self.old count }
-        ensures { self.new ≡ after_register scene.now place.0 (agents_from first count) self.old }
+        requires absent { (standing_at self.old.coops coop).present ≡ false }
+        requires nobody { All (λ (a : AgentNumber). is_entered self.old.mboxes a ≡ false) (agents_of scene.now coop) }
+        requires room { HasRoom self.old (coop_of scene.now coop).count }
+        ensures { self.new ≡ after_register scene.now place.0 coop self.old }
     {
-        self.ask_each(place, DemandKind::Start, first, count);
-        self.variables.reset(scene);
-        enter_each(&mut self.mboxes, first, count);
-        self.marks.tried = true;
-        self.marks.present = true;
+        let _parts = scene.parts();
+        let def = scene.coop(coop);
+        self.ask_each(place, DemandKind::Start, def.first, def.count);
+        self.variables.set_back(scene, def.first, def.count);
+        enter_each(&mut self.mboxes, def.first, def.count);
+        self.coops.enter(coop);
+    }
+
+    /// After main has tried to register a cooperation.
+    pub fn tried(&mut self, coop: CoopId)
+        requires { coop.0 < length self.old.attempts.scene.coops }
+        ensures { self.new ≡ after_trying coop self.old }
+    {
+        self.attempts.tried(coop);
+    }
+
+    /// After a Refuse.
+    pub fn refused(&mut self, coop: CoopId)
+        requires coop { coop.0 < length self.old.attempts.scene.coops }
+        requires room { HasRoom self.old 0 }
+        ensures { self.new ≡ after_refuse coop self.old }
+    {
+        self.attempts.tried(coop);
+        self.units += 1;
+    }
+
+    /// After an act that marks a cooperation to leave, where it can be marked.
+    pub fn marked(&mut self, coop: CoopId)
+        requires coop { coop.0 < length self.old.coops.scene.coops }
+        requires room { HasRoom self.old 0 }
+        ensures { self.new ≡ after_marking coop self.old }
+    {
+        let _marked = self.coops.mark(coop, Reason::Asked);
+        self.units += 1;
     }
 
     /// After a Begin, of a thread-safe turn or of another.
@@ -129,6 +163,20 @@ impl<'a> Tables<'a> {
         ensures { self.new ≡ after_act self.old }
     {
         self.units += 1;
+    }
+
+    /// Plans the delivery of a message that is sent through a mbox, and says what becomes of it.
+    pub fn plan(&self, mbox: MboxId, msg: MsgId, payload: Payload, outcomes: &mut Outcomes) -> Sent
+        requires scene { self.now.coops.scene ≡ self.now.mboxes.scene }
+        requires mbox { mbox.0 < mboxes self.now.mboxes.scene }
+        requires msg { msg.0 < length self.now.mboxes.scene.messages }
+        requires room { length self.now.mboxes.scene.agents ≤ outcomes.old.room }
+        ensures events { outcomes.new ≡ with_queued (events (outcomes_of self.now.mboxes self.now.coops mbox msg payload)) outcomes.old }
+        ensures answer { result ≡ sent_of (outcomes_of self.now.mboxes self.now.coops mbox msg payload) }
+    {
+        let target = Target::Mbox(mbox);
+        let planned = plan_delivery(&self.mboxes, &self.coops, target, msg, payload, outcomes);
+        planned.sent()
     }
 
     /// After the send of a message whose delivery queues these events.
@@ -212,43 +260,60 @@ impl<'a> Tables<'a> {
     }
 
     /// After the End of an agent's turn that runs on a lane and with a queue, with the variables that it leaves: a
-    /// thread-safe one, or another.
-    pub fn ended(&mut self, lane: LaneId, safe: bool, key: KeyId, agent: AgentId, vars: Vars)
+    /// thread-safe one, or another, with which its agent finishes or doesn't.
+    pub fn ended(
+        &mut self,
+        lane: LaneId,
+        safe: bool,
+        finishes: bool,
+        key: KeyId,
+        agent: AgentId,
+        vars: Vars,
+    )
         requires lane { lane.0 < length self.old.lanes }
         requires key { key.0 < keys self.old.events.scene }
         requires runs { 0 < turns_of safe self.old.events key }
         requires agent { agent.0 < length self.old.variables }
+        requires member { agent.0 < length self.old.coops.scene.agents }
+        requires to_come { finishes ≡ true → 0 < (standing_at self.old.coops (agent_of self.old.coops.scene agent).coop).unfinished }
         requires room { HasRoom self.old 0 }
-        ensures { self.new ≡ after_end lane safe key agent vars self.old }
+        ensures { self.new ≡ after_end lane safe finishes key agent vars self.old }
     {
         self.variables.bring_back(safe, agent, vars);
         self.lanes.end(lane.0);
         self.events.ended(key, safe);
+        if finishes {
+            self.coops.finished(agent);
+        }
         self.units += 1;
     }
 
-    /// After the Leaving of the agents from `first` on.
-    pub fn leaving(&mut self, place: Place, first: AgentId, count: u32)
-        requires agents { first.0 + count < 2 ^ 32 }
-        requires range { first.0 + count ≤ length self.old.events.scene.agents }
+    /// After a Leaving.
+    pub fn leaving(&mut self, scene: &Scene, place: Place, coop: CoopId)
+        requires coop { coop.0 < length scene.now.coops }
+        requires scene { AreFor scene.now self.old }
         requires later { IsLater place self.old }
-        requires room { HasRoom self.old count }
-        ensures { self.new ≡ after_leaving place.0 (agents_from first count) self.old }
+        requires room { HasRoom self.old (coop_of scene.now coop).count }
+        ensures { self.new ≡ after_leaving scene.now place.0 coop self.old }
     {
-        self.ask_each(place, DemandKind::Finish, first, count);
-        self.marks.leaving = true;
+        let _parts = scene.parts();
+        let def = scene.coop(coop);
+        self.ask_each(place, DemandKind::Finish, def.first, def.count);
+        self.coops.leave_begin(coop);
     }
 
-    /// After the Left of the agents from `first` on.
-    pub fn left(&mut self, first: AgentId, count: u32)
-        requires agents { first.0 + count < 2 ^ 32 }
-        requires range { first.0 + count ≤ length self.old.mboxes.scene.agents }
+    /// After a Left.
+    pub fn left(&mut self, scene: &Scene, coop: CoopId)
+        requires coop { coop.0 < length scene.now.coops }
+        requires scene { AreFor scene.now self.old }
         requires room { HasRoom self.old 0 }
-        ensures { self.new ≡ after_left (agents_from first count) self.old }
+        ensures { self.new ≡ after_left scene.now coop self.old }
     {
-        leave_each(&mut self.mboxes, first, count);
-        self.marks.present = false;
-        self.marks.leaving = false;
+        let _parts = scene.parts();
+        let def = scene.coop(coop);
+        leave_each(&mut self.mboxes, def.first, def.count);
+        self.coops.left(coop);
+        self.marks.left = true;
         self.units += 1;
     }
 
@@ -279,7 +344,7 @@ impl<'a> Tables<'a> {
 fn enter_each(mboxes: &mut Table, first: AgentId, count: u32)
     requires range { first.0 + count ≤ length mboxes.old.scene.agents }
     requires numbers { first.0 + count < 2 ^ 32 }
-    requires nobody { mboxes.old.order ≡ [] }
+    requires nobody { All (λ (a : AnyAgent). is_entered mboxes.old a ≡ false) (agents_from first count) }
     ensures { mboxes.new ≡ entered (agents_from first count) mboxes.old }
 {
     for k in 0..count {

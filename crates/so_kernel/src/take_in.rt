@@ -3,7 +3,10 @@
 ghost use Rattle.std.specs.Prelude.{◌≡◌, ◌<◌, length, Option, Some, Ok, true, false};
 ghost use Rattle.so_history.specs.declared.entry.EventSource.{EventSource as AnySource};
 ghost use Rattle.so_ids.specs.declared.Target.TheVariants.{Mbox};
-ghost use Rattle.so_code.specs.declared.effect.Effect.TheVariants.{Send, SetState, Subscribe, Unsubscribe, SetFilter, DropFilter};
+ghost use Rattle.so_ids.specs.declared.Place.{Place as AnyPlace};
+ghost use Rattle.so_ids.specs.declared.Reason.{Reason as AnyReason};
+ghost use Rattle.so_ids.specs.declared.Refusal.{Refusal as AnyRefusal};
+ghost use Rattle.so_code.specs.declared.effect.Effect.TheVariants.{Send, SetState, Subscribe, Unsubscribe, SetFilter, DropFilter, Register, Deregister};
 ghost use Rattle.so_code.specs.declared.effect.Move.TheVariants.{Do, Done};
 ghost use Rattle.so_code.specs.Openings.{begun};
 ghost use Rattle.so_scene.specs.Parts.{rows_of, filters_of, mboxes};
@@ -14,33 +17,54 @@ ghost use Rattle.so_history.specs.Safety.{is_safe};
 ghost use Rattle.so_history.specs.Turns.{vars};
 ghost use Rattle.so_history.specs.Order.{pick, opening_of, taking};
 ghost use Rattle.so_history.specs.Steps.{NamesEffect, answer_of};
-ghost use Rattle.so_history.specs.Chain.{tidying};
+ghost use Rattle.so_history.specs.Chain.{registration, tidying};
 ghost use Rattle.so_kernel.specs.Kept.{IsReady};
-ghost use Rattle.so_kernel.specs.Gates.{core_after, is_skip, IsHeld, HasMoved, IsActOf, IsQuietActOf, act_entry, turn_after};
+ghost use Rattle.so_kernel.specs.Gates.{core_after, is_skip, IsHeld, HasMoved, IsActOf, IsQuietActOf, IsAnsweredBy, act_entry, turn_after};
 
 use crate::answers::Turn;
-use crate::decide::{payload_of, source_of};
+use crate::decide::{asks_finish, payload_of, source_of};
 use crate::kernel::Kernel;
 use so_code::{Answer, Effect, Frame};
-use so_deliver::plan_delivery;
 use so_history::{Demand, Entry, EntryKind};
 use so_ids::{
-    AgentId, CoopId, FilterId, LaneId, MboxId, MsgId, Payload, Place, Reason, RowId, StateId,
-    Target,
+    AgentId, CoopId, FilterId, LaneId, MboxId, MsgId, Payload, Place, RowId, StateId, Target,
 };
 
 impl<'a> Kernel<'a> {
-    /// Takes in a registration.
-    pub(crate) fn add_register(&mut self, entry: Entry, coop: CoopId)
+    /// Takes in main's registration.
+    pub(crate) fn add_registration(&mut self, entry: Entry)
+        requires is { registration self.old.scene self.old.history ≡ Some entry }
+        requires ready { IsReady self.old entry }
+        ensures { self.new ≡ core_after self.old (Ok entry) }
+    {
+        match entry.kind {
+            EntryKind::Register { coop } => self.add_register(entry, coop),
+            EntryKind::Refuse { coop, cause: _ } => self.add_refuse(entry, coop),
+            _ => unreachable!(),
+        }
+    }
+
+    /// Takes in that main registered a cooperation.
+    fn add_register(&mut self, entry: Entry, coop: CoopId)
         requires is { entry.kind ≡ EntryKind.Register coop }
         requires ready { IsReady self.old entry }
         ensures { self.new ≡ core_after self.old (Ok entry) }
     {
         let place = Place(self.history.len());
-        let coop = self.scene.coop(coop);
-        self.tables
-            .registered(self.scene, place, coop.first, coop.count);
-        self.states.reset(self.scene);
+        self.tables.registered(self.scene, place, coop);
+        self.tables.tried(coop);
+        let def = self.scene.coop(coop);
+        self.states.set_back(self.scene, def.first, def.count);
+        self.history.push(entry);
+    }
+
+    /// Takes in that main's registration of a cooperation was refused.
+    fn add_refuse(&mut self, entry: Entry, coop: CoopId)
+        requires is { (cause : AnyRefusal) × (entry.kind ≡ EntryKind.Refuse coop cause) }
+        requires ready { IsReady self.old entry }
+        ensures { self.new ≡ core_after self.old (Ok entry) }
+    {
+        self.tables.refused(coop);
         self.history.push(entry);
     }
 
@@ -67,6 +91,7 @@ impl<'a> Kernel<'a> {
             lane,
             agent: demand.agent,
             safe,
+            finishes: asks_finish(demand.kind),
             event: source_of(demand.kind),
             frame,
         }
@@ -113,15 +138,16 @@ impl<'a> Kernel<'a> {
         ensures after { self.new ≡ core_after self.old (Ok entry) }
     {
         let _scene = self.scene();
-        self.add_effect(entry, turn.agent, effect);
+        self.add_effect(entry, turn.agent, effect, answer);
         turn.frame.answer(answer);
     }
 
     /// Takes in an act by its effect.
-    fn add_effect(&mut self, entry: Entry, agent: AgentId, effect: Effect)
+    fn add_effect(&mut self, entry: Entry, agent: AgentId, effect: Effect, answer: Answer)
         requires agent { agent.0 < length self.old.scene.agents }
         requires named { (event : Option AnySource) × NamesEffect self.old.scene agent event effect }
         requires acts { IsActOf self.old.scene self.old.history entry agent effect }
+        requires answered { IsAnsweredBy entry answer }
         requires ready { IsReady self.old entry }
         ensures { self.new ≡ core_after self.old (Ok entry) }
     {
@@ -139,6 +165,8 @@ impl<'a> Kernel<'a> {
             Effect::Unsubscribe { row } => self.add_unsubscribe(entry, agent, row),
             Effect::SetFilter { filter } => self.add_set_filter(entry, agent, filter),
             Effect::DropFilter { filter } => self.add_drop_filter(entry, agent, filter),
+            Effect::Register { coop } => self.add_registering(entry, agent, coop, answer),
+            Effect::Deregister { coop } => self.add_marking(entry, agent, coop),
             Effect::Stop => self.add_asking(entry, agent),
             _ => unreachable!(),
         }
@@ -177,16 +205,7 @@ impl<'a> Kernel<'a> {
         ensures { self.new ≡ core_after self.old (Ok entry) }
     {
         let place = Place(self.history.len());
-        let closed = self.tables.marks.leaving;
-        let target = Target::Mbox(mbox);
-        let _planned = plan_delivery(
-            &self.tables.mboxes,
-            closed,
-            target,
-            msg,
-            payload,
-            &mut self.outcomes,
-        );
+        let _sent = self.tables.plan(mbox, msg, payload, &mut self.outcomes);
         self.tables.delivered(place, &self.outcomes);
         self.history.push(entry);
     }
@@ -239,6 +258,58 @@ impl<'a> Kernel<'a> {
         self.history.push(entry);
     }
 
+    /// Takes in an act that registers a cooperation, or is refused.
+    fn add_registering(&mut self, entry: Entry, agent: AgentId, coop: CoopId, answer: Answer)
+        requires agent { agent.0 < length self.old.scene.agents }
+        requires coop { coop.0 < length self.old.scene.coops }
+        requires acts { IsActOf self.old.scene self.old.history entry agent (Register coop) }
+        requires answered { IsAnsweredBy entry answer }
+        requires ready { IsReady self.old entry }
+        ensures { self.new ≡ core_after self.old (Ok entry) }
+    {
+        match answer {
+            Answer::Okay => self.add_entered(entry, coop),
+            Answer::Refused(_) => self.add_refused(entry, coop),
+            _ => unreachable!(),
+        }
+    }
+
+    /// Takes in an act that registered a cooperation.
+    fn add_entered(&mut self, entry: Entry, coop: CoopId)
+        requires coop { coop.0 < length self.old.scene.coops }
+        requires is { (turn : AnyPlace) × (entry.kind ≡ EntryKind.Act turn (Register coop) Answer.Okay) }
+        requires ready { IsReady self.old entry }
+        ensures { self.new ≡ core_after self.old (Ok entry) }
+    {
+        let place = Place(self.history.len());
+        self.tables.registered(self.scene, place, coop);
+        let def = self.scene.coop(coop);
+        self.states.set_back(self.scene, def.first, def.count);
+        self.history.push(entry);
+    }
+
+    /// Takes in an act whose registration was refused.
+    fn add_refused(&mut self, entry: Entry, coop: CoopId)
+        requires is { (turn : AnyPlace) × (cause : AnyRefusal) × (entry.kind ≡ EntryKind.Act turn (Register coop) (Answer.Refused cause)) }
+        requires ready { IsReady self.old entry }
+        ensures { self.new ≡ core_after self.old (Ok entry) }
+    {
+        self.tables.acted();
+        self.history.push(entry);
+    }
+
+    /// Takes in an act that marks a cooperation to leave, where it can be marked.
+    fn add_marking(&mut self, entry: Entry, agent: AgentId, coop: CoopId)
+        requires agent { agent.0 < length self.old.scene.agents }
+        requires coop { coop.0 < length self.old.scene.coops }
+        requires acts { IsActOf self.old.scene self.old.history entry agent (Deregister coop) }
+        requires ready { IsReady self.old entry }
+        ensures { self.new ≡ core_after self.old (Ok entry) }
+    {
+        self.tables.marked(coop);
+        self.history.push(entry);
+    }
+
     /// Takes in a stop that a turn asks for.
     fn add_asking(&mut self, entry: Entry, agent: AgentId)
         requires agent { agent.0 < length self.old.scene.agents }
@@ -268,8 +339,9 @@ impl<'a> Kernel<'a> {
         ensures { self.new ≡ core_after self.old (Ok entry) }
     {
         let key = self.scene.key(turn.agent);
+        let vars = turn.frame.vars;
         self.tables
-            .ended(turn.lane, turn.safe, key, turn.agent, turn.frame.vars);
+            .ended(turn.lane, turn.safe, turn.finishes, key, turn.agent, vars);
         self.history.push(entry);
     }
 
@@ -280,7 +352,7 @@ impl<'a> Kernel<'a> {
         ensures { self.new ≡ core_after self.old (Ok entry) }
     {
         match entry.kind {
-            EntryKind::Leaving { coop, reason } => self.add_leaving(entry, coop, reason),
+            EntryKind::Leaving { coop, reason: _ } => self.add_leaving(entry, coop),
             EntryKind::Left { coop } => self.add_left(entry, coop),
             EntryKind::Stop { cause: _ } => self.add_stop(entry),
             _ => unreachable!(),
@@ -288,14 +360,13 @@ impl<'a> Kernel<'a> {
     }
 
     /// Takes in a Leaving.
-    fn add_leaving(&mut self, entry: Entry, coop: CoopId, reason: Reason)
-        requires is { entry.kind ≡ EntryKind.Leaving coop reason }
+    fn add_leaving(&mut self, entry: Entry, coop: CoopId)
+        requires is { (reason : AnyReason) × (entry.kind ≡ EntryKind.Leaving coop reason) }
         requires ready { IsReady self.old entry }
         ensures { self.new ≡ core_after self.old (Ok entry) }
     {
         let place = Place(self.history.len());
-        let coop = self.scene.coop(coop);
-        self.tables.leaving(place, coop.first, coop.count);
+        self.tables.leaving(self.scene, place, coop);
         self.history.push(entry);
     }
 
@@ -305,8 +376,7 @@ impl<'a> Kernel<'a> {
         requires ready { IsReady self.old entry }
         ensures { self.new ≡ core_after self.old (Ok entry) }
     {
-        let coop = self.scene.coop(coop);
-        self.tables.left(coop.first, coop.count);
+        self.tables.left(self.scene, coop);
         self.history.push(entry);
     }
 

@@ -1,7 +1,8 @@
 //! The variables of the agents, as their last turns left them.
 
-ghost use Rattle.std.specs.Prelude.{◌≡◌, ◌<◌, length, IfOk, slice_index_or, slice_set};
-ghost use Rattle.so_kernel.specs.Tables.{initial, brought_back};
+ghost use Rattle.std.specs.Prelude.{◌≡◌, ◌<◌, ◌≤◌, ◌+◌, ◌^◌, length, IfOk, slice_index_or, slice_set};
+ghost use Rattle.so_scene.specs.Parts.{agents_from};
+ghost use Rattle.so_kernel.specs.Tables.{initial, set_back, brought_back};
 ghost use Rattle.so_ids.specs.declared.Vars.{Vars as AnyVars};
 
 use so_ids::{AgentId, NoMemory, Vars};
@@ -39,14 +40,16 @@ impl Variables {
         Ok(Variables { list })
     }
 
-    /// Those with which the agents of the scene begin, again.
-    pub fn reset(&mut self, scene: &Scene)
-        requires { length self.old ≡ length scene.now.agents }
-        ensures { self.new ≡ initial scene.now }
+    /// The agents from `first` on have those of the scene again.
+    pub fn set_back(&mut self, scene: &Scene, first: AgentId, count: u32)
+        requires size { length self.old ≡ length scene.now.agents }
+        requires range { first.0 + count ≤ length scene.now.agents }
+        requires numbers { first.0 + count < 2 ^ 32 }
+        ensures { self.new ≡ set_back scene.now (agents_from first count) self.old }
     {
-        let _parts = scene.parts();
-        for agent in 0..scene.agents() {
-            self.set(AgentId(agent), scene.agent(AgentId(agent)).vars);
+        for k in 0..count {
+            let agent = AgentId(first.0 + k);
+            self.set(agent, scene.agent(agent).vars);
         }
     }
 

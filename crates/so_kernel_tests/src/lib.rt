@@ -2,6 +2,8 @@
 #![tactic(auto)]
 
 #[cfg(test)]
+mod cooperations;
+#[cfg(test)]
 mod priorities;
 #[cfg(test)]
 mod tests;

@@ -2,6 +2,7 @@
 
 use crate::checks::{has_fault, repeated};
 use so_scene_json::read_scene;
+use std::alloc::Global;
 use std::test::Fail;
 
 #[test]
@@ -102,6 +103,27 @@ fn sixty_three_dispatchers_may_be_declared(rt: HostRuntime) -> Result<(), Fail> 
         assert!(rt; has_fault(rt.alloc(), text.as_bytes(), line) == fault);
         assert!(rt; read_scene(rt.alloc(), text.as_bytes()).is_err() == fault);
     }
+    Ok(())
+}
+
+/// A scene with so many cooperations, each without agents.
+fn declared(alloc: Global, count: u32) -> Result<String, Fail> {
+    let mut text = String::new(alloc);
+    text.push_str("{\"version\":1,\"coops\":[{\"name\":\"c\",\"agents\":[]}")?;
+    for k in 1..count {
+        let coop = format!(in alloc; ",{{\"name\":\"c{k}\",\"agents\":[]}}")?;
+        text.push_str(&coop)?;
+    }
+    text.push_str("]}")?;
+    Ok(text)
+}
+
+#[test]
+fn a_thousand_and_twenty_four_cooperations_may_be_declared(rt: HostRuntime) -> Result<(), Fail> {
+    let most = declared(rt.alloc(), 1024)?;
+    assert!(rt; read_scene(rt.alloc(), most.as_bytes()).is_ok());
+    let more = declared(rt.alloc(), 1025)?;
+    assert!(rt; has_fault(rt.alloc(), more.as_bytes(), "out_of_range at /coops"));
     Ok(())
 }
 

@@ -1,12 +1,13 @@
 -- Lists by number, which stand for a function.
 use Rattle.std.proofs.Common.{◌≡◌, ℕ, zero, suc, ◌+◌, List, ◌<◌, ◌≤◌, [], ◌∷◌, ◌++◌, length, arith, refl, sym, ◌∙◌, ap, get_or, inl, inr, add-one}
-use Rattle.std.specs.Prelude.{slice_set, replicate, take}
+use Rattle.std.specs.Prelude.{◌==◌, false, Some, slice_get, slice_set, replicate, take}
+use Rattle.std.proofs.lemmas.Option.{slice_get-get_or}
 use Rattle.std.proofs.lemmas.List.{append_assoc, length-append, set-append_left, get_or_append_left, take_all}
 use Rattle.std.proofs.Math.Seq.{set-append_seam, get_or-append_seam, take-suc}
 use Rattle.std.proofs.lemmas.Grind.{replicate_next}
-use Rattle.std.proofs.lemmas.Bool.{cases_lt}
+use Rattle.std.proofs.lemmas.Bool.{cases_lt, ne_eqb}
 use Rattle.std.specs.List.{AllByRecursion}
-use Rattle.so_lists.specs.Lists.{each_below}
+use Rattle.so_lists.specs.Lists.{is_empty, each_below}
 use Rattle.so_lists.proofs.Filters.{each-append}
 
 pub length-each_below : {X : Type 0} (f : ℕ → X) (n : ℕ) → length (each_below f n) ≡ n
@@ -85,3 +86,21 @@ each_below-take xs d (suc n) l = ap (λ ys. ys ++ get_or xs n d ∷ []) (each_be
 
 pub each_below-elements : {X : Type 0} (xs : List X) (d : X) → each_below (λ k. get_or xs k d) (length xs) ≡ xs
 each_below-elements xs d = each_below-take xs d (length xs) (omega arith) ∙ take_all (length xs) xs (omega arith)
+
+-- of a list by number, the first k, the one at a number, and whether there is none
+pub take-each_below : {X : Type 0} (f : ℕ → X) (n k : ℕ) → k ≤ n → take k (each_below f n) ≡ each_below f k
+take-each_below f n k l =
+    sym (each_below-take (each_below f n) (f 0) k (omega (arith, length-each_below f n)))
+    ∙ each_below-same (λ i. get_or (each_below f n) i (f 0)) f k (λ i m. get_or-each_below f n i (f 0) (omega arith))
+
+pub slice_get-each_below : {X : Type 0} (f : ℕ → X) (n i : ℕ) → i < n → slice_get (each_below f n) i ≡ Some (f i)
+slice_get-each_below f n i l = slice_get-get_or (each_below f n) i (f 0) (omega (arith, length-each_below f n)) ∙ ap (λ x. Some x) (get_or-each_below f n i (f 0) l)
+
+some_last : {X : Type 0} (xs : List X) (x : X) → is_empty (xs ++ x ∷ []) ≡ false
+some_last [] x = refl
+some_last (y ∷ xs) x = refl
+
+pub is_empty-each_below : {X : Type 0} (f : ℕ → X) (n : ℕ) → is_empty (each_below f n) ≡ (n == 0)
+unfolding each_below
+is_empty-each_below f zero = refl
+is_empty-each_below f (suc n) = some_last (each_below f n) (f n) ∙ sym (ne_eqb (suc n) 0 (λ e. omega (arith, e)))

@@ -133,3 +133,25 @@ cons_short (Some y) ys n l = omega (arith, l)
 pub filter_map-short : {X Y : Type 0} (f : X → Option Y) (xs : List X) → length (filter_map f xs) ≤ length xs
 filter_map-short f [] = omega arith
 filter_map-short f (x ∷ xs) = omega (arith, cons_short (f x) (filter_map f xs) (length xs) (filter_map-short f xs))
+
+-- what holds of each that passes
+from_case : {X : Type 0} (P : X → Type 0) (p : X → Bool) (x : X) (xs : List X) (b : Bool) → p x ≡ b → AllByRecursion P (cond b (x ∷ filter p xs) (filter p xs)) → (AllByRecursion P (filter p xs) → AllByRecursion (λ y. p y ≡ true → P y) xs) → AllByRecursion (λ y. p y ≡ true → P y) (x ∷ xs)
+from_case P p x xs true is all rest = ((λ _. all.0), rest all.1)
+from_case P p x xs false is all rest = ((λ on. absurd (false≢true (sym is ∙ on))), rest all)
+
+pub each-from_filter : {X : Type 0} (P : X → Type 0) (p : X → Bool) (xs : List X) → AllByRecursion P (filter p xs) → AllByRecursion (λ x. p x ≡ true → P x) xs
+each-from_filter P p [] all = tt
+each-from_filter P p (x ∷ xs) all = from_case P p x xs (p x) refl all (each-from_filter P p xs)
+
+pub each-to_filter : {X : Type 0} (P : X → Type 0) (p : X → Bool) (xs : List X) → AllByRecursion (λ x. p x ≡ true → P x) xs → AllByRecursion P (filter p xs)
+each-to_filter P p xs all =
+    each-weaker (λ x. (p x ≡ true → P x) × (p x ≡ true)) P (λ x both. both.0 both.1) (filter p xs) (both_each (λ x. p x ≡ true → P x) (λ x. p x ≡ true) (filter p xs) (each-filter (λ x. p x ≡ true → P x) p xs all) (each_passes p xs))
+
+-- where none is left, none passes
+left_case : {X : Type 0} (p : X → Bool) (x : X) (xs : List X) (b : Bool) → p x ≡ b → cond b (x ∷ filter p xs) (filter p xs) ≡ [] → (filter p xs ≡ [] → AllByRecursion (λ y. p y ≡ false) xs) → AllByRecursion (λ y. p y ≡ false) (x ∷ xs)
+left_case p x xs true is none rest = absurd cc
+left_case p x xs false is none rest = (is, rest none)
+
+pub none_left : {X : Type 0} (p : X → Bool) (xs : List X) → filter p xs ≡ [] → AllByRecursion (λ x. p x ≡ false) xs
+none_left p [] none = tt
+none_left p (x ∷ xs) none = left_case p x xs (p x) refl none (none_left p xs)

@@ -41,6 +41,16 @@ first_below-from f (suc n) k x l none e =
       | inr last ↦ (let same : n ≡ k = omega arith in rw (ap (first_below f) same ∙ none, ap f same ∙ e) refl)
     ]
 
+-- what is first stands at some number, and there is none before it
+some_case : {X : Type 0} (f : ℕ → Option X) (n : ℕ) (x : X) (o : Option X) → first_below f n ≡ o → or_else o (f n) ≡ Some x →
+    (first_below f n ≡ Some x → (k : ℕ) × (k < n) × (f k ≡ Some x) × (first_below f k ≡ None)) → (k : ℕ) × (k < suc n) × (f k ≡ Some x) × (first_below f k ≡ None)
+some_case f n x None is e rest = (n, omega arith, e, is)
+some_case f n x (Some y) is e rest = let r = rest (is ∙ e) in (r.0, (let l = r.1 in omega arith), r.2, r.3)
+
+pub some-first_below : {X : Type 0} (f : ℕ → Option X) (n : ℕ) (x : X) → first_below f n ≡ Some x → (k : ℕ) × (k < n) × (f k ≡ Some x) × (first_below f k ≡ None)
+some-first_below f zero x e = absurd cc
+some-first_below f (suc n) x e = some_case f n x (first_below f n) refl e (some-first_below f n x)
+
 pub first_below-some : {X : Type 0} (f : ℕ → Option X) (n k : ℕ) (x : X) → k < n → f k ≡ Some x → ((j : ℕ) → j < k → f j ≡ None) → first_below f n ≡ Some x
 first_below-some f n k x l e before = first_below-from f n k x l (first_below-none f k before) e
 

@@ -1,6 +1,9 @@
 pub mod Any
+pub mod Counts
+pub mod Distinct
 pub mod EachBelow
 pub mod Filters
 pub mod First
 pub mod Found
 pub mod Given
+pub mod Last

@@ -78,6 +78,19 @@ after_enter a t = with_order (t.order ++ a ∷ []) (with_rows a (rows_first (row
 abbrev pub after_leave : AgentId → Subscriptions → Subscriptions
 after_leave a t = with_order (filter (is_other a) t.order) (with_rows a (none_active (rows_of t.scene a)) t)
 
+-- these agents are registered one after the other, or leave so
+abbrev pub entered : List AgentId → Subscriptions → Subscriptions
+entered [] t = t
+entered (a ∷ agents) t = entered agents (after_enter a t)
+
+abbrev pub departed : List AgentId → Subscriptions → Subscriptions
+departed [] t = t
+departed (a ∷ agents) t = departed agents (after_leave a t)
+
+-- the agent is none of these
+abbrev pub is_none_of : List AgentId → AgentId → Bool
+is_none_of agents a = not (list_any (same_agent a) agents)
+
 abbrev pub after_subscribe : AgentId → RowId → Subscriptions → Subscriptions
 after_subscribe a row t = with_rows a (row_set row (active_rows t a)) t
 

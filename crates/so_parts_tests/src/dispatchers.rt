@@ -82,6 +82,31 @@ fn dispatchers_have_their_lanes(rt: HostRuntime) -> Result<(), Fail> {
     Ok(())
 }
 
+/// Fields of a dispatcher, and how many slots it has.
+static SLOTS: [(&str, u32); 4] = [
+    ("", 4096),
+    (",\"slots\":1", 1),
+    (",\"slots\":4095", 4095),
+    (",\"slots\":4096", 4096),
+];
+
+#[test]
+fn dispatchers_have_their_slots(rt: HostRuntime) -> Result<(), Fail> {
+    for (fields, slots) in SLOTS.iter() {
+        let mut disps = String::new(rt.alloc());
+        disps.push_str("[{\"name\":\"p\",\"kind\":\"thread_pool\"")?;
+        disps.push_str(fields)?;
+        disps.push_str("}]")?;
+        let text = with_disps(rt.alloc(), disps.as_str(), "")?;
+        let scene = scene(&rt, rt.alloc(), text.as_str());
+        match scene.parts().dispatchers.as_slice() {
+            [default, pool] => assert!(rt; default.slots == 4096 && pool.slots == *slots),
+            _ => assert!(rt; false),
+        }
+    }
+    Ok(())
+}
+
 /// A dispatcher of each kind and ten agents on them.
 static KINDS: &str =
     "{\"version\":1,\"dispatchers\":[{\"name\":\"one\",\"kind\":\"one_thread\"},{\"name\":\"each\",\"kind\":\"active_obj\"},{\"name\":\"some\",\"kind\":\"active_group\"},{\"name\":\"pool\",\"kind\":\"thread_pool\",\"threads\":3,\"fifo\":\"individual\"},{\"name\":\"more\",\"kind\":\"active_group\"},{\"name\":\"plain\",\"kind\":\"thread_pool\",\"fifo\":\"cooperation\"}],\"coops\":[{\"name\":\"c\",\"agents\":[{\"name\":\"a0\"},{\"name\":\"a1\",\"disp\":\"plain\"},{\"name\":\"a2\",\"disp\":\"some\",\"group\":\"y\"},{\"name\":\"a3\",\"disp\":\"more\",\"group\":\"x\"},{\"name\":\"a4\",\"disp\":\"some\",\"group\":\"x\"},{\"name\":\"a5\",\"disp\":\"each\"},{\"name\":\"a6\",\"disp\":\"some\",\"group\":\"y\"},{\"name\":\"a7\",\"disp\":\"default\"},{\"name\":\"a8\",\"disp\":\"pool\"},{\"name\":\"a9\",\"disp\":\"one\"}]}]}";

@@ -4,6 +4,8 @@
 #[cfg(test)]
 mod acts;
 #[cfg(test)]
+mod coops;
+#[cfg(test)]
 mod dispatchers;
 #[cfg(test)]
 mod helpers;

@@ -1,7 +1,8 @@
 -- What a checked scene keeps.
-use Rattle.std.specs.Prelude.{◌≡◌, ℕ, zero, suc, ◌++◌, replicate, ◌<◌, ◌≤◌, List, [], ◌∷◌, length, map, slice_index_or, bytes_eq, Bool, false, true, if◌then◌else◌, Option, Some, None, is_some}
+use Rattle.std.specs.Prelude.{◌≡◌, ℕ, zero, suc, ◌+◌, ◌++◌, replicate, ◌<◌, ◌≤◌, List, [], ◌∷◌, length, map, slice_index_or, bytes_eq, Bool, false, true, if◌then◌else◌, Option, Some, None, is_some}
 use Rattle.std.specs.List.{All, IsDistinct, filter_map}
 use Rattle.so_ids.specs.declared.AgentId.{AgentId}
+use Rattle.so_ids.specs.declared.CoopId.{CoopId}
 use Rattle.so_ids.specs.declared.DispId.{DispId}
 use Rattle.so_ids.specs.declared.RowId.{RowId}
 use Rattle.so_ids.specs.declared.Target.{Target}
@@ -26,18 +27,18 @@ use Rattle.so_ids.specs.declared.StateId.{StateId}
 use Rattle.so_state.specs.States.{default_state}
 use Rattle.so_scene.specs.declared.parts.AgentDef.{AgentDef}
 use Rattle.so_scene.specs.declared.parts.SceneParts.{SceneParts}
-use Rattle.so_scene.specs.Parts.{message_name, mbox_names, mboxes, agent_of, disp_of, disp_name, groups_of, default_disp}
+use Rattle.so_scene.specs.Parts.{message_name, mbox_names, mboxes, agent_of, coop_of, coop_name, disp_of, disp_name, groups_of, default_disp}
 use Rattle.so_scene.specs.Words.{is_name, is_text}
 use Rattle.so_scene.specs.Written.{is_state_name, HasParent, IsNumber, IsWritten, are_short, AreSafe}
 use Rattle.so_scene.specs.Lanes.{agent_number, bound_to, lanes}
-use Rattle.so_scene.specs.Definition.{definition_fault}
 
--- what an agent's acts may name: so many mboxes, messages, texts and declared states, and its rows and filters, each with its
--- id or without
+-- what an agent's acts may name: so many mboxes, messages, texts, cooperations and declared states, and its rows and filters, each
+-- with its id or without
 pub record Named : Type 0 where
   pub mboxes : ℕ
   pub messages : ℕ
   pub texts : ℕ
+  pub coops : ℕ
   pub states : ℕ
   pub rows : List (Option (List ℕ))
   pub filters : List (Option (List ℕ))
@@ -67,6 +68,8 @@ NamesWithin n (instr.Subscribe row) = HasId n.rows row.0
 NamesWithin n (instr.Unsubscribe row) = HasId n.rows row.0
 NamesWithin n (instr.SetFilter filter) = HasId n.filters filter.0
 NamesWithin n (instr.DropFilter filter) = HasId n.filters filter.0
+NamesWithin n (instr.Register coop) = coop.0 < n.coops
+NamesWithin n (instr.Deregister coop) = coop.0 < n.coops
 NamesWithin n instr.Stop = Unit {0}
 NamesWithin n (instr.End body) = Unit {0}
 NamesWithin n other = ⊥
@@ -86,10 +89,11 @@ has_quotes other = false
 abbrev pub IsQuote : ℕ → Type 0
 IsQuote n = (1 ≤ n) × (n ≤ 1000)
 
--- threads and the parameter of the queues are a pool's, and quotes are given with quoted_round_robin alone; slots aren't built
+-- threads and the parameter of the queues are a pool's, and quotes are given with quoted_round_robin alone
 pub record IsDisp (d : DispDef) : Type 0 where
   pub named : is_name d.name ≡ true
-  pub slots : d.slots ≡ 4096
+  pub some_slots : 1 ≤ d.slots
+  pub few_slots : d.slots ≤ 4096
   pub some_threads : 1 ≤ d.threads
   pub few_threads : d.threads ≤ 64
   pub no_pool : is_pool d.kind ≡ false → (d.threads ≡ 4) × (d.fifo ≡ Cooperation)
@@ -137,16 +141,30 @@ filter_ids a = map filter_id a.filters
 
 -- what the acts of this agent may name
 abbrev pub named_by : SceneParts → AgentDef → Named
-named_by s a = record { mboxes = mboxes s; messages = length s.messages; texts = length s.texts; states = length a.tree; rows = a.row_ids; filters = filter_ids a }
+named_by s a = record { mboxes = mboxes s; messages = length s.messages; texts = length s.texts; coops = length s.coops; states = length a.tree; rows = a.row_ids; filters = filter_ids a }
 
 abbrev pub NamesParts : SceneParts → AgentDef → Instr → Type 0
 NamesParts s a i = NamesWithin (named_by s a) i
 
--- the one cooperation, of all agents
+-- ---- cooperations
+
+-- a named parent is one of so many cooperations
+abbrev pub IsParent : ℕ → Option CoopId → Type 0
+IsParent coops None = Unit {0}
+IsParent coops (Some parent) = parent.0 < coops
+
 pub record IsCoop (s : SceneParts) (c : CoopDef) : Type 0 where
   pub named : is_name c.name ≡ true
-  pub first : c.first.0 ≡ 0
-  pub count : c.count ≡ length s.agents
+  pub parent : IsParent (length s.coops) c.parent
+
+-- the agents of these cooperations follow one another: those of the first begin at `from`, and those of the last end before `to`
+abbrev pub AreConsecutive : ℕ → ℕ → List CoopDef → Type 0
+AreConsecutive from to [] = from ≡ to
+AreConsecutive from to (c ∷ coops) = (c.first.0 ≡ from) × AreConsecutive (from + c.count) to coops
+
+-- the agent of this number is one of the cooperation's
+abbrev pub IsMember : CoopDef → AgentId → Type 0
+IsMember c a = (c.first.0 ≤ a.0) × (a.0 < c.first.0 + c.count)
 
 abbrev pub row_number : ℕ → RowId
 row_number k = record { 0 = k }
@@ -198,11 +216,11 @@ given [] = []
 given (None ∷ ids) = given ids
 given (Some id ∷ ids) = id ∷ given ids
 
--- an agent of the one cooperation: its states are a tree; its rows and filters are for messages of the scene, and no id is given
+-- an agent of a cooperation of the scene: its states are a tree; its rows and filters are for messages of the scene, and no id is given
 -- twice; its code is made of its start, its finish, the bodies of each state and of each row with a handler, and names what is there
 pub record IsAgent (s : SceneParts) (a : AgentDef) : Type 0 where
   pub named : is_name a.name ≡ true
-  pub coop : a.coop.0 ≡ 0
+  pub coop : a.coop.0 < length s.coops
   pub disp : a.disp.0 < length s.dispatchers
   pub group : IsGroup (disp_of s a.disp).kind (length (groups_of s a.disp)) a.group
   pub vars : length a.vars.0 ≡ 16
@@ -229,7 +247,8 @@ pub record IsAgent (s : SceneParts) (a : AgentDef) : Type 0 where
   pub short : are_short 0 a.code ≡ true
   pub safe : AreSafe a.rows a.code
 
--- the parts are those of a scene: no name stands twice in its space, and each agent may be registered
+-- the parts are those of a scene: no name stands twice in its space, and the cooperations have all agents, each those of its own.
+-- A cooperation may be empty, and one that can't be registered may stand there
 pub record IsScene (s : SceneParts) : Type 0 where
   pub few_messages : length s.messages ≤ 256
   pub messages_named : All (λ name. is_name name ≡ true) (map message_name s.messages)
@@ -243,12 +262,13 @@ pub record IsScene (s : SceneParts) : Type 0 where
   pub all_groups : length s.groups ≡ length s.dispatchers
   pub groups : (d : DispId) → d.0 < length s.dispatchers → AreGroups s d
   pub few_lanes : lanes s ≤ 256
-  pub one_coop : length s.coops ≡ 1
+  pub few_coops : length s.coops ≤ 1024
   pub coops : All (IsCoop s) s.coops
-  pub some_agent : 0 < length s.agents
+  pub coop_names : IsDistinct bytes_eq (map coop_name s.coops)
+  pub consecutive : AreConsecutive 0 (length s.agents) s.coops
+  pub members : (a : AgentId) → a.0 < length s.agents → IsMember (coop_of s (agent_of s a).coop) a
   pub few_agents : length s.agents ≤ 4096
   pub agents : All (IsAgent s) s.agents
-  pub admitted : (a : AgentId) → a.0 < length s.agents → definition_fault s a ≡ None
   pub names : IsDistinct bytes_eq (mbox_names s)
   pub few_texts : length s.texts ≤ 4096
   pub texts : All (λ t. is_text t ≡ true) s.texts

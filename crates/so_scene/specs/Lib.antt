@@ -1,4 +1,5 @@
 pub mod Checked
+pub mod Cooperations
 pub mod Definition
 pub mod Delivery
 pub mod Faults

@@ -1,6 +1,6 @@
 -- The parts of a scene by number.
 use Rattle.std.proofs.Common.{zero-le}
-use Rattle.std.specs.Prelude.{ℕ, ◌+◌, pos, List, [], ◌++◌, length, map, replicate, slice_index_or, false, codes, None}
+use Rattle.std.specs.Prelude.{ℕ, ◌+◌, pos, List, [], ◌++◌, length, map, replicate, slice_index_or, true, false, codes, None}
 use Rattle.so_lists.specs.Lists.{each_below}
 use Rattle.so_ids.specs.declared.AgentId.{AgentId}
 use Rattle.so_ids.specs.declared.CoopId.{CoopId}
@@ -37,7 +37,7 @@ abbrev pub agent_of : SceneParts → AgentId → AgentDef
 agent_of s a = slice_index_or s.agents a.0 no_agent
 
 abbrev pub no_coop : CoopDef
-no_coop = record { name = []; first = record { 0 = 0 }; count = 0 }
+no_coop = record { name = []; parent = None; at_start = true; first = record { 0 = 0 }; count = 0 }
 
 abbrev pub coop_of : SceneParts → CoopId → CoopDef
 coop_of s c = slice_index_or s.coops c.0 no_coop
@@ -97,6 +97,9 @@ message_name m = m.name
 
 abbrev pub disp_name : DispDef → List ℕ
 disp_name d = d.name
+
+abbrev pub coop_name : CoopDef → List ℕ
+coop_name c = c.name
 
 abbrev pub agent_name : AgentDef → List ℕ
 agent_name a = a.name

@@ -13,7 +13,7 @@ use so_state::Row;
 
 impl Scene {
     /// The first definition rule that the agent breaks, row by row and then filter by filter. `None` exactly
-    /// where it breaks none, which is so of each agent of a scene that was read.
+    /// where it breaks none. A cooperation with an agent that breaks one is refused.
     pub fn definition_fault(&self, agent: AgentId) -> Option<DefFault>
         requires { agent.0 < length self.now.agents }
         ensures { result ≡ definition_fault self.now agent }

@@ -62,6 +62,10 @@ pub struct DispDef {
 #[derive(Debug, Drop)]
 pub struct CoopDef {
     pub name: Name,
+    /// The cooperation that it is a child of. Without one it is a child of the root.
+    pub parent: Option<CoopId>,
+    /// Whether main registers it when the run begins.
+    pub at_start: bool,
     pub first: AgentId,
     pub count: u32,
 }
@@ -117,4 +121,6 @@ pub struct SceneParts {
     pub coops: Items<CoopDef>,
     pub agents: Items<AgentDef>,
     pub texts: Items<Text>,
+    /// Whether the run stops when the last cooperation has left (SObjectizer's autoshutdown).
+    pub autoshutdown: bool,
 }

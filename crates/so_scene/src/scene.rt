@@ -12,7 +12,7 @@ use so_ids::{AgentId, CoopId, DispId, MboxId, MsgId, NoMemory, Priority, TextId}
 use std::alloc::Global;
 use std::marker::Model;
 
-/// A scene: agents of one cooperation, the mboxes by which they talk, and the texts that they log.
+/// A scene: cooperations of agents, the mboxes by which they talk, and the texts that they log.
 #[derive(Debug, Drop)]
 pub struct Scene {
     parts: SceneParts,
@@ -87,6 +87,13 @@ impl Scene {
         self.parts.coops.len() as u32
     }
 
+    /// Whether the run stops when the last cooperation has left.
+    pub fn autoshutdown(&self) -> bool
+        ensures { result ≡ self.now.autoshutdown }
+    {
+        self.parts.autoshutdown
+    }
+
     /// How many texts there are.
     pub fn texts(&self) -> u32
         ensures { result ≡ length self.now.texts }
@@ -134,10 +141,12 @@ impl Scene {
         &self.parts.messages.as_slice()[msg.0 as usize]
     }
 
-    /// An agent by its number.
+    /// An agent by its number. Its cooperation and its dispatcher are the scene's.
     pub fn agent(&self, agent: AgentId) -> &AgentDef
         requires { agent.0 < length self.now.agents }
         ensures value { result.now ≡ agent_of self.now agent }
+        ensures coop { result.now.coop.0 < length self.now.coops }
+        ensures disp { result.now.disp.0 < length self.now.dispatchers }
         ensures few_rows { length result.now.rows ≤ 128 }
         ensures few_filters { length result.now.filters ≤ 32 }
     {

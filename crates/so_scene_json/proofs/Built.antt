@@ -9,7 +9,7 @@ use Rattle.std.specs.List.{range_with_len, All, AllByRecursion, IsDistinct, list
 use Rattle.serde_json.specs.Data.{Data, Items, no_items, item}
 use Rattle.serde_json.specs.Events.{items_len}
 use Rattle.serde_json.specs.Find.{get, get_item, as_str}
-use Rattle.so_ids.specs.declared.AgentId.{AgentId}
+use Rattle.so_ids.specs.declared.CoopId.{CoopId}
 use Rattle.so_ids.specs.declared.DispId.{DispId}
 use Rattle.so_ids.specs.declared.MboxId.{MboxId}
 use Rattle.so_code.specs.Shape.{agent_bodies}
@@ -17,10 +17,8 @@ use Rattle.so_lists.specs.Lists.{is_empty, head, given_after, AreNumbered}
 use Rattle.so_lists.proofs.EachBelow.{length-each_below, get_or-each_below}
 use Rattle.so_lists.proofs.Filters.{each-append, each-weaker, filter-short, filter_map-short}
 use Rattle.so_lists.proofs.Given.{given-append, given-few}
-use Rattle.so_lists.proofs.First.{none-first_below}
-use Rattle.so_scene.specs.Checked.{IsAgent, IsCoop, IsDisp, IsGroup, AreGroups, IsScene, IsKind, HasNoLimit, has_handler, handlers_from, row_number, given, filter_ids, filter_id, is_pool, has_quotes, IsQuote, text_uses}
-use Rattle.so_scene.specs.Definition.{definition_fault}
-use Rattle.so_scene.specs.Lanes.{AreBound, lanes}
+use Rattle.so_scene.specs.Checked.{IsAgent, IsParent, IsDisp, IsGroup, AreGroups, IsScene, IsKind, HasNoLimit, has_handler, handlers_from, row_number, given, filter_ids, filter_id, is_pool, has_quotes, IsQuote, text_uses}
+use Rattle.so_scene.specs.Lanes.{AreBound, agent_number, lanes}
 use Rattle.so_code.specs.declared.instr.Instr.{Instr}
 use Rattle.so_ids.specs.declared.RowId.{RowId}
 use Rattle.so_ids.specs.declared.StateId.{StateId}
@@ -30,7 +28,7 @@ use Rattle.so_state.specs.declared.states.State.{State}
 use Rattle.so_state.specs.Fault.{tree_fault}
 use Rattle.so_state.specs.States.{default_state}
 use Rattle.so_scene.specs.Names.{has_name, number_in}
-use Rattle.so_scene.specs.Parts.{message_name, agent_name, disp_name, default_disp, no_agent, groups_of as scene_groups}
+use Rattle.so_scene.specs.Parts.{message_name, agent_name, coop_name, disp_name, default_disp, no_agent, groups_of as scene_groups}
 use Rattle.so_scene.specs.Words.{is_name, is_text}
 use Rattle.so_scene.specs.Written.{IsNumber, HasParent, IsWrittenAmong, is_state_name, AreSafe}
 use Rattle.so_scene.proofs.DispLaws.{default_is_disp}
@@ -65,10 +63,10 @@ use Rattle.so_scene_json.specs.Numbers.{HasNumbers, HaveNumbers}
 use Rattle.so_scene_json.specs.Twice.{is_signal, twice_step, disp_number, kinds_in, no_names, names_in, with_name, entering, declared_name, with_mbox_read, with_mboxes, with_field}
 use Rattle.so_scene_json.specs.Known.{known_step, knows, kind_at}
 use Rattle.so_scene_json.specs.Groups.{names_for, names_at, with_group, group_number, group_lists}
-use Rattle.so_scene_json.specs.Defs.{var_at, vars_of, message_of, disp_of, disp_in, threads_in, quote_at, quotes_in, state_named, state_in, state_of, states_of, row_of, rows_of, mbox_in, handler_kind, kind_of, number_named, narrow_or_zero, filter_of, filters_of, field_in}
-use Rattle.so_scene_json.specs.Build.{build_step, no_parts, agent_added, with_message, with_disp, with_coop, is_long, unless_broken, with_tree, with_code, with_agent, agent_with, agent_of, agent_written, fresh, written}
-use Rattle.so_scene_json.specs.Scene.{fields, no_state, exceeds, fault_of, first_fault, is_refused, coops_of, only, parts_of}
-use Rattle.so_scene_json.specs.Kept.{IsBuiltRow, IsBuiltFilter, IsBuiltAgent, AreBuiltGroups, disp_kind, agent_group, is_on, uses_on, texts_of, named_among, IsBuilt, IsChecked}
+use Rattle.so_scene_json.specs.Defs.{var_at, vars_of, message_of, disp_of, disp_in, coop_of, slots_in, threads_in, quote_at, quotes_in, state_named, state_in, state_of, states_of, row_of, rows_of, mbox_in, handler_kind, kind_of, number_named, narrow_or_zero, filter_of, filters_of, field_in}
+use Rattle.so_scene_json.specs.Build.{build_step, no_parts, agent_added, with_message, with_scene, with_disp, with_coop, last_coop, is_long, is_misplaced, unless_broken, with_tree, with_code, with_agent, agent_with, agent_of, agent_written, fresh, written}
+use Rattle.so_scene_json.specs.Scene.{fields, no_state, exceeds, parts_of}
+use Rattle.so_scene_json.specs.Kept.{IsBuiltCoop, IsBuiltRow, IsBuiltFilter, IsBuiltAgent, AreCounted, AreBuiltGroups, disp_kind, agent_group, is_on, uses_on, texts_of, named_among, IsBuilt, IsChecked}
 use Rattle.so_scene_json.proofs.Grouped.{AreNames, NamedIfGiven, few_more, names_more, number_below, numbered_more, group_names_more, no_group_names, no_group_uses}
 use Rattle.so_scene_json.proofs.Codes.{HasFewIds, Grows, IsWritten, allows, names_grow, state_below, one_number, handled, is_short, agent_is_written, agent_grows, agent_numbers, agent_scope, agent_texts, OnOk, read_fine, then_fine, natural_fine}
 use Rattle.so_scene_json.proofs.Ends.{all_of, length_map, length_listed}
@@ -76,7 +74,8 @@ use Rattle.so_scene_json.proofs.Marked.{agent_safe}
 use Rattle.so_scene_json.proofs.Uses.{texts-push, all_texts, all_uses}
 use Rattle.so_scene_json.proofs.Numbers.{get_numbers, item_numbers, list_numbers, number_read, visits_numbers}
 use Rattle.so_scene_json.proofs.Said.{AreMessages, AreSaid, message_signal, agent_said, said_short}
-use Rattle.so_scene_json.proofs.Passed.{ok, ok_same, swapped, HasState, HasRow, HasFilter, HasGroup, HasDisp, IsFineDisp, IsFineAgent, EntersFine, passed_all, scene_fine, total, is_message, is_dispatcher, mboxes_in_field, mboxes_named, few_messages, few_mboxes, few_dispatchers}
+use Rattle.so_scene_json.proofs.Passed.{ok, ok_same, swapped, HasState, HasRow, HasFilter, HasGroup, HasDisp, HasCoop, IsFineDisp, IsFineAgent, EntersFine, passed_all, scene_fine, total, is_message, is_dispatcher, is_coop, mboxes_in_field, mboxes_named, few_messages, few_mboxes, few_dispatchers, few_coops}
+use Rattle.so_scene_json.proofs.Counted.{length_more, names_same, each_counted, member_at, member_there, none_counted, coop_counted, agent_counted}
 
 -- ---- what each step keeps, the whole run keeps
 
@@ -140,6 +139,7 @@ insert_distinct (x ∷ xs) ys name d e =
 
 record AreDistinct (s : Declared) : Type 0 where
   messages : IsDistinct bytes_eq s.messages
+  coops : IsDistinct bytes_eq s.coops
   dispatchers : IsDistinct bytes_eq (codes "default" ∷ s.dispatchers)
   mboxes : IsDistinct bytes_eq (s.agents ++ s.mboxes)
   named : AllByRecursion (λ name. is_name name ≡ true) s.mboxes
@@ -148,6 +148,7 @@ mbox_distinct : (s : Declared) (name : List ℕ) (b : Bool) → is_name name ≡
 mbox_distinct s name true is e k = k
 mbox_distinct s name false is e k = record {
   messages = k.messages;
+  coops = k.coops;
   dispatchers = k.dispatchers;
   mboxes = added_distinct (s.agents ++ (s.mboxes ++ name ∷ [])) (s.agents ++ s.mboxes) name k.mboxes e (sym (append_assoc s.agents s.mboxes (name ∷ [])));
   named = each-append (λ name. is_name name ≡ true) s.mboxes (name ∷ []) k.named (is, tt);
@@ -184,6 +185,7 @@ field_distinct other found s k = k
 -- names that ids leave as they are
 record SameNames (s t : Declared) : Type 0 where
   messages : t.messages ≡ s.messages
+  coops : t.coops ≡ s.coops
   dispatchers : t.dispatchers ≡ s.dispatchers
   kinds : t.kinds ≡ s.kinds
   agents : t.agents ≡ s.agents
@@ -191,32 +193,33 @@ record SameNames (s t : Declared) : Type 0 where
   signals : t.signals ≡ s.signals
 
 same_names : (s t : Declared) → s ≡ t → SameNames s t
-same_names s t e = record { messages = ap (λ (x : Declared). x.messages) (sym e); dispatchers = ap (λ (x : Declared). x.dispatchers) (sym e); kinds = ap (λ (x : Declared). x.kinds) (sym e); agents = ap (λ (x : Declared). x.agents) (sym e); mboxes = ap (λ (x : Declared). x.mboxes) (sym e); signals = ap (λ (x : Declared). x.signals) (sym e) }
+same_names s t e = record { messages = ap (λ (x : Declared). x.messages) (sym e); coops = ap (λ (x : Declared). x.coops) (sym e); dispatchers = ap (λ (x : Declared). x.dispatchers) (sym e); kinds = ap (λ (x : Declared). x.kinds) (sym e); agents = ap (λ (x : Declared). x.agents) (sym e); mboxes = ap (λ (x : Declared). x.mboxes) (sym e); signals = ap (λ (x : Declared). x.signals) (sym e) }
 
 state_names : (place : Place) (o : Option (List ℕ)) (s t : Declared) → declared_name place space.States o s ≡ Ok t → SameNames s t
 state_names place None s t e = same_names s t (ok_same s t e)
 state_names place (Some name) s t e =
     let p = if_ok (has_name s.states name) _ (with_name space.States name s) t e in
     let q = same_names (with_name space.States name s) t p.1 in
-    record { messages = q.messages; dispatchers = q.dispatchers; kinds = q.kinds; agents = q.agents; mboxes = q.mboxes; signals = q.signals }
+    record { messages = q.messages; coops = q.coops; dispatchers = q.dispatchers; kinds = q.kinds; agents = q.agents; mboxes = q.mboxes; signals = q.signals }
 
 row_names : (place : Place) (o : Option (List ℕ)) (s t : Declared) → declared_name place space.Rows o s ≡ Ok t → SameNames s t
 row_names place None s t e = same_names s t (ok_same s t e)
 row_names place (Some name) s t e =
     let p = if_ok (has_name s.rows name) _ (with_name space.Rows name s) t e in
     let q = same_names (with_name space.Rows name s) t p.1 in
-    record { messages = q.messages; dispatchers = q.dispatchers; kinds = q.kinds; agents = q.agents; mboxes = q.mboxes; signals = q.signals }
+    record { messages = q.messages; coops = q.coops; dispatchers = q.dispatchers; kinds = q.kinds; agents = q.agents; mboxes = q.mboxes; signals = q.signals }
 
 filter_names : (place : Place) (o : Option (List ℕ)) (s t : Declared) → declared_name place space.Filters o s ≡ Ok t → SameNames s t
 filter_names place None s t e = same_names s t (ok_same s t e)
 filter_names place (Some name) s t e =
     let p = if_ok (has_name s.filters name) _ (with_name space.Filters name s) t e in
     let q = same_names (with_name space.Filters name s) t p.1 in
-    record { messages = q.messages; dispatchers = q.dispatchers; kinds = q.kinds; agents = q.agents; mboxes = q.mboxes; signals = q.signals }
+    record { messages = q.messages; coops = q.coops; dispatchers = q.dispatchers; kinds = q.kinds; agents = q.agents; mboxes = q.mboxes; signals = q.signals }
 
 distinct_same : (s t : Declared) → SameNames s t → AreDistinct s → AreDistinct t
 distinct_same s t q k = record {
   messages = subst (IsDistinct bytes_eq) (sym q.messages) k.messages;
+  coops = subst (IsDistinct bytes_eq) (sym q.coops) k.coops;
   dispatchers = subst (λ names. IsDistinct bytes_eq (codes "default" ∷ names)) (sym q.dispatchers) k.dispatchers;
   mboxes = subst (λ a. IsDistinct bytes_eq (a ++ t.mboxes)) (sym q.agents) (subst (λ m. IsDistinct bytes_eq (s.agents ++ m)) (sym q.mboxes) k.mboxes);
   named = subst (AllByRecursion (λ name. is_name name ≡ true)) (sym q.mboxes) k.named;
@@ -225,16 +228,16 @@ distinct_same s t q k = record {
 distinct_step : (s t : Declared) (v : Visit) → Unit {0} → AreDistinct s → twice_step s v ≡ Ok t → AreDistinct t
 distinct_step s t (enters object.Message place d) q k e =
     let p = if_ok (has_name s.messages (name_in d)) _ (with_name space.Messages (name_in d) (entering object.Message d s)) t e in
-    subst AreDistinct p.1 (record { messages = added_distinct _ s.messages (name_in d) k.messages p.0 refl; dispatchers = k.dispatchers; mboxes = k.mboxes; named = k.named })
+    subst AreDistinct p.1 (record { messages = added_distinct _ s.messages (name_in d) k.messages p.0 refl; coops = k.coops; dispatchers = k.dispatchers; mboxes = k.mboxes; named = k.named })
 distinct_step s t (enters object.Dispatcher place d) q k e =
     let p = if_ok (has_name (codes "default" ∷ s.dispatchers) (name_in d)) _ (with_name space.Dispatchers (name_in d) (entering object.Dispatcher d s)) t e in
-    subst AreDistinct p.1 (record { messages = k.messages; dispatchers = added_distinct _ (codes "default" ∷ s.dispatchers) (name_in d) k.dispatchers p.0 refl; mboxes = k.mboxes; named = k.named })
+    subst AreDistinct p.1 (record { messages = k.messages; coops = k.coops; dispatchers = added_distinct _ (codes "default" ∷ s.dispatchers) (name_in d) k.dispatchers p.0 refl; mboxes = k.mboxes; named = k.named })
 distinct_step s t (enters object.Coop place d) q k e =
     let p = if_ok (has_name s.coops (name_in d)) _ (with_name space.Coops (name_in d) s) t e in
-    subst AreDistinct p.1 (record { messages = k.messages; dispatchers = k.dispatchers; mboxes = k.mboxes; named = k.named })
+    subst AreDistinct p.1 (record { messages = k.messages; coops = added_distinct _ s.coops (name_in d) k.coops p.0 refl; dispatchers = k.dispatchers; mboxes = k.mboxes; named = k.named })
 distinct_step s t (enters object.Agent place d) q k e =
     let p = if_ok (has_name (s.agents ++ s.mboxes) (name_in d)) _ (with_name space.Mboxes (name_in d) (entering object.Agent d s)) t e in
-    subst AreDistinct p.1 (record { messages = k.messages; dispatchers = k.dispatchers; mboxes = insert_distinct s.agents s.mboxes (name_in d) k.mboxes (absent_any (s.agents ++ s.mboxes) (name_in d) p.0); named = k.named })
+    subst AreDistinct p.1 (record { messages = k.messages; coops = k.coops; dispatchers = k.dispatchers; mboxes = insert_distinct s.agents s.mboxes (name_in d) k.mboxes (absent_any (s.agents ++ s.mboxes) (name_in d) p.0); named = k.named })
 distinct_step s t (enters object.State place d) q k e = distinct_same s t (state_names place (Some (name_in d)) s t e) k
 distinct_step s t (enters object.Row place d) q k e = distinct_same s t (row_names place (id_in d) s t e) k
 distinct_step s t (enters object.Filter place d) q k e = distinct_same s t (filter_names place (id_in d) s t e) k
@@ -246,6 +249,7 @@ distinct_step s t (leaves kind place d) q k e = subst AreDistinct (ok_same s t e
 
 record HaveNames (s : Declared) (b : Build) : Type 0 where
   messages : map message_name b.messages ≡ s.messages
+  coops : map coop_name b.coops ≡ s.coops
   dispatchers : map disp_name b.dispatchers ≡ codes "default" ∷ s.dispatchers
   kinds : map disp_kind b.dispatchers ≡ kinds_in s
   agents : map agent_name b.agents ≡ s.agents
@@ -255,7 +259,7 @@ tree_in : Data → List State
 tree_in d = states_of (scope_of d) (state_items d)
 
 agent_made : Build → Data → AgentDef
-agent_made b d = agent_of (length b.agents) b.names b.groups d (tree_in d) (written b d)
+agent_made b d = agent_of (length b.agents) (last_coop b.coops) b.names b.groups d (tree_in d) (written b d)
 
 agent_after : Build → Data → Build
 agent_after b d = agent_added b d (tree_in d) (written b d)
@@ -263,6 +267,7 @@ agent_after b d = agent_added b d (tree_in d) (written b d)
 -- what is known of an agent that the fourth pass adds
 record IsAdded (d : Data) (s t : Build) : Type 0 where
   short : is_long d ≡ false
+  housed : is_empty s.coops ≡ false
   sound : tree_fault (tree_in d) ≡ None
   few : length (written s d).code ≤ 1024
   same : agent_after s d ≡ t
@@ -271,52 +276,54 @@ code_ok : (b : Bool) (x : SceneFault) (n : ℕ) (s t : Build) → nat_lt 1024 n 
 code_ok true x n s t l e = absurd cc
 code_ok false x n s t l e = (ltb-false 1024 n l, ok_same s t e)
 
-tree_ok : (place : Place) (s t : Build) (d : Data) (o : Option TreeFault) → is_long d ≡ false → tree_fault (tree_in d) ≡ o → (unless_broken place (tree_in d) o >>= λ tree. with_code place s d tree (written s d)) ≡ Ok t → IsAdded d s t
+tree_ok : (place : Place) (s t : Build) (d : Data) (o : Option TreeFault) → is_long d ≡ false → is_empty s.coops ≡ false → tree_fault (tree_in d) ≡ o → (unless_broken place (tree_in d) o >>= λ tree. with_code place s d tree (written s d)) ≡ Ok t → IsAdded d s t
 unfolding agent_after agent_made
-tree_ok place s t d None short f e =
+tree_ok place s t d None short housed f e =
     let p = code_ok (nat_lt 1024 (length (written s d).code)) _ (length (written s d).code) (agent_after s d) t refl e in
-    record { short = short; sound = f; few = p.0; same = p.1 }
-tree_ok place s t d (Some x) short f e = absurd cc
+    record { short = short; housed = housed; sound = f; few = p.0; same = p.1 }
+tree_ok place s t d (Some x) short housed f e = absurd cc
 
-long_ok : (place : Place) (s t : Build) (d : Data) (b : Bool) → is_long d ≡ b → (if b then Err (fault.OutOfRange place) else with_tree place s d) ≡ Ok t → IsAdded d s t
+placed_ok : (place : Place) (s t : Build) (d : Data) (b : Bool) → is_misplaced s d ≡ b → (if b then Err (fault.OutOfRange place) else with_tree place s d) ≡ Ok t → IsAdded d s t
 unfolding tree_in
-long_ok place s t d true l e = absurd cc
-long_ok place s t d false l e = tree_ok place s t d (tree_fault (tree_in d)) l refl e
+placed_ok place s t d true l e = absurd cc
+placed_ok place s t d false l e = let p = or_no (is_long d) (is_empty s.coops) l in tree_ok place s t d (tree_fault (tree_in d)) p.0 p.1 refl e
 
 agent_ok : (place : Place) (s t : Build) (d : Data) → with_agent place s d ≡ Ok t → IsAdded d s t
-agent_ok place s t d e = long_ok place s t d (is_long d) refl e
+agent_ok place s t d e = placed_ok place s t d (is_misplaced s d) refl e
 
 -- mboxes that are named leave agents and messages as they are
 record SameAgents (s t : Declared) : Type 0 where
   messages : t.messages ≡ s.messages
+  coops : t.coops ≡ s.coops
   dispatchers : t.dispatchers ≡ s.dispatchers
   kinds : t.kinds ≡ s.kinds
   agents : t.agents ≡ s.agents
   signals : t.signals ≡ s.signals
 
 mbox_agents : (b : Bool) (s : Declared) (name : List ℕ) → SameAgents s (if b then s else record s { mboxes = s.mboxes ++ name ∷ [] })
-mbox_agents true s name = record { messages = refl; dispatchers = refl; kinds = refl; agents = refl; signals = refl }
-mbox_agents false s name = record { messages = refl; dispatchers = refl; kinds = refl; agents = refl; signals = refl }
+mbox_agents true s name = record { messages = refl; coops = refl; dispatchers = refl; kinds = refl; agents = refl; signals = refl }
+mbox_agents false s name = record { messages = refl; coops = refl; dispatchers = refl; kinds = refl; agents = refl; signals = refl }
 
 read_agents : (r : Result (List ℕ) Trouble) (s : Declared) → SameAgents s (with_mbox_read r s)
 read_agents (Ok name) s = mbox_agents (has_name (names_in space.Mboxes s) name) s name
-read_agents (Err t) s = record { messages = refl; dispatchers = refl; kinds = refl; agents = refl; signals = refl }
+read_agents (Err t) s = record { messages = refl; coops = refl; dispatchers = refl; kinds = refl; agents = refl; signals = refl }
 
 mboxes_agents : (ds : Items) (s : Declared) → SameAgents s (with_mboxes ds s)
 unfolding with_mboxes
-mboxes_agents no_items s = record { messages = refl; dispatchers = refl; kinds = refl; agents = refl; signals = refl }
+mboxes_agents no_items s = record { messages = refl; coops = refl; dispatchers = refl; kinds = refl; agents = refl; signals = refl }
 mboxes_agents (item d ds) s =
     let one = read_agents (name_of d) s in
     let more = mboxes_agents ds (with_mbox_read (name_of d) s) in
-    record { messages = more.messages ∙ one.messages; dispatchers = more.dispatchers ∙ one.dispatchers; kinds = more.kinds ∙ one.kinds; agents = more.agents ∙ one.agents; signals = more.signals ∙ one.signals }
+    record { messages = more.messages ∙ one.messages; coops = more.coops ∙ one.coops; dispatchers = more.dispatchers ∙ one.dispatchers; kinds = more.kinds ∙ one.kinds; agents = more.agents ∙ one.agents; signals = more.signals ∙ one.signals }
 
 field_agents : (f : Form) (found : Option Data) (s : Declared) → SameAgents s (with_field f found s)
 field_agents (form.Mboxes limit) found s = mboxes_agents (list_of found) s
-field_agents other found s = record { messages = refl; dispatchers = refl; kinds = refl; agents = refl; signals = refl }
+field_agents other found s = record { messages = refl; coops = refl; dispatchers = refl; kinds = refl; agents = refl; signals = refl }
 
 have_same : (s t : Declared) (b : Build) → SameAgents s t → HaveNames s b → HaveNames t b
 have_same s t b q k = record {
   messages = k.messages ∙ sym q.messages;
+  coops = k.coops ∙ sym q.coops;
   dispatchers = k.dispatchers ∙ ap (λ (names : List (List ℕ)). codes "default" ∷ names) (sym q.dispatchers);
   kinds = k.kinds ∙ ap (λ (kinds : List DispKind). OneThread ∷ kinds) (sym q.kinds);
   agents = k.agents ∙ sym q.agents;
@@ -324,19 +331,23 @@ have_same s t b q k = record {
 }
 
 agents_same : (s t : Declared) → SameNames s t → SameAgents s t
-agents_same s t q = record { messages = q.messages; dispatchers = q.dispatchers; kinds = q.kinds; agents = q.agents; signals = q.signals }
+agents_same s t q = record { messages = q.messages; coops = q.coops; dispatchers = q.dispatchers; kinds = q.kinds; agents = q.agents; signals = q.signals }
 
 names_step : (s u : Declared) (b c : Build) (v : Visit) → HaveNames s b → twice_step s v ≡ Ok u → build_step b v ≡ Ok c → HaveNames u c
 unfolding agent_after agent_made
+names_step s u b c (enters object.Scene place d) k e f =
+    subst (λ y. HaveNames u y) (ok_same (with_scene d b) c f) (subst (λ x. HaveNames x (with_scene d b)) (ok_same s u e)
+    (record { messages = k.messages; coops = k.coops; dispatchers = k.dispatchers; kinds = k.kinds; agents = k.agents; signals = k.signals }))
 names_step s u b c (enters object.Message place d) k e f =
     let p = if_ok (has_name s.messages (name_in d)) _ (with_name space.Messages (name_in d) (entering object.Message d s)) u e in
     subst (λ y. HaveNames u y) (ok_same (with_message d b) c f) (subst (λ x. HaveNames x (with_message d b)) p.1
-    (record { messages = map_push message_name b.messages (message_of d) ∙ ap (λ l. l ++ name_in d ∷ []) k.messages; dispatchers = k.dispatchers; kinds = k.kinds; agents = k.agents; signals = map_push message_signal b.messages (message_of d) ∙ ap (λ l. l ++ is_signal d ∷ []) k.signals }))
+    (record { messages = map_push message_name b.messages (message_of d) ∙ ap (λ l. l ++ name_in d ∷ []) k.messages; coops = k.coops; dispatchers = k.dispatchers; kinds = k.kinds; agents = k.agents; signals = map_push message_signal b.messages (message_of d) ∙ ap (λ l. l ++ is_signal d ∷ []) k.signals }))
 names_step s u b c (enters object.Dispatcher place d) k e f =
     let p = if_ok (has_name (codes "default" ∷ s.dispatchers) (name_in d)) _ (with_name space.Dispatchers (name_in d) (entering object.Dispatcher d s)) u e in
     subst (λ y. HaveNames u y) (ok_same (with_disp d b) c f) (subst (λ x. HaveNames x (with_disp d b)) p.1
     (record {
       messages = k.messages;
+      coops = k.coops;
       dispatchers = map_push disp_name b.dispatchers (disp_of d) ∙ ap (λ l. l ++ name_in d ∷ []) k.dispatchers;
       kinds = map_push disp_kind b.dispatchers (disp_of d) ∙ ap (λ l. l ++ disp_kind_in d ∷ []) k.kinds;
       agents = k.agents;
@@ -345,12 +356,12 @@ names_step s u b c (enters object.Dispatcher place d) k e f =
 names_step s u b c (enters object.Coop place d) k e f =
     let p = if_ok (has_name s.coops (name_in d)) _ (with_name space.Coops (name_in d) s) u e in
     subst (λ y. HaveNames u y) (ok_same (with_coop d b) c f) (subst (λ x. HaveNames x (with_coop d b)) p.1
-    (record { messages = k.messages; dispatchers = k.dispatchers; kinds = k.kinds; agents = k.agents; signals = k.signals }))
+    (record { messages = k.messages; coops = map_push coop_name b.coops (coop_of (length b.agents) b.names d) ∙ ap (λ l. l ++ name_in d ∷ []) k.coops; dispatchers = k.dispatchers; kinds = k.kinds; agents = k.agents; signals = k.signals }))
 names_step s u b c (enters object.Agent place d) k e f =
     let p = if_ok (has_name (s.agents ++ s.mboxes) (name_in d)) _ (with_name space.Mboxes (name_in d) (entering object.Agent d s)) u e in
     let q = agent_ok place b c d f in
     subst (λ y. HaveNames u y) q.same (subst (λ x. HaveNames x (agent_after b d)) p.1
-    (record { messages = k.messages; dispatchers = k.dispatchers; kinds = k.kinds; agents = map_push agent_name b.agents (agent_made b d) ∙ ap (λ l. l ++ name_in d ∷ []) k.agents; signals = k.signals }))
+    (record { messages = k.messages; coops = names_same b.coops ∙ k.coops; dispatchers = k.dispatchers; kinds = k.kinds; agents = map_push agent_name b.agents (agent_made b d) ∙ ap (λ l. l ++ name_in d ∷ []) k.agents; signals = k.signals }))
 names_step s u b c (enters object.State place d) k e f =
     let q = state_names place (Some (name_in d)) s u e in
     subst (λ y. HaveNames u y) (ok_same b c f) (have_same s u b (agents_same s u q) k)
@@ -390,6 +401,18 @@ own_or_named : (a : ℕ) (names : Declared) (d : Data) (b : Bool) → is_some (g
 unfolding own_mbox
 own_or_named a names d true e l h = mbox_in_range names d (h.mbox e)
 own_or_named a names d false e l h = omega (arith, l, min-le_left a (2 ^ 32 - 1))
+
+parent_id : ℕ → CoopId
+parent_id k = record { 0 = k }
+
+parent_if : (names : Declared) (d : Data) (b : Bool) → is_some (get (codes "parent") d) ≡ b → HasCoop names d → IsParent (length names.coops) (if b then Some (parent_id (number_named names space.Coops (codes "parent") d)) else None)
+unfolding parent_id
+parent_if names d true e h = in_range names.coops (string_in (codes "parent") d) (number_in names.coops (string_in (codes "parent") d)) refl (h.parent e)
+parent_if names d false e h = tt
+
+built_coop : (agents : ℕ) (names : Declared) (d : Data) → HasCoop names d → IsBuiltCoop (length names.coops) (coop_of agents names d)
+unfolding parent_id
+built_coop agents names d h = record { named = h.named; parent = parent_if names d (is_some (get (codes "parent") d)) refl h }
 
 -- ---- states
 
@@ -561,18 +584,17 @@ few_ids names d fine = record {
   filters = omega (arith, length_map id_in (listed (filter_items d)), length_listed (filter_items d), fine.few_filters);
 }
 
-built_with : (a : ℕ) (names : Declared) (messages : List MessageDef) (groups : List Group) (d : Data) (code : List Instr) (texts : ℕ) → AreMessages names messages → HasFewDisps names → a < length names.agents → IsFineAgent names d → is_long d ≡ false → tree_fault (tree_in d) ≡ None → IsWritten names (scope_of d) d code texts → AreSaid messages code → AreSafe (rows_of a names (scope_of d) (row_items d)) code
-    → IsBuiltAgent (length names.agents + length names.mboxes) messages texts (kinds_in names) (with_group (disp_in names d) (group_in d) groups) (agent_with a names groups d (tree_in d) (scope_of d) code)
+built_with : (a : ℕ) (coop : CoopId) (names : Declared) (messages : List MessageDef) (groups : List Group) (d : Data) (code : List Instr) (texts : ℕ) → AreMessages names messages → HasFewDisps names → a < length names.agents → IsFineAgent names d → is_long d ≡ false → tree_fault (tree_in d) ≡ None → IsWritten names (scope_of d) d code texts → AreSaid messages code → AreSafe (rows_of a names (scope_of d) (row_items d)) code
+    → IsBuiltAgent (length names.agents + length names.mboxes) messages texts (length names.coops) (kinds_in names) (with_group (disp_in names d) (group_in d) groups) (agent_with a coop names groups d (tree_in d) (scope_of d) code)
 unfolding tree_in
-built_with a names messages groups d code texts known disps below fine long sound wrote said safe =
+built_with a coop names messages groups d code texts known disps below fine long sound wrote said safe =
     let short = is_short d long in
     let filters : map filter_id (filters_of names (filter_items d)) ≡ ids_of (filter_items d) = ids_of_filters names (listed (filter_items d)) in
     let count : length (rows_of a names (scope_of d) (row_items d)) ≡ items_len (row_items d) = omega (arith, length_map (row_of a names (scope_of d)) (listed (row_items d)), length_listed (row_items d)) in
     let states : length (scope_of d).states ≡ length (states_of (scope_of d) (state_items d)) = length_states d ∙ sym (length_tree d) in
-    let grows : Grows (allows names (scope_of d) texts) (named_among (length names.agents + length names.mboxes) (length messages) texts (length (states_of (scope_of d) (state_items d))) (ids_of (row_items d)) (map filter_id (filters_of names (filter_items d)))) = record { mboxes = omega arith; messages = known.count; texts = omega arith; states = sym states; rows = refl; filters = filters } in
+    let grows : Grows (allows names (scope_of d) texts) (named_among (length names.agents + length names.mboxes) (length messages) texts (length names.coops) (length (states_of (scope_of d) (state_items d))) (ids_of (row_items d)) (map filter_id (filters_of names (filter_items d)))) = record { mboxes = omega arith; messages = known.count; texts = omega arith; coops = refl; states = sym states; rows = refl; filters = filters } in
     record {
       named = fine.named;
-      coop = refl;
       disp = disp_there names d fine.on disps;
       group = group_there names d groups fine.on disps;
       vars = refl;
@@ -602,17 +624,16 @@ built_with a names messages groups d code texts known disps below fine long soun
       safe = safe;
     }
 
-built_agent : (a : ℕ) (names : Declared) (messages : List MessageDef) (groups : List Group) (texts : List (List ℕ)) (d : Data) → AreMessages names messages → HasFewDisps names → a < length names.agents → IsFineAgent names d → is_long d ≡ false → tree_fault (tree_in d) ≡ None → length (agent_written names (fresh texts d) d).code ≤ 1024
-    → IsBuiltAgent (length names.agents + length names.mboxes) messages (length (agent_written names (fresh texts d) d).texts) (kinds_in names) (with_group (disp_in names d) (group_in d) groups) (agent_of a names groups d (tree_in d) (agent_written names (fresh texts d) d))
-built_agent a names messages groups texts d known disps below fine long sound l =
-    subst (λ x. IsBuiltAgent (length names.agents + length names.mboxes) messages (length (agent_written names (fresh texts d) d).texts) (kinds_in names) (with_group (disp_in names d) (group_in d) groups) (agent_with a names groups d (tree_in d) x (agent_written names (fresh texts d) d).code)) (sym (agent_scope names (fresh texts d) d))
-    (built_with a names messages groups d _ _ known disps below fine long sound (agent_is_written names (fresh texts d) d (is_short d long) refl l) (agent_said names messages known (fresh texts d) d fine refl)
+built_agent : (a : ℕ) (coop : CoopId) (names : Declared) (messages : List MessageDef) (groups : List Group) (texts : List (List ℕ)) (d : Data) → AreMessages names messages → HasFewDisps names → a < length names.agents → IsFineAgent names d → is_long d ≡ false → tree_fault (tree_in d) ≡ None → length (agent_written names (fresh texts d) d).code ≤ 1024
+    → IsBuiltAgent (length names.agents + length names.mboxes) messages (length (agent_written names (fresh texts d) d).texts) (length names.coops) (kinds_in names) (with_group (disp_in names d) (group_in d) groups) (agent_of a coop names groups d (tree_in d) (agent_written names (fresh texts d) d))
+built_agent a coop names messages groups texts d known disps below fine long sound l =
+    subst (λ x. IsBuiltAgent (length names.agents + length names.mboxes) messages (length (agent_written names (fresh texts d) d).texts) (length names.coops) (kinds_in names) (with_group (disp_in names d) (group_in d) groups) (agent_with a coop names groups d (tree_in d) x (agent_written names (fresh texts d) d).code)) (sym (agent_scope names (fresh texts d) d))
+    (built_with a coop names messages groups d _ _ known disps below fine long sound (agent_is_written names (fresh texts d) d (is_short d long) refl l) (agent_said names messages known (fresh texts d) d fine refl)
     (agent_safe names (row_of a names (scope_of d)) (fresh texts d) d (λ row. refl) fine.few_rows refl))
 
-grown : (mboxes : ℕ) (messages : List MessageDef) (t u : ℕ) (kinds : List DispKind) (groups : List Group) (e : DispId) (o : Option (List ℕ)) (a : AgentDef) → t ≤ u → IsBuiltAgent mboxes messages t kinds groups a → IsBuiltAgent mboxes messages u kinds (with_group e o groups) a
-grown mboxes messages t u kinds groups e o a l h = record {
+grown : (mboxes : ℕ) (messages : List MessageDef) (t u coops : ℕ) (kinds : List DispKind) (groups : List Group) (e : DispId) (o : Option (List ℕ)) (a : AgentDef) → t ≤ u → IsBuiltAgent mboxes messages t coops kinds groups a → IsBuiltAgent mboxes messages u coops kinds (with_group e o groups) a
+grown mboxes messages t u coops kinds groups e o a l h = record {
   named = h.named;
-  coop = h.coop;
   disp = h.disp;
   group = group_grows (slice_index_or kinds a.disp.0 OneThread) (length (names_for a.disp groups)) (length (names_for a.disp (with_group e o groups))) a.group (names_more a.disp e o groups) h.group;
   vars = h.vars;
@@ -634,7 +655,7 @@ grown mboxes messages t u kinds groups e o a l h = record {
   each_filter_id_once = h.each_filter_id_once;
   code = h.code;
   bodies = h.bodies;
-  parts = λ i d k. names_grow (named_among mboxes (length messages) t (length a.tree) a.row_ids (filter_ids a)) (named_among mboxes (length messages) u (length a.tree) a.row_ids (filter_ids a)) (get_or a.code i d) (record { mboxes = omega arith; messages = refl; texts = l; states = refl; rows = refl; filters = refl }) (h.parts i d k);
+  parts = λ i d k. names_grow (named_among mboxes (length messages) t coops (length a.tree) a.row_ids (filter_ids a)) (named_among mboxes (length messages) u coops (length a.tree) a.row_ids (filter_ids a)) (get_or a.code i d) (record { mboxes = omega arith; messages = refl; texts = l; coops = refl; states = refl; rows = refl; filters = refl }) (h.parts i d k);
   written = h.written;
   short = h.short;
   safe = h.safe;
@@ -644,7 +665,7 @@ grown mboxes messages t u kinds groups e o a l h = record {
 
 -- while there are no more agents than were declared, each is among all mboxes
 abbrev AreAgents : Declared → List MessageDef → Build → Type 0
-AreAgents names messages s = AllByRecursion (IsBuiltAgent (length names.agents + length names.mboxes) messages (length s.texts) (kinds_in names) s.groups) s.agents
+AreAgents names messages s = AllByRecursion (IsBuiltAgent (length names.agents + length names.mboxes) messages (length s.texts) (length names.coops) (kinds_in names) s.groups) s.agents
 
 -- the agents, and the groups and texts in the order in which agents name them
 record AreKept (names : Declared) (messages : List MessageDef) (s : Build) : Type 0 where
@@ -660,11 +681,11 @@ agents_kept : (names : Declared) (messages : List MessageDef) (s t : Build) (d :
 unfolding agent_after agent_made
 agents_kept names messages s t d known disps fine k q few =
     let one_less : length s.agents < length names.agents = omega (arith, few, length-append s.agents (agent_made s d ∷ [])) in
-    let new : IsBuiltAgent (length names.agents + length names.mboxes) messages (length (written s d).texts) (kinds_in names) (with_group (disp_in s.names d) (group_in d) s.groups) (agent_made s d) =
-    subst (λ n. IsBuiltAgent (length names.agents + length names.mboxes) messages (length (agent_written n (fresh s.texts d) d).texts) (kinds_in names) (with_group (disp_in n d) (group_in d) s.groups) (agent_of (length s.agents) n s.groups d (tree_in d) (agent_written n (fresh s.texts d) d))) (sym k.known)
-    (built_agent (length s.agents) names messages s.groups s.texts d known disps one_less fine q.short q.sound (subst (λ n. length (agent_written n (fresh s.texts d) d).code ≤ 1024) k.known q.few)) in
-    each-append (IsBuiltAgent (length names.agents + length names.mboxes) messages (length (written s d).texts) (kinds_in names) (with_group (disp_in s.names d) (group_in d) s.groups)) s.agents (agent_made s d ∷ [])
-    (each-weaker (IsBuiltAgent (length names.agents + length names.mboxes) messages (length s.texts) (kinds_in names) s.groups) (IsBuiltAgent (length names.agents + length names.mboxes) messages (length (written s d).texts) (kinds_in names) (with_group (disp_in s.names d) (group_in d) s.groups)) (λ a h. grown _ _ _ _ _ _ (disp_in s.names d) (group_in d) a (agent_grows s.names (fresh s.texts d) d) h) s.agents (k.agents (omega (arith, one_less))))
+    let new : IsBuiltAgent (length names.agents + length names.mboxes) messages (length (written s d).texts) (length names.coops) (kinds_in names) (with_group (disp_in s.names d) (group_in d) s.groups) (agent_made s d) =
+    subst (λ n. IsBuiltAgent (length names.agents + length names.mboxes) messages (length (agent_written n (fresh s.texts d) d).texts) (length names.coops) (kinds_in names) (with_group (disp_in n d) (group_in d) s.groups) (agent_of (length s.agents) (last_coop s.coops) n s.groups d (tree_in d) (agent_written n (fresh s.texts d) d))) (sym k.known)
+    (built_agent (length s.agents) (last_coop s.coops) names messages s.groups s.texts d known disps one_less fine q.short q.sound (subst (λ n. length (agent_written n (fresh s.texts d) d).code ≤ 1024) k.known q.few)) in
+    each-append (IsBuiltAgent (length names.agents + length names.mboxes) messages (length (written s d).texts) (length names.coops) (kinds_in names) (with_group (disp_in s.names d) (group_in d) s.groups)) s.agents (agent_made s d ∷ [])
+    (each-weaker (IsBuiltAgent (length names.agents + length names.mboxes) messages (length s.texts) (length names.coops) (kinds_in names) s.groups) (IsBuiltAgent (length names.agents + length names.mboxes) messages (length (written s d).texts) (length names.coops) (kinds_in names) (with_group (disp_in s.names d) (group_in d) s.groups)) (λ a h. grown _ _ _ _ _ _ _ (disp_in s.names d) (group_in d) a (agent_grows s.names (fresh s.texts d) d) h) s.agents (k.agents (omega (arith, one_less))))
     (new, tt)
 
 -- the texts of one more agent
@@ -702,11 +723,11 @@ agent_kept names messages s t d known disps fine k q = record {
 }
 
 -- what changes neither agents nor groups nor texts
-abbrev with_others : Build → List MessageDef → List DispDef → List (List ℕ) → Build
-with_others s messages dispatchers coops = record s { messages = messages; dispatchers = dispatchers; coops = coops }
+abbrev with_others : Build → List MessageDef → List DispDef → List CoopDef → Bool → Build
+with_others s messages dispatchers coops stops = record s { messages = messages; dispatchers = dispatchers; coops = coops; autoshutdown = stops }
 
-others_kept : (names : Declared) (known : List MessageDef) (s : Build) (messages : List MessageDef) (dispatchers : List DispDef) (coops : List (List ℕ)) → AreKept names known s → AreKept names known (with_others s messages dispatchers coops)
-others_kept names known s messages dispatchers coops k = record {
+others_kept : (names : Declared) (known : List MessageDef) (s : Build) (messages : List MessageDef) (dispatchers : List DispDef) (coops : List CoopDef) (stops : Bool) → AreKept names known s → AreKept names known (with_others s messages dispatchers coops stops)
+others_kept names known s messages dispatchers coops stops k = record {
   known = k.known;
   agents = k.agents;
   texts = k.texts;
@@ -718,9 +739,10 @@ others_kept names known s messages dispatchers coops k = record {
 
 kept_step : (names : Declared) (messages : List MessageDef) → AreMessages names messages → HasFewDisps names → (s t : Build) (v : Visit) → EntersFine names v → AreKept names messages s → build_step s v ≡ Ok t → AreKept names messages t
 unfolding agent_after agent_made
-kept_step names messages known disps s t (enters object.Message place d) fine k e = subst (AreKept names messages) (ok_same (with_message d s) t e) (others_kept names messages s (s.messages ++ message_of d ∷ []) s.dispatchers s.coops k)
-kept_step names messages known disps s t (enters object.Dispatcher place d) fine k e = subst (AreKept names messages) (ok_same (with_disp d s) t e) (others_kept names messages s s.messages (s.dispatchers ++ disp_of d ∷ []) s.coops k)
-kept_step names messages known disps s t (enters object.Coop place d) fine k e = subst (AreKept names messages) (ok_same (with_coop d s) t e) (others_kept names messages s s.messages s.dispatchers (s.coops ++ name_in d ∷ []) k)
+kept_step names messages known disps s t (enters object.Scene place d) fine k e = subst (AreKept names messages) (ok_same (with_scene d s) t e) (others_kept names messages s s.messages s.dispatchers s.coops (read_or true flag_of (get (codes "autoshutdown") d)) k)
+kept_step names messages known disps s t (enters object.Message place d) fine k e = subst (AreKept names messages) (ok_same (with_message d s) t e) (others_kept names messages s (s.messages ++ message_of d ∷ []) s.dispatchers s.coops s.autoshutdown k)
+kept_step names messages known disps s t (enters object.Dispatcher place d) fine k e = subst (AreKept names messages) (ok_same (with_disp d s) t e) (others_kept names messages s s.messages (s.dispatchers ++ disp_of d ∷ []) s.coops s.autoshutdown k)
+kept_step names messages known disps s t (enters object.Coop place d) fine k e = subst (AreKept names messages) (ok_same (with_coop d s) t e) (others_kept names messages s s.messages s.dispatchers (s.coops ++ coop_of (length s.agents) s.names d ∷ []) s.autoshutdown k)
 kept_step names messages known disps s t (enters object.Agent place d) fine k e =
     let q = agent_ok place s t d e in
     subst (AreKept names messages) q.same (agent_kept names messages s t d known disps fine k q)
@@ -748,6 +770,11 @@ few_threads : (d : Data) → (1 ≤ threads_in d) × (threads_in d ≤ 64)
 few_threads d =
     read_fine (λ k. (1 ≤ k) × (k ≤ 64)) 4 (number_of 1 64) (get (codes "threads") d) (omega arith, omega arith)
     (λ x. bounds 1 64 (integer_of x then natural_up_to 64) (then_fine (λ k. k ≤ 64) (integer_of x) (natural_up_to 64) (natural_fine 64)))
+
+few_slots : (d : Data) → (1 ≤ slots_in d) × (slots_in d ≤ 4096)
+few_slots d =
+    read_fine (λ k. (1 ≤ k) × (k ≤ 4096)) 4096 (number_of 1 4096) (get (codes "slots") d) (omega arith, omega arith)
+    (λ x. bounds 1 4096 (integer_of x then natural_up_to 4096) (then_fine (λ k. k ≤ 4096) (integer_of x) (natural_up_to 4096) (natural_fine 4096)))
 
 no_fields : (a b : Bool) → nat_lt 0 ((if a then 1 else 0) + (if b then 1 else 0)) ≡ false → (a ≡ false) × (b ≡ false)
 no_fields true true e = absurd cc
@@ -779,7 +806,8 @@ not_given (Some d) e = absurd (true≢false e)
 is_disp : (d : Data) → IsFineDisp d → IsDisp (disp_of d)
 is_disp d h = record {
   named = h.named;
-  slots = refl;
+  some_slots = (few_slots d).0;
+  few_slots = (few_slots d).1;
   some_threads = (few_threads d).0;
   few_threads = (few_threads d).1;
   no_pool = λ e.
@@ -791,41 +819,92 @@ is_disp d h = record {
 }
 
 -- names are legal, and the dispatchers are, of which `default` is the first
-record AreNamed (s : Build) : Type 0 where
+record AreNamed (names : Declared) (s : Build) : Type 0 where
+  known : s.names ≡ names
   messages : AllByRecursion (λ name. is_name name ≡ true) (map message_name s.messages)
-  coops : AllByRecursion (λ name. is_name name ≡ true) s.coops
+  coops : AllByRecursion (IsBuiltCoop (length names.coops)) s.coops
   default : head s.dispatchers ≡ Some default_disp
   dispatchers : AllByRecursion IsDisp s.dispatchers
 
-named_step : (names : Declared) (s t : Build) (v : Visit) → EntersFine names v → AreNamed s → build_step s v ≡ Ok t → AreNamed t
+coop_known : (names : Declared) (s : Build) (d : Data) → s.names ≡ names → HasCoop names d → IsBuiltCoop (length names.coops) (coop_of (length s.agents) s.names d)
+coop_known names s d e h = subst (λ n. IsBuiltCoop (length names.coops) (coop_of (length s.agents) n d)) (sym e) (built_coop (length s.agents) names d h)
+
+named_step : (names : Declared) (s t : Build) (v : Visit) → EntersFine names v → AreNamed names s → build_step s v ≡ Ok t → AreNamed names t
 unfolding agent_after
+named_step names s t (enters object.Scene place d) fine k e =
+    subst (AreNamed names) (ok_same (with_scene d s) t e) (record { known = k.known; messages = k.messages; coops = k.coops; default = k.default; dispatchers = k.dispatchers })
 named_step names s t (enters object.Message place d) fine k e =
-    subst AreNamed (ok_same (with_message d s) t e)
+    subst (AreNamed names) (ok_same (with_message d s) t e)
     (record {
+      known = k.known;
       messages = subst (AllByRecursion (λ name. is_name name ≡ true)) (sym (map_push message_name s.messages (message_of d))) (each-append (λ name. is_name name ≡ true) (map message_name s.messages) (name_in d ∷ []) k.messages (fine, tt));
       coops = k.coops;
       default = k.default;
       dispatchers = k.dispatchers;
     })
 named_step names s t (enters object.Dispatcher place d) fine k e =
-    subst AreNamed (ok_same (with_disp d s) t e)
+    subst (AreNamed names) (ok_same (with_disp d s) t e)
     (record {
+      known = k.known;
       messages = k.messages;
       coops = k.coops;
       default = head-append s.dispatchers (disp_of d ∷ []) default_disp k.default;
       dispatchers = each-append IsDisp s.dispatchers (disp_of d ∷ []) k.dispatchers (is_disp d fine, tt);
     })
 named_step names s t (enters object.Coop place d) fine k e =
-    subst AreNamed (ok_same (with_coop d s) t e)
-    (record { messages = k.messages; coops = each-append (λ name. is_name name ≡ true) s.coops (name_in d ∷ []) k.coops (fine, tt); default = k.default; dispatchers = k.dispatchers })
+    subst (AreNamed names) (ok_same (with_coop d s) t e)
+    (record { known = k.known; messages = k.messages; coops = each-append (IsBuiltCoop (length names.coops)) s.coops (coop_of (length s.agents) s.names d ∷ []) k.coops (coop_known names s d k.known fine, tt); default = k.default; dispatchers = k.dispatchers })
 named_step names s t (enters object.Agent place d) fine k e =
     let q = agent_ok place s t d e in
-    subst AreNamed q.same (record { messages = k.messages; coops = k.coops; default = k.default; dispatchers = k.dispatchers })
-named_step names s t (enters other place d) fine k e = subst AreNamed (ok_same s t e) k
-named_step names s t (tries rule place d found) fine k e = subst AreNamed (ok_same s t e) k
-named_step names s t (leaves kind place d) fine k e = subst AreNamed (ok_same s t e) k
+    subst (AreNamed names) q.same (record { known = k.known; messages = k.messages; coops = each_counted (IsBuiltCoop (length names.coops)) (λ c n h. record { named = h.named; parent = h.parent }) s.coops k.coops; default = k.default; dispatchers = k.dispatchers })
+named_step names s t (enters other place d) fine k e = subst (AreNamed names) (ok_same s t e) k
+named_step names s t (tries rule place d found) fine k e = subst (AreNamed names) (ok_same s t e) k
+named_step names s t (leaves kind place d) fine k e = subst (AreNamed names) (ok_same s t e) k
 
--- ---- how many messages, mboxes and dispatchers
+-- ---- cooperations and their agents
+
+some_one : {X : Type 0} (xs : List X) → is_empty xs ≡ false → 0 < length xs
+some_one [] e = absurd (true≢false e)
+some_one (x ∷ xs) e = omega arith
+
+-- the cooperations have all agents, each those of its own
+AreHoused : Build → Type 0
+AreHoused s = length s.coops ≤ 1024 → length s.agents ≤ 4096 → AreCounted s.coops s.agents
+
+coop_housed : (s : Build) (d : Data) → AreHoused s → AreHoused (with_coop d s)
+unfolding AreHoused
+coop_housed s d k few many =
+    let its : narrow (length s.agents) ≡ length s.agents = omega (arith, many) in
+    coop_counted s.coops s.agents (coop_of (length s.agents) s.names d) its refl (k (omega (arith, few, length-append s.coops (coop_of (length s.agents) s.names d ∷ []))) many)
+
+agent_housed : (s t : Build) (d : Data) → AreHoused s → IsAdded d s t → AreHoused (agent_after s d)
+unfolding AreHoused agent_after agent_made
+agent_housed s t d k q few many =
+    let before : length s.coops ≤ 1024 = omega (arith, few, length_more s.coops) in
+    let one_less : length s.agents < 4096 = omega (arith, many, length-append s.agents (agent_made s d ∷ [])) in
+    let last : suc (narrow (length s.coops - 1)) ≡ length s.coops = omega (arith, before, some_one s.coops q.housed) in
+    agent_counted s.coops s.agents (agent_made s d) one_less q.housed last (k before (omega (arith, one_less)))
+
+housed_step : (s t : Build) (v : Visit) → Unit {0} → AreHoused s → build_step s v ≡ Ok t → AreHoused t
+unfolding AreHoused
+housed_step s t (enters object.Scene place d) q k e = subst AreHoused (ok_same (with_scene d s) t e) k
+housed_step s t (enters object.Message place d) q k e = subst AreHoused (ok_same (with_message d s) t e) k
+housed_step s t (enters object.Dispatcher place d) q k e = subst AreHoused (ok_same (with_disp d s) t e) k
+housed_step s t (enters object.Coop place d) q k e = subst AreHoused (ok_same (with_coop d s) t e) (coop_housed s d k)
+housed_step s t (enters object.Agent place d) q k e = let p = agent_ok place s t d e in subst AreHoused p.same (agent_housed s t d k p)
+housed_step s t (enters other place d) q k e = subst AreHoused (ok_same s t e) k
+housed_step s t (tries rule place d found) q k e = subst AreHoused (ok_same s t e) k
+housed_step s t (leaves kind place d) q k e = subst AreHoused (ok_same s t e) k
+
+none_housed : (names : Declared) → AreHoused (no_parts names)
+unfolding AreHoused
+none_housed names few many = none_counted
+
+counted_all : (s : Build) → AreHoused s → length s.coops ≤ 1024 → length s.agents ≤ 4096 → AreCounted s.coops s.agents
+unfolding AreHoused
+counted_all s k few many = k few many
+
+-- ---- how many messages, mboxes, dispatchers and cooperations
 
 -- what a pass adds to a list at each visit is at most what is counted there
 bind_count : {S : Type 0} (size : S → ℕ) (r : Result S SceneFault) (f : S → Result S SceneFault) (t : S) (n m : ℕ) → ((u : S) → r ≡ Ok u → size u ≤ n) → ((u : S) → f u ≡ Ok t → size t ≤ size u + m) → (r >>= f) ≡ Ok t → size t ≤ n + m
@@ -844,6 +923,7 @@ messages_of b = length b.messages
 
 message_step : (s t : Build) (v : Visit) → build_step s v ≡ Ok t → messages_of t ≤ messages_of s + is_message v
 unfolding agent_after agent_made messages_of
+message_step s t (enters object.Scene place d) e = omega (arith, ap (λ (x : Build). length x.messages) (ok_same (with_scene d s) t e))
 message_step s t (enters object.Message place d) e = omega (arith, ap (λ (x : Build). length x.messages) (ok_same (with_message d s) t e), length-append s.messages (message_of d ∷ []))
 message_step s t (enters object.Dispatcher place d) e = omega (arith, ap (λ (x : Build). length x.messages) (ok_same (with_disp d s) t e))
 message_step s t (enters object.Coop place d) e = omega (arith, ap (λ (x : Build). length x.messages) (ok_same (with_coop d s) t e))
@@ -853,6 +933,22 @@ message_step s t (enters object.Agent place d) e =
 message_step s t (enters other place d) e = omega (arith, ap (λ (x : Build). length x.messages) (ok_same s t e))
 message_step s t (tries rule place d found) e = omega (arith, ap (λ (x : Build). length x.messages) (ok_same s t e))
 message_step s t (leaves kind place d) e = omega (arith, ap (λ (x : Build). length x.messages) (ok_same s t e))
+
+coops_of : Build → ℕ
+coops_of b = length b.coops
+
+coop_step : (s t : Build) (v : Visit) → build_step s v ≡ Ok t → coops_of t ≤ coops_of s + is_coop v
+unfolding agent_after coops_of
+coop_step s t (enters object.Scene place d) e = omega (arith, ap (λ (x : Build). length x.coops) (ok_same (with_scene d s) t e))
+coop_step s t (enters object.Message place d) e = omega (arith, ap (λ (x : Build). length x.coops) (ok_same (with_message d s) t e))
+coop_step s t (enters object.Dispatcher place d) e = omega (arith, ap (λ (x : Build). length x.coops) (ok_same (with_disp d s) t e))
+coop_step s t (enters object.Coop place d) e = omega (arith, ap (λ (x : Build). length x.coops) (ok_same (with_coop d s) t e), length-append s.coops (coop_of (length s.agents) s.names d ∷ []))
+coop_step s t (enters object.Agent place d) e =
+    let q = agent_ok place s t d e in
+    omega (arith, ap (λ (x : Build). length x.coops) q.same, length_more s.coops)
+coop_step s t (enters other place d) e = omega (arith, ap (λ (x : Build). length x.coops) (ok_same s t e))
+coop_step s t (tries rule place d found) e = omega (arith, ap (λ (x : Build). length x.coops) (ok_same s t e))
+coop_step s t (leaves kind place d) e = omega (arith, ap (λ (x : Build). length x.coops) (ok_same s t e))
 
 mboxes_of : Declared → ℕ
 mboxes_of s = length s.mboxes
@@ -927,10 +1023,11 @@ few_disps names s h few = record {
   kinds = omega (arith, ap length h.dispatchers, ap length h.kinds, length_map disp_name s.dispatchers, length_map disp_kind s.dispatchers);
 }
 
-built_from : (names : Declared) (s : Build) → AreKept names s.messages s → AreNamed s → HaveNames names s → AreDistinct names → HasFewDisps names → length s.messages ≤ 256 → length names.mboxes ≤ 256 → IsBuilt s
-built_from names s k m h a disps few boxes =
+built_from : (names : Declared) (s : Build) → AreKept names s.messages s → AreNamed names s → HaveNames names s → AreDistinct names → AreHoused s → HasFewDisps names → length s.messages ≤ 256 → length names.mboxes ≤ 256 → length s.coops ≤ 1024 → IsBuilt s
+built_from names s k m h a housed disps few boxes coops =
     let agents : length names.agents ≡ length s.agents = omega (arith, ap length h.agents, length_map agent_name s.agents) in
     let mboxes : names.mboxes ≡ s.names.mboxes = ap (λ (x : Declared). x.mboxes) (sym k.known) in
+    let houses : length names.coops ≡ length s.coops = omega (arith, ap length h.coops, length_map coop_name s.coops) in
     record {
       few_messages = few;
       messages_named = all_of (λ name. is_name name ≡ true) (map message_name s.messages) m.messages;
@@ -946,10 +1043,14 @@ built_from names s k m h a disps few boxes =
         each_once = (k.group_names d).each_once;
         numbered = k.groups_numbered few d;
       };
-      coops = all_of (λ name. is_name name ≡ true) s.coops m.coops;
-      agents = subst (λ (m : List (List ℕ)). All (IsBuiltAgent (length s.agents + length m) s.messages (length s.texts) (map disp_kind s.dispatchers) s.groups) s.agents) mboxes
-          (subst (λ n. All (IsBuiltAgent (n + length names.mboxes) s.messages (length s.texts) (map disp_kind s.dispatchers) s.groups) s.agents) agents
-          (subst (λ n. All (IsBuiltAgent (length names.agents + length names.mboxes) s.messages (length s.texts) n s.groups) s.agents) (sym h.kinds) (all_of _ s.agents (k.agents (omega (arith, agents))))));
+      few_coops = coops;
+      coops = subst (λ n. All (IsBuiltCoop n) s.coops) houses (all_of (IsBuiltCoop (length names.coops)) s.coops m.coops);
+      coop_names = subst (IsDistinct bytes_eq) (sym h.coops) a.coops;
+      counted = λ many. counted_all s housed coops many;
+      agents = subst (λ (m : List (List ℕ)). All (IsBuiltAgent (length s.agents + length m) s.messages (length s.texts) (length s.coops) (map disp_kind s.dispatchers) s.groups) s.agents) mboxes
+          (subst (λ n. All (IsBuiltAgent (n + length names.mboxes) s.messages (length s.texts) (length s.coops) (map disp_kind s.dispatchers) s.groups) s.agents) agents
+          (subst (λ n. All (IsBuiltAgent (length names.agents + length names.mboxes) s.messages (length s.texts) n (map disp_kind s.dispatchers) s.groups) s.agents) houses
+          (subst (λ n. All (IsBuiltAgent (length names.agents + length names.mboxes) s.messages (length s.texts) (length names.coops) n s.groups) s.agents) (sym h.kinds) (all_of _ s.agents (k.agents (omega (arith, agents)))))));
       names = subst (λ (m : List (List ℕ)). IsDistinct bytes_eq (map agent_name s.agents ++ m)) mboxes (subst (λ n. IsDistinct bytes_eq (n ++ names.mboxes)) (sym h.agents) a.mboxes);
       texts = all_of (λ t. is_text t ≡ true) s.texts k.texts;
       texts_numbered = k.texts_numbered;
@@ -972,19 +1073,21 @@ nothing_kept names messages = record {
 
 pub is_built : (d : Data) (shape : Shape) (names : Declared) (known : Known) (s : Build) → HasNumbers d → run shape_step no_state (fields d) ≡ Ok shape → run twice_step no_names (fields d) ≡ Ok names
     → run known_step (knows names) (fields d) ≡ Ok known → run build_step (no_parts known.names) (fields d) ≡ Ok s → IsBuilt s
-unfolding messages_of mboxes_of disps_of
+unfolding messages_of mboxes_of disps_of coops_of
 is_built d shape names known s numbers e f g h =
     let passed = passed_all names no_names no_state shape (knows names) known (fields d) (visits_numbers 4 object.Scene [] d numbers) refl e f g in
     let build : run build_step (no_parts names) (fields d) ≡ Ok s = subst (λ n. run build_step (no_parts n) (fields d) ≡ Ok s) passed.0 h in
     let fine = scene_fine names d passed.1 in
-    let distinct : AreDistinct names = run_keeps twice_step (λ v. Unit {0}) AreDistinct distinct_step no_names names (fields d) (any_visit (fields d)) (record { messages = no_distinct; dispatchers = one_distinct (codes "default"); mboxes = no_distinct; named = tt }) f in
-    let have : HaveNames names s = run_both twice_step build_step HaveNames names_step no_names names (no_parts names) s (fields d) (record { messages = refl; dispatchers = refl; kinds = refl; agents = refl; signals = refl }) f build in
+    let distinct : AreDistinct names = run_keeps twice_step (λ v. Unit {0}) AreDistinct distinct_step no_names names (fields d) (any_visit (fields d)) (record { messages = no_distinct; coops = no_distinct; dispatchers = one_distinct (codes "default"); mboxes = no_distinct; named = tt }) f in
+    let have : HaveNames names s = run_both twice_step build_step HaveNames names_step no_names names (no_parts names) s (fields d) (record { messages = refl; coops = refl; dispatchers = refl; kinds = refl; agents = refl; signals = refl }) f build in
     let counted_messages : length s.messages ≤ total is_message (fields d) = omega (arith, counted build_step messages_of is_message message_step (no_parts names) s (fields d) build) in
     let few : length s.messages ≤ 256 = omega (arith, counted_messages, few_messages names d passed.1) in
     let mboxes : length names.mboxes ≤ total mboxes_named (fields d) = omega (arith, counted twice_step mboxes_of mboxes_named mbox_step no_names names (fields d) f) in
     let dispatchers : length names.dispatchers ≤ total is_dispatcher (fields d) = omega (arith, counted twice_step disps_of is_dispatcher disp_step no_names names (fields d) f) in
     let disps : HasFewDisps names = few_disps names s have (omega (arith, dispatchers, few_dispatchers names d passed.1)) in
-    let named : AreNamed s = run_keeps build_step (EntersFine names) AreNamed (named_step names) (no_parts names) s (fields d) fine (record { messages = tt; coops = tt; default = refl; dispatchers = (default_is_disp, tt) }) build in
+    let coops : length s.coops ≤ total is_coop (fields d) = omega (arith, counted build_step coops_of is_coop coop_step (no_parts names) s (fields d) build) in
+    let housed : AreHoused s = run_keeps build_step (λ v. Unit {0}) AreHoused housed_step (no_parts names) s (fields d) (any_visit (fields d)) (none_housed names) build in
+    let named : AreNamed names s = run_keeps build_step (EntersFine names) (AreNamed names) (named_step names) (no_parts names) s (fields d) fine (record { known = refl; messages = tt; coops = tt; default = refl; dispatchers = (default_is_disp, tt) }) build in
     let messages : AreMessages names s.messages = record {
       few = omega (arith, few, ap length have.messages, length_map message_name s.messages);
       named = subst (AllByRecursion (λ name. is_name name ≡ true)) have.messages named.messages;
@@ -992,16 +1095,9 @@ is_built d shape names known s numbers e f g h =
       signals = have.signals;
     } in
     let kept : AreKept names s.messages s = run_keeps build_step (EntersFine names) (AreKept names s.messages) (kept_step names s.messages messages disps) (no_parts names) s (fields d) fine (nothing_kept names s.messages) build in
-    built_from names s kept named have distinct disps few (omega (arith, mboxes, few_mboxes names d passed.1))
+    built_from names s kept named have distinct housed disps few (omega (arith, mboxes, few_mboxes names d passed.1)) (omega (arith, coops, few_coops names d passed.1))
 
 -- ---- the scene of the parts
-
-some_one : {X : Type 0} (xs : List X) → is_empty xs ≡ false → 0 < length xs
-some_one [] e = absurd (true≢false e)
-some_one (x ∷ xs) e = omega arith
-
-abbrev parts : Build → Option (List ℕ) → SceneParts
-parts b coop = parts_of coop b
 
 kind_there : (ds : List DispDef) (n : ℕ) → slice_index_or (map disp_kind ds) n OneThread ≡ (slice_index_or ds n default_disp).kind
 kind_there [] zero = refl
@@ -1009,18 +1105,18 @@ kind_there [] (suc n) = refl
 kind_there (d ∷ ds) zero = refl
 kind_there (d ∷ ds) (suc n) = kind_there ds n
 
-groups_there : (b : Build) (coop : Option (List ℕ)) (d : DispId) → d.0 < length b.dispatchers → scene_groups (parts b coop) d ≡ names_for d b.groups
-groups_there b coop d l = get_or-each_below (names_at b.groups) (length b.dispatchers) d.0 [] l
+groups_there : (b : Build) (d : DispId) → d.0 < length b.dispatchers → scene_groups (parts_of b) d ≡ names_for d b.groups
+groups_there b d l = get_or-each_below (names_at b.groups) (length b.dispatchers) d.0 [] l
 
-is_agent : (b : Build) (coop : Option (List ℕ)) (a : AgentDef) → IsBuiltAgent (length b.agents + length b.names.mboxes) b.messages (length b.texts) (map disp_kind b.dispatchers) b.groups a → IsAgent (parts b coop) a
-is_agent b coop a h =
+is_agent : (b : Build) (a : AgentDef) → a.coop.0 < length b.coops → IsBuiltAgent (length b.agents + length b.names.mboxes) b.messages (length b.texts) (length b.coops) (map disp_kind b.dispatchers) b.groups a → IsAgent (parts_of b) a
+is_agent b a there h =
     let on : a.disp.0 < length b.dispatchers = omega (arith, h.disp, length_map disp_kind b.dispatchers) in
     record {
       named = h.named;
-      coop = h.coop;
+      coop = there;
       disp = on;
-      group = subst (λ k. IsGroup k (length (scene_groups (parts b coop) a.disp)) a.group) (kind_there b.dispatchers a.disp.0)
-          (subst (λ names. IsGroup (slice_index_or (map disp_kind b.dispatchers) a.disp.0 OneThread) (length names) a.group) (sym (groups_there b coop a.disp on)) h.group);
+      group = subst (λ k. IsGroup k (length (scene_groups (parts_of b) a.disp)) a.group) (kind_there b.dispatchers a.disp.0)
+          (subst (λ names. IsGroup (slice_index_or (map disp_kind b.dispatchers) a.disp.0 OneThread) (length names) a.group) (sym (groups_there b a.disp on)) h.group);
       vars = h.vars;
       numbers = h.numbers;
       tree = h.tree;
@@ -1050,55 +1146,38 @@ is_agent b coop a h =
 
 -- ---- groups, lanes and cooperations
 
-are_groups : (b : Build) (coop : Option (List ℕ)) (d : DispId) → d.0 < length b.dispatchers → AreBuiltGroups b d → AreGroups (parts b coop) d
-are_groups b coop d l h =
-    let same : scene_groups (parts b coop) d ≡ names_for d b.groups = groups_there b coop d l in
+are_groups : (b : Build) (d : DispId) → d.0 < length b.dispatchers → AreBuiltGroups b d → AreGroups (parts_of b) d
+are_groups b d l h =
+    let same : scene_groups (parts_of b) d ≡ names_for d b.groups = groups_there b d l in
     record {
       named = subst (All (λ name. is_name name ≡ true)) (sym same) h.named;
       each_once = subst (IsDistinct bytes_eq) (sym same) h.each_once;
-      numbered = ap (given_after 0) (all_uses (parts b coop) d) ∙ (h.numbered ∙ ap (λ names. Some (length names)) (sym same));
+      numbered = ap (given_after 0) (all_uses (parts_of b) d) ∙ (h.numbered ∙ ap (λ names. Some (length names)) (sym same));
     }
 
 few_uses : (d : DispId) (agents : List AgentDef) → length (uses_on d agents) ≤ length agents
 few_uses d agents = omega (arith, filter_map-short agent_group (filter (is_on d) agents), filter-short (is_on d) agents)
 
-few_groups : (b : Build) (coop : Option (List ℕ)) (d : DispId) → d.0 < length b.dispatchers → length b.agents ≤ 4096 → AreBuiltGroups b d → length (scene_groups (parts b coop) d) ≤ 4096
-few_groups b coop d l few h =
-    omega (arith, ap length (groups_there b coop d l), given-few 0 (length (names_for d b.groups)) (uses_on d b.agents) h.numbered, few_uses d b.agents, few)
+few_groups : (b : Build) (d : DispId) → d.0 < length b.dispatchers → length b.agents ≤ 4096 → AreBuiltGroups b d → length (scene_groups (parts_of b) d) ≤ 4096
+few_groups b d l few h =
+    omega (arith, ap length (groups_there b d l), given-few 0 (length (names_for d b.groups)) (uses_on d b.agents) h.numbered, few_uses d b.agents, few)
 
-is_bound : (b : Build) (coop : Option (List ℕ)) → IsBuilt b → length b.agents ≤ 4096 → AreBound (parts b coop)
-is_bound b coop built few = record {
+is_bound : (b : Build) → IsBuilt b → length b.agents ≤ 4096 → AreBound (parts_of b)
+is_bound b built few = record {
   few = few;
   few_dispatchers = built.few_dispatchers;
   groups = length-each_below (names_at b.groups) (length b.dispatchers);
-  few_groups = λ d l. few_groups b coop d l few (built.groups few d);
+  few_groups = λ d l. few_groups b d l few (built.groups few d);
   agents = λ a l. omega (arith, (built.agents a.0 no_agent l).disp, length_map disp_kind b.dispatchers);
 }
 
--- the one cooperation has all agents
-record IsOneCoop (s : SceneParts) (coops : List CoopDef) : Type 0 where
-  one : length coops ≡ 1
-  each : All (IsCoop s) coops
-
-is_one_coop : (s : SceneParts) (names : List (List ℕ)) → All (λ name. is_name name ≡ true) names → length s.agents ≤ 4096 → is_empty (coops_of (only names) (length s.agents)) ≡ false → IsOneCoop s (coops_of (only names) (length s.agents))
-is_one_coop s [] named few some = absurd (true≢false some)
-is_one_coop s (name ∷ []) named few some = record {
-  one = refl;
-  each = all_of (IsCoop s) (coops_of (Some name) (length s.agents)) (record { named = named 0 [] (omega arith); first = refl; count = omega (arith, few) }, tt);
-}
-is_one_coop s (name ∷ other ∷ more) named few some = absurd (true≢false some)
-
-all_parts : Build → SceneParts
-all_parts b = parts_of (only b.coops) b
-
-scene_of_parts : (b : Build) → IsBuilt b → IsDistinct bytes_eq b.texts → exceeds (all_parts b) ≡ false → is_empty (all_parts b).coops ≡ false → 0 < length b.agents → ((a : AgentId) → a.0 < length b.agents → definition_fault (all_parts b) a ≡ None) → IsScene (all_parts b)
-unfolding all_parts
-scene_of_parts b built distinct few coop some_agent admitted =
-    let first = or_no (nat_lt 4096 (length b.agents)) (nat_lt 4096 (length b.texts) || nat_lt 256 (lanes (all_parts b))) few in
-    let second = or_no (nat_lt 4096 (length b.texts)) (nat_lt 256 (lanes (all_parts b))) first.1 in
+scene_of_parts : (b : Build) → IsBuilt b → IsDistinct bytes_eq b.texts → exceeds (parts_of b) ≡ false → IsScene (parts_of b)
+scene_of_parts b built distinct few =
+    let first = or_no (nat_lt 4096 (length b.agents)) (nat_lt 4096 (length b.texts) || nat_lt 256 (lanes (parts_of b))) few in
+    let second = or_no (nat_lt 4096 (length b.texts)) (nat_lt 256 (lanes (parts_of b))) first.1 in
     let agents : length b.agents ≤ 4096 = ltb-false 4096 (length b.agents) first.0 in
     let texts : length b.texts ≤ 4096 = ltb-false 4096 (length b.texts) second.0 in
-    let one = is_one_coop (all_parts b) b.coops built.coops agents coop in
+    let counted : AreCounted b.coops b.agents = built.counted agents in
     record {
       few_messages = built.few_messages;
       messages_named = built.messages_named;
@@ -1110,52 +1189,41 @@ scene_of_parts b built distinct few coop some_agent admitted =
       dispatchers = built.dispatchers;
       dispatcher_names = built.dispatcher_names;
       all_groups = length-each_below (names_at b.groups) (length b.dispatchers);
-      groups = λ d l. are_groups b (only b.coops) d l (built.groups agents d);
-      few_lanes = ltb-false 256 (lanes (all_parts b)) second.1;
-      one_coop = one.one;
-      coops = one.each;
-      some_agent = some_agent;
+      groups = λ d l. are_groups b d l (built.groups agents d);
+      few_lanes = ltb-false 256 (lanes (parts_of b)) second.1;
+      few_coops = built.few_coops;
+      coops = λ i d l. let coop = built.coops i d l in record { named = coop.named; parent = coop.parent };
+      coop_names = built.coop_names;
+      consecutive = counted.consecutive;
+      members = λ a l. member_at b.coops 0 a.0 b.agents a.0 no_agent (omega arith) l counted.members;
       few_agents = agents;
-      agents = λ i d l. is_agent b (only b.coops) (get_or b.agents i d) (built.agents i d l);
-      admitted = admitted;
+      agents = λ i d l. is_agent b (get_or b.agents i d) (member_there b.coops (get_or b.agents i d).coop.0 (agent_number i) (member_at b.coops 0 i b.agents i d (omega arith) l counted.members)) (built.agents i d l);
       names = built.names;
       few_texts = texts;
       texts = built.texts;
-      texts_numbered = ap (given_after 0) (all_texts (all_parts b)) ∙ built.texts_numbered texts;
+      texts_numbered = ap (given_after 0) (all_texts (parts_of b)) ∙ built.texts_numbered texts;
       each_text_once = distinct;
     }
 
-checked_parts : (b : Build) → IsBuilt b → IsDistinct bytes_eq b.texts → IsChecked (all_parts b)
-unfolding all_parts
+checked_parts : (b : Build) → IsBuilt b → IsDistinct bytes_eq b.texts → IsChecked (parts_of b)
 checked_parts b built distinct = record {
-  bound = λ few. is_bound b (only b.coops) built few;
-  scene = λ few coop some_agent admitted. scene_of_parts b built distinct few coop some_agent admitted;
+  bound = λ few. is_bound b built few;
+  scene = λ few. scene_of_parts b built distinct few;
 }
 
 -- the parts as they are put together
-abbrev pub made_of : Build → List (List ℕ) → List (List (List ℕ)) → List CoopDef → List (List ℕ) → SceneParts
-made_of b mboxes groups coops texts = record { messages = b.messages; mboxes = mboxes; dispatchers = b.dispatchers; groups = groups; coops = coops; agents = b.agents; texts = texts }
+abbrev pub made_of : Build → List (List ℕ) → List (List (List ℕ)) → List (List ℕ) → SceneParts
+made_of b mboxes groups texts = record { messages = b.messages; mboxes = mboxes; dispatchers = b.dispatchers; groups = groups; coops = b.coops; agents = b.agents; texts = texts; autoshutdown = b.autoshutdown }
 
-pub is_parts : (b : Build) (coops : List CoopDef) (mboxes texts : List (List ℕ)) (groups : List (List (List ℕ)))
-    → coops_of (only b.coops) (length b.agents) ≡ coops → b.names.mboxes ≡ mboxes → b.texts ≡ texts → group_lists b.groups (length b.dispatchers) ≡ groups → parts_of (only b.coops) b ≡ made_of b mboxes groups coops texts
-is_parts b coops mboxes texts groups e f g h =
-    ap (λ x. made_of b b.names.mboxes (group_lists b.groups (length b.dispatchers)) x b.texts) e
-    ∙ (ap (λ x. made_of b x (group_lists b.groups (length b.dispatchers)) coops b.texts) f
-    ∙ (ap (λ x. made_of b mboxes (group_lists b.groups (length b.dispatchers)) coops x) g
-    ∙ ap (λ x. made_of b mboxes x coops texts) h))
+pub is_parts : (b : Build) (mboxes texts : List (List ℕ)) (groups : List (List (List ℕ)))
+    → b.names.mboxes ≡ mboxes → b.texts ≡ texts → group_lists b.groups (length b.dispatchers) ≡ groups → parts_of b ≡ made_of b mboxes groups texts
+is_parts b mboxes texts groups e f g =
+    ap (λ x. made_of b x (group_lists b.groups (length b.dispatchers)) b.texts) e
+    ∙ (ap (λ x. made_of b mboxes (group_lists b.groups (length b.dispatchers)) x) f
+    ∙ ap (λ x. made_of b mboxes x texts) g)
 
-pub is_checked : (b : Build) (s : SceneParts) → IsBuilt b → IsDistinct bytes_eq b.texts → parts_of (only b.coops) b ≡ s → IsChecked s
-unfolding all_parts
+pub is_checked : (b : Build) (s : SceneParts) → IsBuilt b → IsDistinct bytes_eq b.texts → parts_of b ≡ s → IsChecked s
 is_checked b s built distinct same = subst IsChecked same (checked_parts b built distinct)
-
-no_fault_there : {X : Type 0} (o : Option X) → is_some o ≡ false → o ≡ None
-no_fault_there None e = refl
-no_fault_there (Some x) e = absurd (true≢false e)
-
-pub admitted_scene : (s : SceneParts) → IsChecked s → exceeds s ≡ false → is_empty s.coops ≡ false → is_refused s ≡ false → IsScene s
-admitted_scene s h few coop e =
-    let p = or_no (is_empty s.agents) (is_some (first_fault s)) e in
-    h.scene few coop (some_one s.agents p.0) (λ a l. none-first_below (fault_of s) (length s.agents) (no_fault_there (first_fault s) p.1) a.0 l)
 
 -- ---- the totals
 

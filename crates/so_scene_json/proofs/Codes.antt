@@ -31,6 +31,7 @@ use Rattle.so_scene_json.specs.ActTable.{is_safe_act, is_allowed, handler_acts}
 use Rattle.so_scene_json.specs.Build.{body_written, start_written, state_written, states_written, row_body, handler_written, rows_written, agent_written, is_long}
 use Rattle.std.proofs.lemmas.List.{append-nil}
 use Rattle.so_scene.specs.Names.{number_in}
+use Rattle.so_ids.specs.declared.CoopId.{CoopId}
 use Rattle.so_ids.specs.declared.FilterId.{FilterId}
 use Rattle.so_ids.specs.declared.RowId.{RowId}
 use Rattle.so_ids.specs.declared.StateId.{StateId}
@@ -52,7 +53,7 @@ use Rattle.so_scene_json.specs.declared.declare.Declared.{Declared}
 use Rattle.so_scene_json.specs.declared.write.Writer.{Writer}
 use Rattle.so_scene_json.specs.Values.{◌or◌, ◌else◌, ◌then◌, numbered, small_number, operand_named, operand_or_number, operand_of, dest_named, dest_of, named, integer_of, natural_up_to, count_of, ok_or, read_or, is_safe, text_or_empty}
 use Rattle.so_scene_json.specs.Visits.{narrow, list_of}
-use Rattle.so_scene_json.specs.Writer.{operand_at, dest_at, count_at, args_from, send_instr, state_id, state_at, row_id, filter_number, row_at, filter_at, or_idle, text_at, string_at, texts_with, number_or_next, with_instr, word_written, parts_written, if_allowed, act_written, acts_written, idle}
+use Rattle.so_scene_json.specs.Writer.{operand_at, dest_at, count_at, args_from, send_instr, state_id, state_at, row_id, filter_number, coop_id, row_at, filter_at, coop_at, or_idle, text_at, string_at, texts_with, number_or_next, with_instr, word_written, parts_written, if_allowed, act_written, acts_written, idle}
 
 -- ---- operands
 
@@ -208,7 +209,7 @@ none_given n i q = ap (given_after n) q
 
 -- what the acts of an agent may name, with so many texts
 abbrev pub allows : Declared → Scope → ℕ → Named
-allows names scope texts = named_among (length names.agents + length names.mboxes) (length names.messages) texts (length scope.states) scope.rows scope.filters
+allows names scope texts = named_among (length names.agents + length names.mboxes) (length names.messages) texts (length names.coops) (length scope.states) scope.rows scope.filters
 
 -- an agent's ids can be numbered
 pub record HasFewIds (scope : Scope) : Type 0 where
@@ -306,6 +307,21 @@ filter_wrote names may must rest w ds f safe quiet fine names_it =
     (λ e. absurd (true≢false (sym (safe e))))
     (λ few. or_fine (NamesWithin (allows names w.scope (length w.texts))) f (filter_at w.scope ds) tt (λ filter e. names_it (allows names w.scope (length w.texts)) filter (filter_there w.scope.filters (string_at 0 ds) (number_with w.scope.filters (string_at 0 ds)) filter (omega (arith, few.filters)) refl e)))
 
+-- ---- the acts on cooperations
+
+coop_below : (names : List (List ℕ)) (name : List ℕ) (k : ℕ) → number_in names name ≡ Some k → narrow k < length names
+coop_below names name k e = omega (arith, (position-Some (bytes_eq name) names k [] e).0, min-le_left k (2 ^ 32 - 1))
+
+coop_there : (names : List (List ℕ)) (name : List ℕ) (o : Option ℕ) (coop : CoopId) → number_in names name ≡ o → option_map coop_id o ≡ Some coop → coop.0 < length names
+coop_there names name None coop e f = absurd cc
+coop_there names name (Some k) coop e f = let its : coop_id k ≡ coop = cc in subst (λ (c : CoopId). c.0 < length names) its (coop_below names name k e)
+
+coop_wrote : (names : Declared) (may must : Bool) (rest : ℕ) (w : Writer) (ds : Items) (f : CoopId → Instr) → ((coop : CoopId) → IsQuiet (f coop)) → ((coop : CoopId) → IsActBefore may (f coop) rest) → ((coop : CoopId) → may_be_safe (f coop) ≡ true) → ((n : Named) (coop : CoopId) → coop.0 < n.coops → NamesWithin n (f coop)) → Wrote names may must rest w (with_instr (or_idle f (coop_at names ds)) w)
+coop_wrote names may must rest w ds f quiet fine safe names_it =
+    simple names may must rest w _ (or_fine IsQuiet f (coop_at names ds) refl (λ coop e. quiet coop)) (or_fine (λ i. IsActBefore may i rest) f (coop_at names ds) (idle_fine may rest) (λ coop e. fine coop))
+    (λ m. or_fine (λ i. may_be_safe i ≡ true) f (coop_at names ds) refl (λ coop e. safe coop))
+    (λ few. or_fine (NamesWithin (allows names w.scope (length w.texts))) f (coop_at names ds) tt (λ coop e. names_it (allows names w.scope (length w.texts)) coop (coop_there names.coops (string_at 0 ds) (number_in names.coops (string_at 0 ds)) coop refl e)))
+
 -- ---- a switch
 
 -- a state's number is at most the number of declared states
@@ -391,6 +407,8 @@ wrote_word names may must rest w word.Subscribe ds h = row_wrote names may must 
 wrote_word names may must rest w word.Unsubscribe ds h = row_wrote names may must rest w ds instr.Unsubscribe h.safe (λ row. refl) (λ row. record { act = refl; switch = never may; parts = tt; jumps = omega arith }) (λ n row h. h)
 wrote_word names may must rest w word.SetFilter ds h = filter_wrote names may must rest w ds instr.SetFilter h.safe (λ filter. refl) (λ filter. record { act = refl; switch = never may; parts = tt; jumps = omega arith }) (λ n filter h. h)
 wrote_word names may must rest w word.DropFilter ds h = filter_wrote names may must rest w ds instr.DropFilter h.safe (λ filter. refl) (λ filter. record { act = refl; switch = never may; parts = tt; jumps = omega arith }) (λ n filter h. h)
+wrote_word names may must rest w word.Register ds h = coop_wrote names may must rest w ds instr.Register (λ coop. refl) (λ coop. record { act = refl; switch = never may; parts = tt; jumps = omega arith }) (λ coop. refl) (λ n coop h. h)
+wrote_word names may must rest w word.Deregister ds h = coop_wrote names may must rest w ds instr.Deregister (λ coop. refl) (λ coop. record { act = refl; switch = never may; parts = tt; jumps = omega arith }) (λ coop. refl) (λ n coop h. h)
 wrote_word names may must rest w word.Stop ds h = simple names may must rest w _ refl (record { act = refl; switch = never may; parts = tt; jumps = omega arith }) (λ e. refl) (λ few. tt)
 wrote_word names may must rest w other ds h = simple names may must rest w _ refl (idle_fine may rest) (λ e. refl) (λ few. tt)
 
@@ -436,6 +454,7 @@ pub record Grows (n m : Named) : Type 0 where
   pub mboxes : n.mboxes ≤ m.mboxes
   pub messages : m.messages ≡ n.messages
   pub texts : n.texts ≤ m.texts
+  pub coops : m.coops ≡ n.coops
   pub states : m.states ≡ n.states
   pub rows : m.rows ≡ n.rows
   pub filters : m.filters ≡ n.filters
@@ -452,6 +471,8 @@ names_grow n m (instr.Subscribe row) g h = subst (λ ids. HasId ids row.0) (sym 
 names_grow n m (instr.Unsubscribe row) g h = subst (λ ids. HasId ids row.0) (sym g.rows) h
 names_grow n m (instr.SetFilter filter) g h = subst (λ ids. HasId ids filter.0) (sym g.filters) h
 names_grow n m (instr.DropFilter filter) g h = subst (λ ids. HasId ids filter.0) (sym g.filters) h
+names_grow n m (instr.Register coop) g h = omega (arith, g.coops, h)
+names_grow n m (instr.Deregister coop) g h = omega (arith, g.coops, h)
 names_grow n m other g h = h
 
 -- with more texts, and the ids of the same agent
@@ -460,6 +481,7 @@ texts_grow names scope other t u e l = record {
   mboxes = omega arith;
   messages = refl;
   texts = l;
+  coops = refl;
   states = ap (λ (x : Scope). length x.states) (sym e);
   rows = ap (λ (x : Scope). x.rows) (sym e);
   filters = ap (λ (x : Scope). x.filters) (sym e);

@@ -1,5 +1,6 @@
 pub mod Built
 pub mod Codes
+pub mod Counted
 pub mod Ends
 pub mod Grouped
 pub mod Joined

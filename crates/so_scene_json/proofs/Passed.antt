@@ -379,6 +379,12 @@ pub record HasFilter (names : Declared) (d : Data) : Type 0 where
   pub mbox : has_name (names.agents ++ names.mboxes) (string_in (codes "mbox") d) ≡ true
   pub value : IsNumber (value_in d)
 
+-- ---- cooperations
+
+pub record HasCoop (names : Declared) (d : Data) : Type 0 where
+  pub named : is_name (name_in d) ≡ true
+  pub parent : is_some (get (codes "parent") d) ≡ true → has_name names.coops (string_in (codes "parent") d) ≡ true
+
 no_rule : Rule
 no_rule = later field.Id
 
@@ -437,6 +443,12 @@ fine_state names n place d p = record {
   parent = λ initial. there_if (is_initial d) (is_some (get (codes "parent") d)) (no_breach place (is_breach object.State d) (passed_last names n object.State place d p).0) initial;
   enter = fine_acts names NoSwitch field.Enter _ d (get (codes "enter") d) (fine_try names n object.State 5 place d (omega arith) p);
   exit = fine_acts names NoSwitch field.Exit _ d (get (codes "exit") d) (fine_try names n object.State 6 place d (omega arith) p);
+}
+
+fine_coop : (names : Declared) (n : ℕ) (place : Place) (d : Data) → ArePassed names (visits (suc n) object.Coop place d) → HasCoop names d
+fine_coop names n place d p = record {
+  named = named_field _ d (get (codes "name") d) (fine_try names n object.Coop 0 place d (omega arith) p).0;
+  parent = λ there. known_if_there names space.Coops field.Parent _ d (get (codes "parent") d) (fine_try names n object.Coop 1 place d (omega arith) p) there;
 }
 
 each_named : (names : Declared) (ds : List Data) → AllByRecursion (HasState names) ds → AllByRecursion (λ name. is_state_name name ≡ true) (map name_in ds)
@@ -739,7 +751,7 @@ fine_agent names n place d p =
 abbrev pub EntersFine : Declared → Visit → Type 0
 EntersFine names (enters object.Message place d) = is_name (name_in d) ≡ true
 EntersFine names (enters object.Dispatcher place d) = IsFineDisp d
-EntersFine names (enters object.Coop place d) = is_name (name_in d) ≡ true
+EntersFine names (enters object.Coop place d) = HasCoop names d
 EntersFine names (enters object.Agent place d) = IsFineAgent names d
 EntersFine names (enters other place d) = Unit {0}
 EntersFine names (tries rule place d found) = Unit {0}
@@ -806,7 +818,7 @@ agent_fine names (suc n) place d l p = fine_agent names n place d p
 enter_fine : (names : Declared) (n : ℕ) (kind : ObjectKind) (place : Place) (d : Data) → height kind ≤ suc n → ArePassed names (visits (suc n) kind place d) → EntersFine names (enters kind place d)
 enter_fine names n object.Message place d l p = named_field _ d (get (codes "name") d) (fine_try names n object.Message 0 place d (omega arith) p).0
 enter_fine names n object.Dispatcher place d l p = fine_disp names n place d p
-enter_fine names n object.Coop place d l p = named_field _ d (get (codes "name") d) (fine_try names n object.Coop 0 place d (omega arith) p).0
+enter_fine names n object.Coop place d l p = fine_coop names n place d p
 enter_fine names n object.Agent place d l p = agent_fine names n place d l p
 enter_fine names n other place d l p = tt
 
@@ -823,7 +835,7 @@ visits_fine names (suc n) kind place d l p = (
 pub scene_fine : (names : Declared) (d : Data) → ArePassed names (visits 4 object.Scene [] d) → AllByRecursion (EntersFine names) (visits 4 object.Scene [] d)
 scene_fine names d p = visits_fine names 4 object.Scene [] d (omega arith) p
 
--- ---- how many messages, names of mboxes and dispatchers there are
+-- ---- how many messages, names of mboxes, dispatchers and cooperations there are
 
 abbrev pub total : (Visit → ℕ) → List Visit → ℕ
 total m [] = 0
@@ -845,6 +857,12 @@ is_dispatcher (enters other place d) = 0
 is_dispatcher (tries rule place d found) = 0
 is_dispatcher (leaves kind place d) = 0
 
+abbrev pub is_coop : Visit → ℕ
+is_coop (enters object.Coop place d) = 1
+is_coop (enters other place d) = 0
+is_coop (tries rule place d found) = 0
+is_coop (leaves kind place d) = 0
+
 abbrev pub mboxes_in_field : Form → Option Data → ℕ
 mboxes_in_field (form.Mboxes limit) found = items_len (list_of found)
 mboxes_in_field other found = 0
@@ -854,7 +872,7 @@ mboxes_named (enters kind place d) = 0
 mboxes_named (tries rule place d found) = mboxes_in_field rule.form found
 mboxes_named (leaves kind place d) = 0
 
--- a field that names no mboxes, and an object that is no scene, no message and no dispatcher
+-- a field that names no mboxes, and an object that is no scene, no message, no dispatcher and no cooperation
 abbrev NamesNone : Form → Type 0
 NamesNone (form.Mboxes limit) = ⊥
 NamesNone other = Unit {0}
@@ -863,13 +881,14 @@ abbrev IsQuiet : ObjectKind → Type 0
 IsQuiet object.Scene = ⊥
 IsQuiet object.Message = ⊥
 IsQuiet object.Dispatcher = ⊥
+IsQuiet object.Coop = ⊥
 IsQuiet other = Unit {0}
 
 abbrev AreQuiet : Option ObjectKind → Type 0
 AreQuiet None = Unit {0}
 AreQuiet (Some kind) = IsQuiet kind
 
--- what counts messages, names of mboxes or dispatchers
+-- what counts messages, names of mboxes, dispatchers or cooperations
 record Counts (m : Visit → ℕ) : Type 0 where
   entering : (kind : ObjectKind) (place : Place) (d : Data) → IsQuiet kind → m (enters kind place d) ≡ 0
   scene : (place : Place) (d : Data) → m (enters object.Scene place d) ≡ 0
@@ -884,7 +903,7 @@ quiet_rules object.Scene q = absurd q
 quiet_rules object.Message q = absurd q
 quiet_rules object.Chain q = ((tt, tt), ((tt, tt), ((tt, tt), ((tt, tt), tt))))
 quiet_rules object.Dispatcher q = absurd q
-quiet_rules object.Coop q = ((tt, tt), ((tt, tt), ((tt, tt), ((tt, tt), ((tt, tt), tt)))))
+quiet_rules object.Coop q = absurd q
 quiet_rules object.Agent q = ((tt, tt), ((tt, tt), ((tt, tt), ((tt, tt), ((tt, tt), ((tt, tt), ((tt, tt), ((tt, tt), ((tt, tt), ((tt, tt), ((tt, tt), ((tt, tt), ((tt, tt), tt)))))))))))))
 quiet_rules object.State q = ((tt, tt), ((tt, tt), ((tt, tt), ((tt, tt), ((tt, tt), ((tt, tt), ((tt, tt), tt)))))))
 quiet_rules object.Limit q = ((tt, tt), ((tt, tt), ((tt, tt), tt)))
@@ -949,6 +968,10 @@ in_dispatcher : (m : Visit → ℕ) → Counts m → (n : ℕ) (place : Place) (
 in_dispatcher m c n place d =
     omega (arith, total_object m c n object.Dispatcher place d, none_in_fields m c n (none_in_visits m c n) (rules_of object.Dispatcher) ((tt, tt), ((tt, tt), ((tt, tt), ((tt, tt), ((tt, tt), ((tt, tt), tt)))))) place d)
 
+in_coop : (m : Visit → ℕ) → Counts m → (n : ℕ) (place : Place) (d : Data) → total m (visits (suc n) object.Coop place d) ≡ m (enters object.Coop place d)
+in_coop m c n place d =
+    omega (arith, total_object m c n object.Coop place d, none_in_fields m c n (none_in_visits m c n) (rules_of object.Coop) ((tt, tt), ((tt, tt), ((tt, tt), ((tt, tt), ((tt, tt), tt))))) place d)
+
 messages_rule : Rule
 messages_rule = optional field.Messages (form.Objects object.Message (Some 256))
 
@@ -958,15 +981,18 @@ mboxes_rule = optional field.Mboxes (form.Mboxes 256)
 dispatchers_rule : Rule
 dispatchers_rule = optional field.Dispatchers (form.Objects object.Dispatcher (Some 63))
 
--- the fields of a scene before its messages, after its mboxes, and after its dispatchers
+coops_rule : Rule
+coops_rule = optional field.Coops (form.Objects object.Coop (Some 1024))
+
+-- the fields of a scene before its messages, after its mboxes, and after its cooperations
 first_rules : List Rule
-first_rules = required field.Version form.One ∷ later field.Autoshutdown ∷ later field.Reaction ∷ []
+first_rules = required field.Version form.One ∷ optional field.Autoshutdown form.Flag ∷ later field.Reaction ∷ []
 
 middle_rules : List Rule
 middle_rules = later field.Chains ∷ []
 
 last_rules : List Rule
-last_rules = optional field.Coops (form.Objects object.Coop (Some 1024)) ∷ later field.Threads ∷ []
+last_rules = later field.Threads ∷ []
 
 total_rules : (m : Visit → ℕ) (inside : ObjectKind → Place → Data → List Visit) (rules more : List Rule) (place : Place) (d : Data) → total m (fields_of inside (rules ++ more) place d) ≡ total m (fields_of inside rules place d) + total m (fields_of inside more place d)
 unfolding fields_of
@@ -975,27 +1001,30 @@ total_rules m inside (rule ∷ rules) more place d =
     omega (arith, total-append m (field_visits inside rule place d) (fields_of inside (rules ++ more) place d), total-append m (field_visits inside rule place d) (fields_of inside rules place d), total_rules m inside rules more place d)
 
 total_scene : (m : Visit → ℕ) → Counts m → (d : Data) → total m (visits 4 object.Scene [] d) ≡ total m (items_from (visits 3 object.Message) (at_key [] messages_rule) 0 (list_of (get (codes "messages") d))) + m (tries mboxes_rule (at_key [] mboxes_rule) d (get (codes "mboxes") d))
-    + total m (items_from (visits 3 object.Dispatcher) (at_key [] dispatchers_rule) 0 (list_of (get (codes "dispatchers") d)))
-unfolding first_rules middle_rules last_rules messages_rule mboxes_rule dispatchers_rule
+    + (total m (items_from (visits 3 object.Dispatcher) (at_key [] dispatchers_rule) 0 (list_of (get (codes "dispatchers") d))) + total m (items_from (visits 3 object.Coop) (at_key [] coops_rule) 0 (list_of (get (codes "coops") d))))
+unfolding first_rules middle_rules last_rules messages_rule mboxes_rule dispatchers_rule coops_rule
 total_scene m c d =
     let quiet = none_in_visits m c 3 in
     omega (
       arith,
       total_object m c 3 object.Scene [] d,
       c.scene [] d,
-      total_rules m (visits 3) first_rules (messages_rule ∷ mboxes_rule ∷ (middle_rules ++ dispatchers_rule ∷ last_rules)) [] d,
+      total_rules m (visits 3) first_rules (messages_rule ∷ mboxes_rule ∷ (middle_rules ++ dispatchers_rule ∷ coops_rule ∷ last_rules)) [] d,
       none_in_fields m c 3 quiet first_rules ((tt, tt), ((tt, tt), ((tt, tt), tt))) [] d,
-      total_fields m (visits 3) messages_rule (mboxes_rule ∷ (middle_rules ++ dispatchers_rule ∷ last_rules)) [] d,
+      total_fields m (visits 3) messages_rule (mboxes_rule ∷ (middle_rules ++ dispatchers_rule ∷ coops_rule ∷ last_rules)) [] d,
       total_field m (visits 3) messages_rule [] d,
       c.trying messages_rule (at_key [] messages_rule) d (get (codes "messages") d) tt,
-      total_fields m (visits 3) mboxes_rule (middle_rules ++ dispatchers_rule ∷ last_rules) [] d,
+      total_fields m (visits 3) mboxes_rule (middle_rules ++ dispatchers_rule ∷ coops_rule ∷ last_rules) [] d,
       total_field m (visits 3) mboxes_rule [] d,
-      total_rules m (visits 3) middle_rules (dispatchers_rule ∷ last_rules) [] d,
+      total_rules m (visits 3) middle_rules (dispatchers_rule ∷ coops_rule ∷ last_rules) [] d,
       none_in_fields m c 3 quiet middle_rules ((tt, tt), tt) [] d,
-      total_fields m (visits 3) dispatchers_rule last_rules [] d,
+      total_fields m (visits 3) dispatchers_rule (coops_rule ∷ last_rules) [] d,
       total_field m (visits 3) dispatchers_rule [] d,
       c.trying dispatchers_rule (at_key [] dispatchers_rule) d (get (codes "dispatchers") d) tt,
-      none_in_fields m c 3 quiet last_rules ((tt, tt), ((tt, tt), tt)) [] d,
+      total_fields m (visits 3) coops_rule last_rules [] d,
+      total_field m (visits 3) coops_rule [] d,
+      c.trying coops_rule (at_key [] coops_rule) d (get (codes "coops") d) tt,
+      none_in_fields m c 3 quiet last_rules ((tt, tt), tt) [] d,
     )
 
 message_quiet : (kind : ObjectKind) (place : Place) (d : Data) → IsQuiet kind → is_message (enters kind place d) ≡ 0
@@ -1005,6 +1034,10 @@ message_quiet other place d q = refl
 dispatcher_quiet : (kind : ObjectKind) (place : Place) (d : Data) → IsQuiet kind → is_dispatcher (enters kind place d) ≡ 0
 dispatcher_quiet object.Dispatcher place d q = absurd q
 dispatcher_quiet other place d q = refl
+
+coop_quiet : (kind : ObjectKind) (place : Place) (d : Data) → IsQuiet kind → is_coop (enters kind place d) ≡ 0
+coop_quiet object.Coop place d q = absurd q
+coop_quiet other place d q = refl
 
 no_mboxes : (f : Form) (found : Option Data) → NamesNone f → mboxes_in_field f found ≡ 0
 no_mboxes (form.Mboxes limit) found q = absurd q
@@ -1019,6 +1052,12 @@ counts_mboxes = record { entering = λ kind place d q. refl; scene = λ place d.
 counts_dispatchers : Counts is_dispatcher
 counts_dispatchers = record { entering = dispatcher_quiet; scene = λ place d. refl; trying = λ rule place d found q. refl; leaving = λ kind place d. refl }
 
+counts_coops : Counts is_coop
+counts_coops = record { entering = coop_quiet; scene = λ place d. refl; trying = λ rule place d found q. refl; leaving = λ kind place d. refl }
+
+limited_coops : (names : Declared) (d : Data) → ArePassed names (visits 4 object.Scene [] d) → items_len (list_of (get (codes "coops") d)) ≤ 1024
+limited_coops names d p = limit_objects field.Coops object.Coop 1024 _ d (get (codes "coops") d) (fine_try names 3 object.Scene 7 [] d (omega arith) p).0
+
 limited_dispatchers : (names : Declared) (d : Data) → ArePassed names (visits 4 object.Scene [] d) → items_len (list_of (get (codes "dispatchers") d)) ≤ 63
 limited_dispatchers names d p = limit_objects field.Dispatchers object.Dispatcher 63 _ d (get (codes "dispatchers") d) (fine_try names 3 object.Scene 6 [] d (omega arith) p).0
 
@@ -1029,34 +1068,49 @@ limited_mboxes : (names : Declared) (d : Data) → ArePassed names (visits 4 obj
 limited_mboxes names d p = limit_mboxes field.Mboxes 256 _ d (get (codes "mboxes") d) (fine_try names 3 object.Scene 4 [] d (omega arith) p).0
 
 pub few_messages : (names : Declared) (d : Data) → ArePassed names (visits 4 object.Scene [] d) → total is_message (visits 4 object.Scene [] d) ≤ 256
-unfolding messages_rule mboxes_rule dispatchers_rule
+unfolding messages_rule mboxes_rule dispatchers_rule coops_rule
 few_messages names d p =
     omega (
       arith,
       total_scene is_message counts_messages d,
       one_in_items is_message (visits 3 object.Message) (in_message is_message counts_messages 2) (at_key [] messages_rule) 0 (list_of (get (codes "messages") d)),
       none_in_items is_message (visits 3 object.Dispatcher) (in_dispatcher is_message counts_messages 2) (at_key [] dispatchers_rule) 0 (list_of (get (codes "dispatchers") d)),
+      none_in_items is_message (visits 3 object.Coop) (in_coop is_message counts_messages 2) (at_key [] coops_rule) 0 (list_of (get (codes "coops") d)),
       limited_messages names d p,
     )
 
 pub few_mboxes : (names : Declared) (d : Data) → ArePassed names (visits 4 object.Scene [] d) → total mboxes_named (visits 4 object.Scene [] d) ≤ 256
-unfolding messages_rule mboxes_rule dispatchers_rule
+unfolding messages_rule mboxes_rule dispatchers_rule coops_rule
 few_mboxes names d p =
     omega (
       arith,
       total_scene mboxes_named counts_mboxes d,
       none_in_items mboxes_named (visits 3 object.Message) (in_message mboxes_named counts_mboxes 2) (at_key [] messages_rule) 0 (list_of (get (codes "messages") d)),
       none_in_items mboxes_named (visits 3 object.Dispatcher) (in_dispatcher mboxes_named counts_mboxes 2) (at_key [] dispatchers_rule) 0 (list_of (get (codes "dispatchers") d)),
+      none_in_items mboxes_named (visits 3 object.Coop) (in_coop mboxes_named counts_mboxes 2) (at_key [] coops_rule) 0 (list_of (get (codes "coops") d)),
       limited_mboxes names d p,
     )
 
 pub few_dispatchers : (names : Declared) (d : Data) → ArePassed names (visits 4 object.Scene [] d) → total is_dispatcher (visits 4 object.Scene [] d) ≤ 63
-unfolding messages_rule mboxes_rule dispatchers_rule
+unfolding messages_rule mboxes_rule dispatchers_rule coops_rule
 few_dispatchers names d p =
     omega (
       arith,
       total_scene is_dispatcher counts_dispatchers d,
       none_in_items is_dispatcher (visits 3 object.Message) (in_message is_dispatcher counts_dispatchers 2) (at_key [] messages_rule) 0 (list_of (get (codes "messages") d)),
       one_in_items is_dispatcher (visits 3 object.Dispatcher) (in_dispatcher is_dispatcher counts_dispatchers 2) (at_key [] dispatchers_rule) 0 (list_of (get (codes "dispatchers") d)),
+      none_in_items is_dispatcher (visits 3 object.Coop) (in_coop is_dispatcher counts_dispatchers 2) (at_key [] coops_rule) 0 (list_of (get (codes "coops") d)),
       limited_dispatchers names d p,
+    )
+
+pub few_coops : (names : Declared) (d : Data) → ArePassed names (visits 4 object.Scene [] d) → total is_coop (visits 4 object.Scene [] d) ≤ 1024
+unfolding messages_rule mboxes_rule dispatchers_rule coops_rule
+few_coops names d p =
+    omega (
+      arith,
+      total_scene is_coop counts_coops d,
+      none_in_items is_coop (visits 3 object.Message) (in_message is_coop counts_coops 2) (at_key [] messages_rule) 0 (list_of (get (codes "messages") d)),
+      none_in_items is_coop (visits 3 object.Dispatcher) (in_dispatcher is_coop counts_coops 2) (at_key [] dispatchers_rule) 0 (list_of (get (codes "dispatchers") d)),
+      one_in_items is_coop (visits 3 object.Coop) (in_coop is_coop counts_coops 2) (at_key [] coops_rule) 0 (list_of (get (codes "coops") d)),
+      limited_coops names d p,
     )

@@ -41,7 +41,7 @@ use Rattle.so_scene_json.specs.Scope.{state_items, row_items}
 use Rattle.so_scene_json.specs.Twice.{names_in}
 use Rattle.so_scene_json.specs.Values.{◌or◌, read_or, text_or_empty, operand_of}
 use Rattle.so_scene_json.specs.Visits.{narrow, list_of, listed}
-use Rattle.so_scene_json.specs.Writer.{operand_at, args_from, string_at, send_instr, state_at, row_at, filter_at, or_idle, idle, with_instr, word_written, parts_written, if_allowed, act_written, acts_written, state_id}
+use Rattle.so_scene_json.specs.Writer.{operand_at, args_from, string_at, send_instr, state_at, row_at, filter_at, coop_at, or_idle, idle, with_instr, word_written, parts_written, if_allowed, act_written, acts_written, state_id}
 use Rattle.so_scene_json.proofs.Codes.{switches, wrote_acts}
 use Rattle.so_scene_json.proofs.Ends.{all_of}
 use Rattle.so_scene_json.proofs.Numbers.{OnSome, get_numbers, item_numbers, list_numbers, operand_read}
@@ -156,6 +156,8 @@ word_said names messages m rest w word.Subscribe ds h n a = pushed messages w _ 
 word_said names messages m rest w word.Unsubscribe ds h n a = pushed messages w _ a (or_said messages instr.Unsubscribe (row_at w.scope ds) (λ x. tt))
 word_said names messages m rest w word.SetFilter ds h n a = pushed messages w _ a (or_said messages instr.SetFilter (filter_at w.scope ds) (λ x. tt))
 word_said names messages m rest w word.DropFilter ds h n a = pushed messages w _ a (or_said messages instr.DropFilter (filter_at w.scope ds) (λ x. tt))
+word_said names messages m rest w word.Register ds h n a = pushed messages w _ a (or_said messages instr.Register (coop_at names ds) (λ x. tt))
+word_said names messages m rest w word.Deregister ds h n a = pushed messages w _ a (or_said messages instr.Deregister (coop_at names ds) (λ x. tt))
 word_said names messages m rest w other ds h n a = pushed messages w _ a tt
 
 if_said : (names : Declared) (messages : List MessageDef) → AreMessages names messages → (rest : ℕ) (w : Writer) (p : Word × Items) (b : Bool) → IsWordKnown names p.0 p.1 → HaveNumbers p.1 → AreWritten messages w.code → AreWritten messages (parts_written names rest w (if b then Some p else None)).code

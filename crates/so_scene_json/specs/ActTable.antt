@@ -60,8 +60,8 @@ args_of word.Subscribe = Some (Name ∷ [])
 args_of word.Unsubscribe = Some (Name ∷ [])
 args_of word.SetFilter = Some (Name ∷ [])
 args_of word.DropFilter = Some (Name ∷ [])
-args_of word.Register = None
-args_of word.Deregister = None
+args_of word.Register = Some (Name ∷ [])
+args_of word.Deregister = Some (Name ∷ [])
 args_of word.Stop = Some []
 args_of word.Close = None
 args_of word.Receive = None
@@ -82,6 +82,8 @@ needed_of word.Subscribe = 1
 needed_of word.Unsubscribe = 1
 needed_of word.SetFilter = 1
 needed_of word.DropFilter = 1
+needed_of word.Register = 1
+needed_of word.Deregister = 1
 needed_of other = 0
 
 -- ---- what may stand where

@@ -1,5 +1,5 @@
 -- The fourth pass: the parts of the scene, the tree of each agent's states, and the length of each code.
-use Rattle.std.specs.Prelude.{ℕ, suc, ◌-◌, List, [], ◌∷◌, ◌++◌, length, codes, Bool, ◌||◌, nat_lt, if◌then◌else◌, Option, Some, None, Result, Ok, Err}
+use Rattle.std.specs.Prelude.{ℕ, suc, ◌-◌, List, [], ◌∷◌, ◌++◌, length, codes, Bool, true, ◌||◌, nat_lt, if◌then◌else◌, Option, Some, None, Result, Ok, Err}
 use Rattle.serde_json.specs.Data.{Data, Items, no_items, item}
 use Rattle.serde_json.specs.Events.{items_len}
 use Rattle.serde_json.specs.Find.{get}
@@ -7,7 +7,9 @@ use Rattle.so_code.specs.declared.instr.Body.{Body}
 use Rattle.so_code.specs.declared.instr.Body.TheVariants as body
 use Rattle.so_code.specs.declared.instr.Instr.{Instr}
 use Rattle.so_code.specs.declared.instr.Instr.TheVariants as instr
+use Rattle.so_ids.specs.declared.CoopId.{CoopId}
 use Rattle.so_ids.specs.declared.StateId.{StateId}
+use Rattle.so_lists.specs.Lists.{is_empty}
 use Rattle.so_state.specs.declared.faults.TreeFault.{TreeFault}
 use Rattle.so_state.specs.declared.states.State.{State}
 use Rattle.so_state.specs.Fault.{tree_fault, named}
@@ -17,6 +19,7 @@ use Rattle.so_scene.specs.declared.place.PlaceStep.TheVariants.{Key}
 use Rattle.so_scene.specs.declared.fault.SceneFault.{SceneFault}
 use Rattle.so_scene.specs.declared.fault.SceneFault.TheVariants as fault
 use Rattle.so_scene.specs.declared.parts.AgentDef.{AgentDef}
+use Rattle.so_scene.specs.declared.parts.CoopDef.{CoopDef}
 use Rattle.so_scene_json.specs.declared.act_table.Allowed.{Allowed}
 use Rattle.so_scene_json.specs.declared.act_table.Allowed.TheVariants.{AnyAct, NoSwitch}
 use Rattle.so_scene_json.specs.declared.table.ObjectKind.{ObjectKind}
@@ -26,11 +29,11 @@ use Rattle.so_scene_json.specs.declared.scope.Scope.{Scope}
 use Rattle.so_scene_json.specs.declared.write.Writer.{Writer}
 use Rattle.so_scene_json.specs.declared.groups.Group.{Group}
 use Rattle.so_scene_json.specs.declared.build.Build.{Build}
-use Rattle.so_scene_json.specs.Values.{name_in, group_in}
+use Rattle.so_scene_json.specs.Values.{name_in, group_in, flag_of, read_or}
 use Rattle.so_scene_json.specs.Groups.{with_group, group_number}
 use Rattle.so_scene_json.specs.Scope.{state_items, row_items, filter_items, scope_of}
 use Rattle.so_scene_json.specs.ActTable.{handler_acts}
-use Rattle.so_scene_json.specs.Defs.{message_of, vars_of, disp_of, disp_in, priority_in, states_of, rows_of, filters_of}
+use Rattle.so_scene_json.specs.Defs.{message_of, vars_of, disp_of, disp_in, coop_of, priority_in, states_of, rows_of, filters_of}
 use Rattle.so_scene_json.specs.Writer.{with_instr, acts_written, state_id}
 use Rattle.so_scene_json.specs.Visits.{Visit, enters, tries, leaves, Place, at_item, narrow, list_of, ◌>>=◌}
 
@@ -88,7 +91,7 @@ tree_of place states = unless_broken place states (tree_fault states)
 -- ---- the pass
 
 abbrev pub no_parts : Declared → Build
-no_parts names = record { names = names; messages = []; dispatchers = default_disp ∷ []; groups = []; coops = []; agents = []; texts = [] }
+no_parts names = record { names = names; messages = []; dispatchers = default_disp ∷ []; groups = []; coops = []; agents = []; texts = []; autoshutdown = true }
 
 abbrev pub with_message : Data → Build → Build
 with_message d s = record s { messages = s.messages ++ message_of d ∷ [] }
@@ -96,15 +99,31 @@ with_message d s = record s { messages = s.messages ++ message_of d ∷ [] }
 abbrev pub with_disp : Data → Build → Build
 with_disp d s = record s { dispatchers = s.dispatchers ++ disp_of d ∷ [] }
 
--- of a cooperation its name alone: while a scene has one, its agents are all there are
-abbrev pub with_coop : Data → Build → Build
-with_coop d s = record s { coops = s.coops ++ name_in d ∷ [] }
+-- whether the run stops when the last cooperation has left
+abbrev pub with_scene : Data → Build → Build
+with_scene d s = record s { autoshutdown = read_or true flag_of (get (codes "autoshutdown") d) }
 
--- the agent of a number, with its states, its names and ids, and its code, where there are these groups
-abbrev pub agent_with : ℕ → Declared → List Group → Data → List State → Scope → List Instr → AgentDef
-agent_with a names groups d tree scope code = record {
+-- ---- cooperations: each agent is one of the last that was entered
+
+abbrev pub with_coop : Data → Build → Build
+with_coop d s = record s { coops = s.coops ++ coop_of (length s.agents) s.names d ∷ [] }
+
+abbrev pub last_coop : List CoopDef → CoopId
+last_coop coops = record { 0 = narrow (length coops - 1) }
+
+-- the last cooperation has one agent more
+unfoldable pub one_more : List CoopDef → List CoopDef
+one_more [] = []
+one_more (c ∷ []) = record c { count = narrow (suc c.count) } ∷ []
+one_more (c ∷ d ∷ coops) = c ∷ one_more (d ∷ coops)
+
+-- ---- agents
+
+-- the agent of a number in this cooperation, with its states, its names and ids, and its code, where there are these groups
+abbrev pub agent_with : ℕ → CoopId → Declared → List Group → Data → List State → Scope → List Instr → AgentDef
+agent_with a coop names groups d tree scope code = record {
   name = name_in d;
-  coop = record { 0 = 0 };
+  coop = coop;
   disp = disp_in names d;
   group = group_number (disp_in names d) (group_in d) groups;
   priority = priority_in d;
@@ -117,8 +136,8 @@ agent_with a names groups d tree scope code = record {
   code = code;
 }
 
-abbrev pub agent_of : ℕ → Declared → List Group → Data → List State → Writer → AgentDef
-agent_of a names groups d tree w = agent_with a names groups d tree w.scope w.code
+abbrev pub agent_of : ℕ → CoopId → Declared → List Group → Data → List State → Writer → AgentDef
+agent_of a coop names groups d tree w = agent_with a coop names groups d tree w.scope w.code
 
 -- a writer for an agent, with the texts so far
 abbrev pub fresh : List (List ℕ) → Data → Writer
@@ -130,7 +149,8 @@ written s d = agent_written s.names (fresh s.texts d) d
 -- an agent, with its texts and its group
 abbrev pub agent_added : Build → Data → List State → Writer → Build
 agent_added s d tree w = record s {
-  agents = s.agents ++ agent_of (length s.agents) s.names s.groups d tree w ∷ [];
+  coops = one_more s.coops;
+  agents = s.agents ++ agent_of (length s.agents) (last_coop s.coops) s.names s.groups d tree w ∷ [];
   texts = w.texts;
   groups = with_group (disp_in s.names d) (group_in d) s.groups;
 }
@@ -146,11 +166,16 @@ is_long d = nat_lt 63 (items_len (state_items d)) || nat_lt 128 (items_len (row_
 abbrev pub with_tree : Place → Build → Data → Result Build SceneFault
 with_tree place s d = tree_of place (states_of (scope_of d) (state_items d)) >>= λ tree. with_code place s d tree (written s d)
 
+-- it has too many states or rows, or stands in no cooperation. No file comes to that
+abbrev pub is_misplaced : Build → Data → Bool
+is_misplaced s d = is_long d || is_empty s.coops
+
 -- an agent: first its tree, then its code
 abbrev pub with_agent : Place → Build → Data → Result Build SceneFault
-with_agent place s d = if is_long d then Err (fault.OutOfRange place) else with_tree place s d
+with_agent place s d = if is_misplaced s d then Err (fault.OutOfRange place) else with_tree place s d
 
 abbrev pub entered : ObjectKind → Place → Build → Data → Result Build SceneFault
+entered object.Scene place s d = Ok (with_scene d s)
 entered object.Message place s d = Ok (with_message d s)
 entered object.Dispatcher place s d = Ok (with_disp d s)
 entered object.Coop place s d = Ok (with_coop d s)

@@ -4,6 +4,7 @@ use Rattle.std.proofs.Math.Nat.{min-le_right}
 use Rattle.std.specs.List.{range_with_len}
 use Rattle.serde_json.specs.Data.{Data, Items}
 use Rattle.serde_json.specs.Find.{as_str, get, get_item}
+use Rattle.so_ids.specs.declared.CoopId.{CoopId}
 use Rattle.so_ids.specs.declared.DispId.{DispId}
 use Rattle.so_ids.specs.declared.MboxId.{MboxId}
 use Rattle.so_ids.specs.declared.MsgId.{MsgId}
@@ -13,6 +14,7 @@ use Rattle.so_ids.specs.declared.Vars.{Vars}
 use Rattle.so_code.specs.declared.instr.Cmp.{Cmp}
 use Rattle.so_code.specs.declared.instr.Cmp.TheVariants as cmp
 use Rattle.so_scene.specs.declared.parts.MessageDef.{MessageDef}
+use Rattle.so_scene.specs.declared.parts.CoopDef.{CoopDef}
 use Rattle.so_scene.specs.declared.parts.DispDef.{DispDef}
 use Rattle.so_scene.specs.declared.parts.Fifo.{Fifo}
 use Rattle.so_scene.specs.declared.parts.Fifo.TheVariants.{Cooperation}
@@ -64,6 +66,10 @@ mbox_in names d = record { 0 = number_named names space.Mboxes (codes "mbox") d 
 
 -- ---- dispatchers
 
+-- how many agents may be bound to it at one time
+abbrev pub slots_in : Data → ℕ
+slots_in d = read_or 4096 (number_of 1 4096) (get (codes "slots") d)
+
 -- how many threads a pool has, and which of its agents share a queue
 abbrev pub threads_in : Data → ℕ
 threads_in d = read_or 4 (number_of 1 64) (get (codes "threads") d)
@@ -82,7 +88,7 @@ abbrev pub disp_of : Data → DispDef
 disp_of d = record {
   name = name_in d;
   kind = disp_kind_in d;
-  slots = 4096;
+  slots = slots_in d;
   threads = threads_in d;
   fifo = fifo_in d;
   quotes = quotes_in (list_of (get (codes "quotes") d));
@@ -99,6 +105,22 @@ level_in d = read_or 0 (number_of 0 7) (get (codes "priority") d)
 -- a level above 7 counts as 7
 abbrev pub priority_in : Data → Priority
 priority_in d = record { level = min (level_in d) 7; in_range = min-le_right (level_in d) 7 }
+
+-- ---- cooperations
+
+-- the parent, if one is named
+abbrev pub parent_coop : Declared → Data → Option CoopId
+parent_coop names d = if is_some (get (codes "parent") d) then Some (record { 0 = number_named names space.Coops (codes "parent") d }) else None
+
+-- a cooperation that follows so many agents, without agents of its own
+abbrev pub coop_of : ℕ → Declared → Data → CoopDef
+coop_of agents names d = record {
+  name = name_in d;
+  parent = parent_coop names d;
+  at_start = read_or true flag_of (get (codes "at_start") d);
+  first = record { 0 = narrow agents };
+  count = 0;
+}
 
 -- ---- states
 

@@ -1,22 +1,21 @@
 -- What the four passes leave of a scene's parts, apart from what is tried after them.
-use Rattle.std.specs.Prelude.{◌≡◌, ℕ, ◌<◌, ◌≤◌, ◌+◌, ◌++◌, ◌==◌, List, [], ◌∷◌, length, map, slice_index_or, bytes_eq, Bool, Option, Some, None, true, false}
+use Rattle.std.specs.Prelude.{◌≡◌, ℕ, suc, ◌<◌, ◌≤◌, ◌+◌, ◌++◌, ◌==◌, List, [], ◌∷◌, length, map, slice_index_or, bytes_eq, Bool, Option, Some, true, false}
 use Rattle.std.specs.List.{All, IsDistinct, filter, filter_map}
 use Rattle.so_code.specs.Bodies.{bodies_in}
 use Rattle.so_code.specs.Shape.{IsCode, agent_bodies}
-use Rattle.so_ids.specs.declared.AgentId.{AgentId}
 use Rattle.so_ids.specs.declared.DispId.{DispId}
-use Rattle.so_lists.specs.Lists.{head, is_empty, AreNumbered}
+use Rattle.so_lists.specs.Lists.{head, AreNumbered}
 use Rattle.so_scene.specs.declared.parts.AgentDef.{AgentDef}
+use Rattle.so_scene.specs.declared.parts.CoopDef.{CoopDef}
 use Rattle.so_scene.specs.declared.parts.DispDef.{DispDef}
 use Rattle.so_scene.specs.declared.parts.DispKind.{DispKind}
 use Rattle.so_scene.specs.declared.parts.DispKind.TheVariants.{OneThread}
 use Rattle.so_scene.specs.declared.parts.MessageDef.{MessageDef}
 use Rattle.so_scene.specs.declared.parts.SceneParts.{SceneParts}
-use Rattle.so_scene.specs.Definition.{definition_fault}
-use Rattle.so_scene.specs.Lanes.{AreBound}
+use Rattle.so_scene.specs.Lanes.{AreBound, agent_number}
 use Rattle.so_scene.specs.declared.parts.FilterDef.{FilterDef}
-use Rattle.so_scene.specs.Parts.{message_name, agent_name, disp_name, default_disp}
-use Rattle.so_scene.specs.Checked.{Named, NamesWithin, IsKind, IsDisp, IsGroup, HasNoLimit, has_handler, handlers, filter_ids, given, text_uses, IsScene}
+use Rattle.so_scene.specs.Parts.{message_name, agent_name, coop_name, disp_name, default_disp, no_coop}
+use Rattle.so_scene.specs.Checked.{Named, NamesWithin, IsParent, AreConsecutive, IsMember, IsKind, IsDisp, IsGroup, HasNoLimit, has_handler, handlers, filter_ids, given, text_uses, IsScene}
 use Rattle.so_scene.specs.Words.{is_name, is_text}
 use Rattle.so_scene.specs.Written.{IsNumber, HasParent, IsWrittenAmong, is_state_name, are_short, AreSafe}
 use Rattle.so_state.specs.declared.choice.Row.{Row}
@@ -25,7 +24,7 @@ use Rattle.so_scene_json.specs.declared.build.Build.{Build}
 use Rattle.so_scene_json.specs.declared.groups.Group.{Group}
 use Rattle.so_scene_json.specs.Groups.{names_for, group_lists}
 use Rattle.so_scene_json.specs.declared.finish.Lists.{Lists}
-use Rattle.so_scene_json.specs.Scene.{exceeds, coops_of, only}
+use Rattle.so_scene_json.specs.Scene.{exceeds}
 
 -- a row among so many mboxes, messages and states, and a filter
 pub record IsBuiltRow (mboxes messages states : ℕ) (row : Row) : Type 0 where
@@ -42,13 +41,17 @@ pub record IsBuiltFilter (mboxes messages : ℕ) (f : FilterDef) : Type 0 where
   pub value : IsNumber f.value
 
 -- what the acts of an agent may name
-abbrev pub named_among : ℕ → ℕ → ℕ → ℕ → List (Option (List ℕ)) → List (Option (List ℕ)) → Named
-named_among mboxes messages texts states rows filters = record { mboxes = mboxes; messages = messages; texts = texts; states = states; rows = rows; filters = filters }
+abbrev pub named_among : ℕ → ℕ → ℕ → ℕ → ℕ → List (Option (List ℕ)) → List (Option (List ℕ)) → Named
+named_among mboxes messages texts coops states rows filters = record { mboxes = mboxes; messages = messages; texts = texts; coops = coops; states = states; rows = rows; filters = filters }
 
--- an agent among so many mboxes and texts, these messages, and dispatchers of these kinds with these groups
-pub record IsBuiltAgent (mboxes : ℕ) (messages : List MessageDef) (texts : ℕ) (kinds : List DispKind) (groups : List Group) (a : AgentDef) : Type 0 where
+-- a cooperation among so many
+pub record IsBuiltCoop (coops : ℕ) (c : CoopDef) : Type 0 where
+  pub named : is_name c.name ≡ true
+  pub parent : IsParent coops c.parent
+
+-- an agent among so many mboxes, texts and cooperations, these messages, and dispatchers of these kinds with these groups
+pub record IsBuiltAgent (mboxes : ℕ) (messages : List MessageDef) (texts coops : ℕ) (kinds : List DispKind) (groups : List Group) (a : AgentDef) : Type 0 where
   pub named : is_name a.name ≡ true
-  pub coop : a.coop.0 ≡ 0
   pub disp : a.disp.0 < length kinds
   pub group : IsGroup (slice_index_or kinds a.disp.0 OneThread) (length (names_for a.disp groups)) a.group
   pub vars : length a.vars.0 ≡ 16
@@ -70,7 +73,7 @@ pub record IsBuiltAgent (mboxes : ℕ) (messages : List MessageDef) (texts : ℕ
   pub each_filter_id_once : IsDistinct bytes_eq (given (filter_ids a))
   pub code : IsCode a.code
   pub bodies : bodies_in a.code ≡ agent_bodies (length a.tree) (handlers a.rows)
-  pub parts : All (NamesWithin (named_among mboxes (length messages) texts (length a.tree) a.row_ids (filter_ids a))) a.code
+  pub parts : All (NamesWithin (named_among mboxes (length messages) texts coops (length a.tree) a.row_ids (filter_ids a))) a.code
   pub written : All (IsWrittenAmong messages) a.code
   pub short : are_short 0 a.code ≡ true
   pub safe : AreSafe a.rows a.code
@@ -102,6 +105,16 @@ pub record AreBuiltGroups (s : Build) (d : DispId) : Type 0 where
   pub each_once : IsDistinct bytes_eq (names_for d s.groups)
   pub numbered : AreNumbered (uses_on d s.agents) (length (names_for d s.groups))
 
+-- each agent, from number n on, is one of its cooperation's
+abbrev pub AreMembers : List CoopDef → ℕ → List AgentDef → Type 0
+AreMembers coops n [] = Unit {0}
+AreMembers coops n (a ∷ agents) = IsMember (slice_index_or coops a.coop.0 no_coop) (agent_number n) × AreMembers coops (suc n) agents
+
+-- the cooperations have all agents, each those of its own
+pub record AreCounted (coops : List CoopDef) (agents : List AgentDef) : Type 0 where
+  pub consecutive : AreConsecutive 0 (length agents) coops
+  pub members : AreMembers coops 0 agents
+
 pub record IsBuilt (s : Build) : Type 0 where
   pub few_messages : length s.messages ≤ 256
   pub messages_named : All (λ name. is_name name ≡ true) (map message_name s.messages)
@@ -113,21 +126,22 @@ pub record IsBuilt (s : Build) : Type 0 where
   pub dispatchers : All IsDisp s.dispatchers
   pub dispatcher_names : IsDistinct bytes_eq (map disp_name s.dispatchers)
   pub groups : length s.agents ≤ 4096 → (d : DispId) → AreBuiltGroups s d
-  pub coops : All (λ name. is_name name ≡ true) s.coops
-  pub agents : All (IsBuiltAgent (mboxes_in s) s.messages (length s.texts) (map disp_kind s.dispatchers) s.groups) s.agents
+  pub few_coops : length s.coops ≤ 1024
+  pub coops : All (IsBuiltCoop (length s.coops)) s.coops
+  pub coop_names : IsDistinct bytes_eq (map coop_name s.coops)
+  pub counted : length s.agents ≤ 4096 → AreCounted s.coops s.agents
+  pub agents : All (IsBuiltAgent (mboxes_in s) s.messages (length s.texts) (length s.coops) (map disp_kind s.dispatchers) s.groups) s.agents
   pub names : IsDistinct bytes_eq (map agent_name s.agents ++ s.names.mboxes)
   pub texts : All (λ t. is_text t ≡ true) s.texts
   pub texts_numbered : length s.texts ≤ 4096 → AreNumbered (texts_of s.agents) (length s.texts)
 
--- Parts whose lanes can be counted where the agents aren't too many. They are a scene where their totals are within the limits, and
--- there is a cooperation, which has agents, and each may be registered.
+-- Parts whose lanes can be counted where the agents aren't too many. They are a scene where their totals are within the limits.
 pub record IsChecked (s : SceneParts) : Type 0 where
   pub bound : length s.agents ≤ 4096 → AreBound s
-  pub scene : exceeds s ≡ false → is_empty s.coops ≡ false → 0 < length s.agents → ((a : AgentId) → a.0 < length s.agents → definition_fault s a ≡ None) → IsScene s
+  pub scene : exceeds s ≡ false → IsScene s
 
 -- the lists that are made at the end, and the parts that have them
 pub record AreLists (b : Build) (l : Lists) : Type 0 where
-  pub coops : coops_of (only b.coops) (length b.agents) ≡ l.coops
   pub groups : group_lists b.groups (length b.dispatchers) ≡ l.groups
   pub mboxes : b.names.mboxes ≡ l.mboxes
   pub texts : b.texts ≡ l.texts
@@ -139,7 +153,8 @@ parts_with b l = record {
   mboxes = l.mboxes;
   dispatchers = b.dispatchers;
   groups = l.groups;
-  coops = l.coops;
+  coops = b.coops;
   agents = b.agents;
   texts = l.texts;
+  autoshutdown = b.autoshutdown;
 }

@@ -74,6 +74,11 @@ abbrev pub first_state_trouble : Scope → Items → Option Trouble
 first_state_trouble scope no_items = None
 first_state_trouble scope (item d ds) = absent_from (all_states scope) (as_str d)
 
+-- the first item is the name of a cooperation
+abbrev pub first_coop_trouble : Declared → Items → Option Trouble
+first_coop_trouble s no_items = None
+first_coop_trouble s (item d ds) = name_trouble s space.Coops (as_str d)
+
 abbrev pub word_unknown : Known → Word → Items → Option Trouble
 word_unknown s word.Send ds = send_trouble s.names ds
 word_unknown s word.Switch ds = first_state_trouble s.scope ds
@@ -81,6 +86,8 @@ word_unknown s word.Subscribe ds = first_id_trouble s.scope.rows ds
 word_unknown s word.Unsubscribe ds = first_id_trouble s.scope.rows ds
 word_unknown s word.SetFilter ds = first_id_trouble s.scope.filters ds
 word_unknown s word.DropFilter ds = first_id_trouble s.scope.filters ds
+word_unknown s word.Register ds = first_coop_trouble s.names ds
+word_unknown s word.Deregister ds = first_coop_trouble s.names ds
 word_unknown s other ds = None
 
 abbrev pub parts_unknown : Known → Option (Word × Items) → Option Trouble

@@ -1,8 +1,9 @@
 -- The fields of each kind of object, in their order. A field that is `later` isn't built: it is known, and refused where
 -- it is given. Where an optional field is absent, a list is empty, a message's kind is `message`, a row's mbox is the agent's
 -- own and its state `default`, a state lies at the top, is not initial and has no history, what may be active is, a handler isn't
--- safe, a pool has four threads and a queue for each cooperation, each quote is 20, and an agent is bound to the dispatcher
--- `default` with priority 0.
+-- safe, a dispatcher has 4,096 slots, a pool four threads and a queue for each cooperation, each quote is 20, an agent is bound to
+-- the dispatcher `default` with priority 0, a cooperation is a child of the root and registered at the start, and the run stops when
+-- the last one has left.
 use Rattle.std.specs.Prelude.{Option, Some, None, List, [], ◌∷◌, true, false}
 use Rattle.so_scene.specs.declared.place.Field.{Field}
 use Rattle.so_scene.specs.declared.place.Field.TheVariants as field
@@ -27,7 +28,7 @@ later f = record { field = f; required = false; form = form.Later }
 abbrev pub rules_of : ObjectKind → List Rule
 rules_of object.Scene =
     required field.Version form.One
-    ∷ later field.Autoshutdown
+    ∷ optional field.Autoshutdown form.Flag
     ∷ later field.Reaction
     ∷ optional field.Messages (form.Objects object.Message (Some 256))
     ∷ optional field.Mboxes (form.Mboxes 256)
@@ -49,15 +50,15 @@ rules_of object.Chain =
 rules_of object.Dispatcher =
     required field.Name form.Name
     ∷ required field.Kind form.DispKind
-    ∷ later field.Slots
+    ∷ optional field.Slots (form.Number 1 4096)
     ∷ optional field.Threads (form.Number 1 64)
     ∷ optional field.Fifo form.Fifo
     ∷ optional field.Quotes form.Quotes
     ∷ []
 rules_of object.Coop =
     required field.Name form.Name
-    ∷ later field.Parent
-    ∷ later field.AtStart
+    ∷ optional field.Parent (form.NameIn space.Coops)
+    ∷ optional field.AtStart form.Flag
     ∷ later field.Reaction
     ∷ required field.Agents (form.Objects object.Agent None)
     ∷ []

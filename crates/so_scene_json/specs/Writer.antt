@@ -4,6 +4,7 @@ use Rattle.std.specs.Prelude.{ℕ, ◌+◌, ◌-◌, min, pos, List, [], ◌∷�
 use Rattle.serde_json.specs.Data.{Data, Items, no_items, item}
 use Rattle.serde_json.specs.Events.{items_len}
 use Rattle.serde_json.specs.Find.{as_str, get_item}
+use Rattle.so_ids.specs.declared.CoopId.{CoopId}
 use Rattle.so_ids.specs.declared.FilterId.{FilterId}
 use Rattle.so_ids.specs.declared.RowId.{RowId}
 use Rattle.so_ids.specs.declared.StateId.{StateId}
@@ -71,7 +72,7 @@ send_instr None msg args = idle
 abbrev pub send_at : Declared → Items → Instr
 send_at names ds = send_instr (number_in (names_in space.Mboxes names) (string_at 0 ds)) (number_in names.messages (string_at 1 ds)) (args_from 2 ds)
 
--- the state, the row and the filter that an act names
+-- the state, the row, the filter and the cooperation that an act names
 abbrev pub state_id : ℕ → StateId
 state_id k = record { 0 = narrow k }
 
@@ -81,6 +82,9 @@ row_id k = record { 0 = narrow k }
 abbrev pub filter_number : ℕ → FilterId
 filter_number k = record { 0 = narrow k }
 
+abbrev pub coop_id : ℕ → CoopId
+coop_id k = record { 0 = narrow k }
+
 abbrev pub state_at : Scope → Items → Option StateId
 state_at scope ds = option_map state_id (state_number scope (string_at 0 ds))
 
@@ -89,6 +93,9 @@ row_at scope ds = option_map row_id (number_with scope.rows (string_at 0 ds))
 
 abbrev pub filter_at : Scope → Items → Option FilterId
 filter_at scope ds = option_map filter_number (number_with scope.filters (string_at 0 ds))
+
+abbrev pub coop_at : Declared → Items → Option CoopId
+coop_at names ds = option_map coop_id (number_in names.coops (string_at 0 ds))
 
 abbrev pub or_idle : {A : Type 0} → (A → Instr) → Option A → Instr
 or_idle f None = idle
@@ -114,6 +121,8 @@ word_instr names scope text rest word.Subscribe ds = or_idle instr.Subscribe (ro
 word_instr names scope text rest word.Unsubscribe ds = or_idle instr.Unsubscribe (row_at scope ds)
 word_instr names scope text rest word.SetFilter ds = or_idle instr.SetFilter (filter_at scope ds)
 word_instr names scope text rest word.DropFilter ds = or_idle instr.DropFilter (filter_at scope ds)
+word_instr names scope text rest word.Register ds = or_idle instr.Register (coop_at names ds)
+word_instr names scope text rest word.Deregister ds = or_idle instr.Deregister (coop_at names ds)
 word_instr names scope text rest word.Stop ds = instr.Stop
 word_instr names scope text rest other ds = step_instr rest other ds
 

@@ -140,14 +140,9 @@ pub(crate) fn args(word: Word) -> Option<&'static [Arg]>
         Word::Switch => Some(&ONE_NAME),
         Word::Subscribe | Word::Unsubscribe => Some(&ONE_NAME),
         Word::SetFilter | Word::DropFilter => Some(&ONE_NAME),
+        Word::Register | Word::Deregister => Some(&ONE_NAME),
         Word::Stop => Some(&STOP),
-        Word::Delayed
-        | Word::Timer
-        | Word::Cancel
-        | Word::Register
-        | Word::Deregister
-        | Word::Close
-        | Word::Receive => None,
+        Word::Delayed | Word::Timer | Word::Cancel | Word::Close | Word::Receive => None,
     }
 }
 
@@ -166,6 +161,7 @@ pub(crate) fn needed(word: Word) -> usize
         Word::Switch => 1,
         Word::Subscribe | Word::Unsubscribe => 1,
         Word::SetFilter | Word::DropFilter => 1,
+        Word::Register | Word::Deregister => 1,
         _ => 0,
     }
 }

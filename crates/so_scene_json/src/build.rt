@@ -4,7 +4,7 @@ ghost use Rattle.std.specs.Prelude.{◌≡◌, ◌<◌, ◌≤◌, ◌-◌, ◌+
 ghost use Rattle.serde_json.specs.Events.{items_len};
 ghost use Rattle.serde_json.specs.View.{view, items_view};
 ghost use Rattle.so_code.specs.Shape.{IsCode};
-ghost use Rattle.so_scene_json.specs.Build.{agent_added, with_disp, body_written, start_written, state_written, states_written, row_body, handler_written, rows_written, agent_written, state_place, tree_of, is_long, no_parts, with_message, with_coop, agent_with, with_code, with_tree, with_agent, build_step};
+ghost use Rattle.so_scene_json.specs.Build.{agent_added, with_disp, body_written, start_written, state_written, states_written, row_body, handler_written, rows_written, agent_written, state_place, tree_of, is_long, no_parts, with_message, with_scene, with_coop, one_more, last_coop, is_misplaced, agent_with, with_code, with_tree, with_agent, build_step};
 ghost use Rattle.so_scene_json.specs.Defs.{disp_in};
 ghost use Rattle.so_scene_json.specs.Groups.{with_group};
 ghost use Rattle.so_scene_json.specs.Values.{group_in};
@@ -15,21 +15,21 @@ ghost use Rattle.so_state.specs.Fault.{named};
 use crate::act_table::{Allowed, handler_acts};
 use crate::declare::Declared;
 use crate::defs::{
-    default_disp, disp_in, disp_of, filters_in, message_of, name_of, priority_in, rows_in,
+    coop_of, default_disp, disp_in, disp_of, filters_in, message_of, name_of, priority_in, rows_in,
     states_in, vars_of,
 };
 use crate::groups::{Group, add_group, group_number};
 use crate::scope::Scope;
 use crate::table::{ObjectKind, Rule};
-use crate::values::group_in;
+use crate::values::{flag_or, group_in};
 use crate::walk::{Pass, list, position};
 use crate::write::Writer;
 use serde_json::Value;
 use so_code::{Body, Code, Instr};
 use so_ids::{CoopId, RowId, StateId};
 use so_scene::{
-    AgentDef, DispDef, Field, Items, MessageDef, Name, Names, PlaceStep, SceneFault, ScenePlace,
-    SceneRefusal,
+    AgentDef, CoopDef, DispDef, Field, Items, MessageDef, Name, Names, PlaceStep, SceneFault,
+    ScenePlace, SceneRefusal,
 };
 use so_state::{State, Tree, TreeFault};
 use std::alloc::Global;
@@ -187,10 +187,31 @@ fn written(
     Ok(writer)
 }
 
-/// The agent of a number, with its states, its names and ids, and its code, where there are these groups.
+/// The last cooperation.
+fn last_coop(coops: &[CoopDef]) -> CoopId
+    ensures { result ≡ last_coop coops.now }
+{
+    CoopId(position(coops.len().saturating_sub(1)))
+}
+
+/// The cooperations, of which the last has one agent more.
+fn one_more(coops: Items<CoopDef>) -> Items<CoopDef>
+    ensures { result ≡ one_more coops }
+{
+    let mut list = coops.into_vec();
+    let count = list.len();
+    if count == 0 {
+        return Items::from_vec(list);
+    }
+    list[count - 1].count = list[count - 1].count.saturating_add(1);
+    Items::from_vec(list)
+}
+
+/// The agent of a number in this cooperation, with its states, its names and ids, and its code, where there are these groups.
 fn agent_with(
     alloc: Global,
     number: usize,
+    coop: CoopId,
     names: &Declared,
     groups: &[Group],
     value: &Value,
@@ -199,14 +220,14 @@ fn agent_with(
     code: Items<Instr>,
 ) -> Result<AgentDef, SceneRefusal>
     requires { IsCode code }
-    ensures { Returns (agent_with number names.now groups.now (view value.now) tree scope code) result }
+    ensures { Returns (agent_with number coop names.now groups.now (view value.now) tree scope code) result }
 {
     let disp = disp_in(names, value);
     let group = group_number(alloc, groups, disp, group_in(value))?;
     let rows = rows_in(alloc, number, names, &scope, list(value.get("on")))?;
     Ok(AgentDef {
         name: name_of(value),
-        coop: CoopId(0),
+        coop,
         disp,
         group,
         priority: priority_in(value),
@@ -229,10 +250,11 @@ pub struct Build {
     pub dispatchers: Items<DispDef>,
     /// The groups of all dispatchers.
     pub groups: Items<Group>,
-    /// The names of the cooperations.
-    pub coops: Items<Name>,
+    /// The last is that of the agents that follow.
+    pub coops: Items<CoopDef>,
     pub agents: Items<AgentDef>,
     pub texts: Names,
+    pub autoshutdown: bool,
 }
 
 impl Build {
@@ -253,7 +275,14 @@ impl Build {
             coops: Items::new(alloc),
             agents: Items::new(alloc),
             texts: Names::new(alloc),
+            autoshutdown: true,
         })
+    }
+
+    fn scene(&mut self, value: &Value)
+        ensures { self.new ≡ with_scene (view value.now) self.old }
+    {
+        self.autoshutdown = flag_or(true, value.get("autoshutdown"));
     }
 
     fn message(&mut self, value: &Value) -> Result<(), SceneRefusal>
@@ -277,10 +306,27 @@ impl Build {
     fn coop(&mut self, value: &Value) -> Result<(), SceneRefusal>
         ensures { Leaves (Ok (with_coop (view value.now) self.old)) result self.new }
     {
-        match self.coops.push(name_of(value)) {
+        let coop = coop_of(self.agents.len(), &self.names, value);
+        match self.coops.push(coop) {
             Ok(()) => Ok(()),
             Err(_) => Err(SceneRefusal::NoMemory),
         }
+    }
+
+    /// The last cooperation has one agent more.
+    fn count(&mut self)
+        ensures { self.new ≡ record self.old { coops = one_more self.old.coops } }
+    {
+        let alloc = self.texts.alloc();
+        let coops = mem::replace(&mut self.coops, Items::new(alloc));
+        self.coops = one_more(coops);
+    }
+
+    /// Tells whether an agent has too many states or rows, or stands in no cooperation.
+    fn is_misplaced(&self, agent: &Value) -> bool
+        ensures { result ≡ is_misplaced self.now (view agent.now) }
+    {
+        is_long(agent) || self.coops.as_slice().is_empty()
     }
 
     /// The texts, which are taken out.
@@ -297,7 +343,7 @@ impl Build {
         requires { length place.now < 15 }
         ensures { Leaves (with_agent place.now self.old (view value.now)) result self.new }
     {
-        if is_long(value) {
+        if self.is_misplaced(value) {
             return Err(SceneRefusal::Fault(SceneFault::OutOfRange(place.copy())));
         }
         self.with_tree(place, value)
@@ -328,13 +374,24 @@ impl Build {
     {
         let alloc = self.texts.alloc();
         let number = self.agents.len();
+        let coop = last_coop(self.coops.as_slice());
         let texts = self.take_texts();
         let Writer { texts, code, scope } = written(&self.names, texts, scope, value)?;
         if code.len() > 1024 {
             return Err(SceneRefusal::Fault(SceneFault::OutOfRange(place.copy())));
         }
         let groups = self.groups.as_slice();
-        let agent = agent_with(alloc, number, &self.names, groups, value, tree, scope, code)?;
+        let agent = agent_with(
+            alloc,
+            number,
+            coop,
+            &self.names,
+            groups,
+            value,
+            tree,
+            scope,
+            code,
+        )?;
         self.add_group(value)?;
         self.add(agent, texts)
     }
@@ -348,10 +405,12 @@ impl Build {
         add_group(alloc, &mut self.groups, disp, group_in(value))
     }
 
+    /// An agent of the last cooperation, and all texts with its own.
     fn add(&mut self, agent: AgentDef, texts: Names) -> Result<(), SceneRefusal>
-        ensures { Leaves (Ok (record self.old { agents = self.old.agents ++ agent ∷ []; texts = texts })) result self.new }
+        ensures { Leaves (Ok (record self.old { coops = one_more self.old.coops; agents = self.old.agents ++ agent ∷ []; texts = texts })) result self.new }
     {
         self.texts = texts;
+        self.count();
         match self.agents.push(agent) {
             Ok(()) => Ok(()),
             Err(_) => Err(SceneRefusal::NoMemory),
@@ -373,6 +432,10 @@ impl Pass for Build {
         value: &Value,
     ) -> Result<(), SceneRefusal> {
         match kind {
+            ObjectKind::Scene => {
+                self.scene(value);
+                Ok(())
+            }
             ObjectKind::Message => self.message(value),
             ObjectKind::Dispatcher => self.dispatcher(value),
             ObjectKind::Coop => self.coop(value),

@@ -4,7 +4,7 @@
 ghost use Rattle.std.specs.Prelude.{◌≡◌, ◌++◌, ◌∷◌, [], ℤ, Some, map, length, codes};
 ghost use Rattle.std.specs.List.{range_with_len};
 ghost use Rattle.serde_json.specs.View.{view, items_view};
-ghost use Rattle.so_scene_json.specs.Defs.{message_of, threads_in, fifo_in, quote_at, quotes_in, disp_of, level_in, priority_in, disp_in, var_at, vars_in, vars_of, number_named, msg_in, mbox_in, state_named, state_in, parent_in, history_in, state_of, states_of, row_mbox, handler_kind, kind_of, row_of, rows_of, field_in, cmp_in, value_in, filter_of, filters_of};
+ghost use Rattle.so_scene_json.specs.Defs.{message_of, slots_in, threads_in, fifo_in, quote_at, quotes_in, disp_of, level_in, priority_in, disp_in, var_at, vars_in, vars_of, number_named, msg_in, mbox_in, parent_coop, coop_of, state_named, state_in, parent_in, history_in, state_of, states_of, row_mbox, handler_kind, kind_of, row_of, rows_of, field_in, cmp_in, value_in, filter_of, filters_of};
 ghost use Rattle.so_scene.specs.Parts.{default_disp};
 ghost use Rattle.so_scene_json.specs.Reads.{Returns};
 ghost use Rattle.so_scene_json.specs.Values.{name_in};
@@ -20,8 +20,10 @@ use crate::walk::{list, position};
 use crate::write::item;
 use serde_json::Value;
 use so_code::Cmp;
-use so_ids::{DispId, MboxId, MsgId, Priority, StateId, Vars};
-use so_scene::{DispDef, DispKind, Fifo, FilterDef, Items, MessageDef, Name, SceneRefusal};
+use so_ids::{AgentId, CoopId, DispId, MboxId, MsgId, Priority, StateId, Vars};
+use so_scene::{
+    CoopDef, DispDef, DispKind, Fifo, FilterDef, Items, MessageDef, Name, SceneRefusal,
+};
 use so_state::{History, Row, RowKind, State};
 use std::alloc::Global;
 
@@ -106,6 +108,43 @@ fn row_mbox(agent: usize, names: &Declared, value: &Value) -> MboxId
     }
 }
 
+/// The parent of a cooperation, if one is named.
+fn parent_coop(names: &Declared, value: &Value) -> Option<CoopId>
+    ensures { result ≡ parent_coop names.now (view value.now) }
+{
+    if value.get("parent").is_some() {
+        Some(CoopId(number_named(names, Space::Coops, "parent", value)))
+    } else {
+        None
+    }
+}
+
+/// A cooperation that follows so many agents, without agents of its own.
+pub(crate) fn coop_of(agents: usize, names: &Declared, value: &Value) -> CoopDef
+    ensures { result ≡ coop_of agents names.now (view value.now) }
+{
+    CoopDef {
+        name: name_of(value),
+        parent: parent_coop(names, value),
+        at_start: flag_or(true, value.get("at_start")),
+        first: AgentId(position(agents)),
+        count: 0,
+    }
+}
+
+/// How many agents may be bound to a dispatcher at one time.
+fn slots_in(value: &Value) -> u32
+    ensures { result ≡ slots_in (view value.now) }
+{
+    match value.get("slots") {
+        Some(slots) => match number(1, 4096, slots) {
+            Ok(n) => n as u32,
+            Err(_) => 4096,
+        },
+        None => 4096,
+    }
+}
+
 /// How many threads a pool has.
 fn threads_in(value: &Value) -> u32
     ensures { result ≡ threads_in (view value.now) }
@@ -161,7 +200,7 @@ pub(crate) fn disp_of(value: &Value) -> DispDef
     DispDef {
         name: name_of(value),
         kind: disp_kind_in(value),
-        slots: 4096,
+        slots: slots_in(value),
         threads: threads_in(value),
         fifo: fifo_in(value),
         quotes: quotes_in(list(value.get("quotes"))),

@@ -1,38 +1,19 @@
 //! What is tried after the fourth pass, and the scene of the parts.
 
-ghost use Rattle.std.specs.Prelude.{◌≡◌, ◌≤◌, ◌∷◌, [], map, string_bytes, length, bytes_eq, nat_lt, true, false, IfOk};
-ghost use Rattle.so_lists.specs.Lists.{is_empty};
+ghost use Rattle.std.specs.Prelude.{◌≡◌, ◌≤◌, map, string_bytes, length, bytes_eq, nat_lt, true, IfOk};
 ghost use Rattle.std.specs.List.{All, IsDistinct};
 ghost use Rattle.so_scene.specs.Words.{is_name, is_text};
 ghost use Rattle.so_scene_json.specs.Kept.{IsBuilt, IsChecked, AreLists, parts_with};
 ghost use Rattle.so_scene_json.specs.Groups.{group_lists};
 ghost use Rattle.so_scene_json.specs.Reads.{Reads, Returns};
 ghost use Rattle.so_scene.specs.Lanes.{AreBound, lanes};
-ghost use Rattle.so_scene_json.specs.Scene.{coops_of, exceeds, parts_of, coops_place, first_coop, first_fault, is_refused, admitted, only, with_coop, checked, finished};
+ghost use Rattle.so_scene_json.specs.Scene.{exceeds, parts_of, checked, finished};
 
 use crate::build::Build;
 use crate::groups::group_lists;
-use crate::walk::position;
-use so_ids::{AgentId, DefFault, NoMemory};
-use so_scene::{
-    CoopDef, Field, Items, Name, Names, PlaceStep, Scene, SceneFault, SceneParts, ScenePlace,
-    SceneRefusal, Text,
-};
+use so_ids::NoMemory;
+use so_scene::{Items, Name, Names, Scene, SceneFault, SceneParts, ScenePlace, SceneRefusal, Text};
 use std::alloc::Global;
-
-/// The place of the list of cooperations.
-fn coops_place() -> ScenePlace
-    ensures { result ≡ coops_place }
-{
-    ScenePlace::root().step(PlaceStep::Key(Field::Coops))
-}
-
-/// The place of the first cooperation.
-fn first_coop() -> ScenePlace
-    ensures { result ≡ first_coop }
-{
-    coops_place().step(PlaceStep::At(0))
-}
 
 fn text_list(alloc: Global, names: &[String]) -> Result<Items<Text>, SceneRefusal>
     requires { All (λ t. is_text t ≡ true) (map string_bytes names.now) }
@@ -85,45 +66,6 @@ fn mboxes_of(alloc: Global, names: &Names) -> Result<Items<Name>, SceneRefusal>
     mbox_list(alloc, names.as_slice())
 }
 
-/// The one cooperation, of so many agents.
-fn coops_of(
-    alloc: Global,
-    coop: Option<Name>,
-    agents: usize,
-) -> Result<Items<CoopDef>, SceneRefusal>
-    ensures { Returns (coops_of coop agents) result }
-{
-    let mut coops = Items::new(alloc);
-    let Some(name) = coop else {
-        return Ok(coops);
-    };
-    match coops.push(CoopDef {
-        name,
-        first: AgentId(0),
-        count: position(agents),
-    }) {
-        Ok(()) => Ok(coops),
-        Err(_) => Err(SceneRefusal::NoMemory),
-    }
-}
-
-fn only(coops: &[Name]) -> Option<Name>
-    ensures { result ≡ only coops.now }
-{
-    match coops {
-        [name] => Some(name.copy()),
-        [] => None,
-        [_first, _second, ..] => None,
-    }
-}
-
-/// The cooperation, if there is exactly one.
-fn coops_in(alloc: Global, build: &Build) -> Result<Items<CoopDef>, SceneRefusal>
-    ensures { Returns (coops_of (only build.now.coops) (length build.now.agents)) result }
-{
-    coops_of(alloc, only(build.coops.as_slice()), build.agents.len())
-}
-
 /// The names of the groups of each dispatcher.
 fn groups_in(alloc: Global, build: &Build) -> Result<Items<Items<Name>>, SceneRefusal>
     requires { length build.now.dispatchers ≤ 64 }
@@ -135,20 +77,16 @@ fn groups_in(alloc: Global, build: &Build) -> Result<Items<Items<Name>>, SceneRe
 /// The lists of a scene that are made at its end.
 #[derive(Drop)]
 struct Lists {
-    coops: Items<CoopDef>,
     groups: Items<Items<Name>>,
     mboxes: Items<Name>,
     texts: Items<Text>,
 }
 
-/// The lists, with the cooperation if there is exactly one.
+/// The lists that are made at the end.
 fn lists_of(alloc: Global, build: &Build) -> Result<Lists, NoMemory>
     requires { IsBuilt build.now }
     ensures { IfOk result (λ lists. AreLists build.now lists) }
 {
-    let Ok(coops) = coops_in(alloc, build) else {
-        return Err(NoMemory);
-    };
     let Ok(groups) = groups_in(alloc, build) else {
         return Err(NoMemory);
     };
@@ -159,7 +97,6 @@ fn lists_of(alloc: Global, build: &Build) -> Result<Lists, NoMemory>
         return Err(NoMemory);
     };
     Ok(Lists {
-        coops,
         groups,
         mboxes,
         texts,
@@ -175,12 +112,12 @@ fn parts_with(build: Build, lists: Lists) -> SceneParts
         messages,
         dispatchers,
         groups: _,
-        coops: _,
+        coops,
         agents,
         texts: _,
+        autoshutdown,
     } = build;
     let Lists {
-        coops,
         groups,
         mboxes,
         texts,
@@ -193,67 +130,20 @@ fn parts_with(build: Build, lists: Lists) -> SceneParts
         coops,
         agents,
         texts,
+        autoshutdown,
     }
 }
 
-/// The parts, with the cooperation if there is exactly one.
+/// The parts.
 fn parts_of(build: Build) -> Result<SceneParts, SceneRefusal>
     requires { IsBuilt build }
-    ensures parts { Returns (parts_of (only build.coops) build) result }
+    ensures parts { Returns (parts_of build) result }
     ensures checked { IfOk result IsChecked }
 {
     match lists_of(build.texts.alloc(), &build) {
         Ok(lists) => Ok(parts_with(build, lists)),
         Err(NoMemory) => Err(SceneRefusal::NoMemory),
     }
-}
-
-/// The first definition rule that an agent breaks.
-fn first_fault(parts: &SceneParts) -> Option<DefFault>
-    requires { length parts.now.agents ≤ 4096 }
-    ensures { result ≡ first_fault parts.now }
-{
-    for k in 0..parts.agents.len() {
-        let fault = parts.definition_fault(AgentId(k as u32));
-        if fault.is_some() {
-            return fault;
-        }
-    }
-    None
-}
-
-/// Tells whether the cooperation would be refused when it is registered.
-fn is_refused(parts: &SceneParts) -> bool
-    requires { length parts.now.agents ≤ 4096 }
-    ensures { result ≡ is_refused parts.now }
-{
-    parts.agents.as_slice().is_empty() || first_fault(parts).is_some()
-}
-
-fn admitted(alloc: Global, parts: SceneParts) -> Result<Scene, SceneRefusal>
-    requires checked { IsChecked parts }
-    requires few { exceeds parts ≡ false }
-    requires coop { is_empty parts.coops ≡ false }
-    ensures { Reads result (admitted parts) }
-{
-    if is_refused(&parts) {
-        return Err(SceneRefusal::Fault(SceneFault::NotBuilt(first_coop())));
-    }
-    match Scene::new(alloc, parts) {
-        Ok(scene) => Ok(scene),
-        Err(_) => Err(SceneRefusal::NoMemory),
-    }
-}
-
-fn with_coop(alloc: Global, parts: SceneParts) -> Result<Scene, SceneRefusal>
-    requires checked { IsChecked parts }
-    requires few { exceeds parts ≡ false }
-    ensures { Reads result (with_coop parts) }
-{
-    if parts.coops.as_slice().is_empty() {
-        return Err(SceneRefusal::Fault(SceneFault::NotBuilt(coops_place())));
-    }
-    admitted(alloc, parts)
 }
 
 /// Tells whether there are too many agents.
@@ -302,7 +192,10 @@ fn checked(alloc: Global, parts: SceneParts) -> Result<Scene, SceneRefusal>
     if exceeds(alloc, &parts)? {
         return Err(SceneRefusal::Fault(SceneFault::OutOfRange(ScenePlace::root())));
     }
-    with_coop(alloc, parts)
+    match Scene::new(alloc, parts) {
+        Ok(scene) => Ok(scene),
+        Err(_) => Err(SceneRefusal::NoMemory),
+    }
 }
 
 /// The scene of the parts, or what is wrong with them as a whole.

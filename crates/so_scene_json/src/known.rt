@@ -6,7 +6,7 @@ ghost use Rattle.serde_json.specs.View.{view, items_view};
 ghost use Rattle.so_scene_json.specs.Shape.{acts_from};
 ghost use Rattle.so_scene_json.specs.Visits.{list_of, Leaves};
 ghost use Rattle.so_scene_json.specs.Scope.{all_states};
-ghost use Rattle.so_scene_json.specs.Known.{absent_from, name_trouble, has_signal, signal_trouble, send_trouble, id_trouble, first_id_trouble, first_state_trouble, word_unknown, act_unknown, form_unknown, field_unknown, group_unfit, kind_at, object_unknown, entered, knows, known_step};
+ghost use Rattle.so_scene_json.specs.Known.{absent_from, name_trouble, has_signal, signal_trouble, send_trouble, id_trouble, first_id_trouble, first_state_trouble, first_coop_trouble, word_unknown, act_unknown, form_unknown, field_unknown, group_unfit, kind_at, object_unknown, entered, knows, known_step};
 ghost use Rattle.so_scene_json.specs.Twice.{disp_number_in};
 
 use crate::act_table::Word;
@@ -69,6 +69,17 @@ impl Declared {
                 }
             }
             [_target] => None,
+            [] => None,
+        }
+    }
+}
+
+impl Declared {
+    fn first_coop(&self, list: &[Value]) -> Option<Trouble>
+        ensures { result ≡ first_coop_trouble self.now (items_view list.now) }
+    {
+        match list {
+            [first, ..] => self.name(Space::Coops, first),
             [] => None,
         }
     }
@@ -219,6 +230,7 @@ impl Known {
             Word::Switch => self.scope.first_state(list),
             Word::Subscribe | Word::Unsubscribe => first_id(self.scope.rows.as_slice(), list),
             Word::SetFilter | Word::DropFilter => first_id(self.scope.filters.as_slice(), list),
+            Word::Register | Word::Deregister => self.names.first_coop(list),
             _ => None,
         }
     }

@@ -102,7 +102,7 @@ static SCENE: [Rule; 9] = [
     Rule {
         field: Field::Autoshutdown,
         required: false,
-        form: Form::Later,
+        form: Form::Flag,
     },
     Rule {
         field: Field::Reaction,
@@ -191,7 +191,7 @@ static DISPATCHER: [Rule; 6] = [
     Rule {
         field: Field::Slots,
         required: false,
-        form: Form::Later,
+        form: Form::Number(1, 4096),
     },
     Rule {
         field: Field::Threads,
@@ -219,12 +219,12 @@ static COOP: [Rule; 5] = [
     Rule {
         field: Field::Parent,
         required: false,
-        form: Form::Later,
+        form: Form::NameIn(Space::Coops),
     },
     Rule {
         field: Field::AtStart,
         required: false,
-        form: Form::Later,
+        form: Form::Flag,
     },
     Rule {
         field: Field::Reaction,

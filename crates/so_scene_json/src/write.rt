@@ -9,7 +9,7 @@ ghost use Rattle.so_scene.specs.Names.{number_in};
 ghost use Rattle.so_scene.specs.Words.{is_text};
 ghost use Rattle.so_scene_json.specs.Twice.{names_in};
 ghost use Rattle.so_scene_json.specs.Visits.{narrow, Leaves};
-ghost use Rattle.so_scene_json.specs.Writer.{operand_at, dest_at, cmp_at, count_at, string_at, text_at, args_from, send_instr, send_at, state_at, row_at, filter_at, or_idle, step_instr, word_instr, with_text, text_number, with_instr, word_written, act_written, acts_written};
+ghost use Rattle.so_scene_json.specs.Writer.{operand_at, dest_at, cmp_at, count_at, string_at, text_at, args_from, send_instr, send_at, state_at, row_at, filter_at, coop_at, or_idle, step_instr, word_instr, with_text, text_number, with_instr, word_written, act_written, acts_written};
 ghost use Rattle.so_scene_json.specs.Reads.{LeavesWith};
 
 use crate::act_table::{Allowed, Word, is_allowed};
@@ -21,7 +21,7 @@ use crate::values::{comparison, count, dest, operand};
 use crate::walk::position;
 use serde_json::Value;
 use so_code::{Args, Cmp, Dest, Instr, Operand};
-use so_ids::{FilterId, MboxId, MsgId, RowId, StateId, Target, TextId};
+use so_ids::{CoopId, FilterId, MboxId, MsgId, RowId, StateId, Target, TextId};
 use so_scene::{Items, Names, SceneRefusal, is_text};
 
 /// The texts so far, and the instructions of an agent so far with the names and ids that they may use.
@@ -186,6 +186,16 @@ fn filter(scope: &Scope, list: &[Value]) -> Option<FilterId>
     }
 }
 
+/// The cooperation that an act names.
+fn coop(names: &Declared, list: &[Value]) -> Option<CoopId>
+    ensures { result ≡ coop_at names.now (items_view list.now) }
+{
+    match names.coops.number(string_in(list, 0)) {
+        Some(k) => Some(CoopId(position(k))),
+        None => None,
+    }
+}
+
 fn switch(state: Option<StateId>) -> Instr
     ensures { result ≡ or_idle instr.Switch state }
 {
@@ -227,6 +237,24 @@ fn drop_filter(filter: Option<FilterId>) -> Instr
 {
     match filter {
         Some(filter) => Instr::DropFilter { filter },
+        None => Instr::Skip { count: 0 },
+    }
+}
+
+fn register(coop: Option<CoopId>) -> Instr
+    ensures { result ≡ or_idle instr.Register coop }
+{
+    match coop {
+        Some(coop) => Instr::Register { coop },
+        None => Instr::Skip { count: 0 },
+    }
+}
+
+fn deregister(coop: Option<CoopId>) -> Instr
+    ensures { result ≡ or_idle instr.Deregister coop }
+{
+    match coop {
+        Some(coop) => Instr::Deregister { coop },
         None => Instr::Skip { count: 0 },
     }
 }
@@ -293,6 +321,8 @@ fn instr(
         Word::Unsubscribe => unsubscribe(row(scope, list)),
         Word::SetFilter => set_filter(filter(scope, list)),
         Word::DropFilter => drop_filter(filter(scope, list)),
+        Word::Register => register(coop(names, list)),
+        Word::Deregister => deregister(coop(names, list)),
         Word::Stop => Instr::Stop,
         _ => step(rest, word, list),
     }

@@ -6,6 +6,7 @@ use Rattle.std.specs.Str.{is_utf8}
 use Rattle.serde_json.specs.Data.{Data, string, item, no_items, Items}
 use Rattle.serde_json.specs.Events.{items_len}
 use Rattle.serde_json.specs.View.{items_of}
+use Rattle.so_ids.specs.declared.CoopId.{CoopId}
 use Rattle.so_ids.specs.declared.MboxId.{MboxId}
 use Rattle.so_ids.specs.declared.MsgId.{MsgId}
 use Rattle.so_ids.specs.declared.StateId.{StateId}
@@ -26,7 +27,7 @@ use Rattle.so_scene.specs.declared.parts.SceneParts.{SceneParts}
 use Rattle.so_scene.specs.Checked.{IsScene, IsAgent, NamesParts, HasId, filter_ids, filter_id}
 use Rattle.so_scene.specs.Names.{number_in}
 use Rattle.so_scene.specs.declared.parts.DispKind.TheVariants.{OneThread}
-use Rattle.so_scene.specs.Parts.{message_of, message_name, agent_name, disp_name, mbox_names, mboxes, mbox_name, no_message, text_of}
+use Rattle.so_scene.specs.Parts.{message_of, message_name, agent_name, coop_name, disp_name, mbox_names, mboxes, mbox_name, no_coop, no_message, text_of}
 use Rattle.so_scene.specs.Words.{is_name, is_text}
 use Rattle.so_scene_json.specs.declared.act_table.Allowed.{Allowed}
 use Rattle.so_scene_json.specs.declared.act_table.Allowed.TheVariants.{AnyAct, NoSwitch, Safe}
@@ -50,7 +51,7 @@ use Rattle.so_scene_json.specs.Values.{name_of, ok_or, text_of as text_read}
 use Rattle.so_scene_json.specs.Visits.{narrow}
 use Rattle.so_scene_json.proofs.Codes.{switches, restrains}
 use Rattle.so_scene_json.specs.Writer.{act_written, with_instr, or_idle, state_id}
-use Rattle.so_scene_writer.specs.ActData.{text_data, message_text, state_text, id_text, act_data, act_of, act_one, args_data, operand_data, dest_data, cmp_data, count_data}
+use Rattle.so_scene_writer.specs.ActData.{text_data, message_text, coop_text, state_text, id_text, act_data, act_of, act_one, args_data, operand_data, dest_data, cmp_data, count_data}
 use Rattle.so_scene.specs.Written.{AreOperands, ArePadded, may_be_safe, to_temporary}
 use Rattle.so_scene_writer.proofs.Writable.{IsName, IsText, IsStateName, IsWritable, IsWritableAgent, IsWrittenInstr, next_text, IsNumbered}
 use Rattle.so_scene_writer.proofs.Named.{each_at, name_utf8, text_utf8, swap, number_at, number_take, new_take, id_number, id_legal, within}
@@ -103,6 +104,7 @@ message_signal m = m.signal
 
 -- the names that the second pass leaves
 pub record Stands (s : SceneParts) (names : Declared) : Type 0 where
+  pub coops : names.coops ≡ map coop_name s.coops
   pub agents : names.agents ≡ map agent_name s.agents
   pub mboxes : names.mboxes ≡ s.mboxes
   pub messages : names.messages ≡ map message_name s.messages
@@ -144,6 +146,15 @@ mbox_legal s m g l = each_at IsName (mbox_names s) m.0 [] (each-append IsName (m
 
 pub mbox_number : (s : SceneParts) (names : Declared) (m : MboxId) → IsScene s → Stands s names → m.0 < mboxes s → number_in (names_in space.Mboxes names) (mbox_name s m) ≡ Some m.0
 mbox_number s names m h n l = rw (n.agents, n.mboxes) (number_at (mbox_names s) m.0 h.names (omega (arith, mboxes_len s)))
+
+pub coop_legal : (s : SceneParts) (c : CoopId) → IsWritable s → c.0 < length s.coops → is_name (coop_text s c) ≡ true
+coop_legal s c g l = each_at (λ c. is_name c.name ≡ true) s.coops c.0 no_coop g.coops l
+
+pub coop_number : (s : SceneParts) (names : Declared) (c : CoopId) → IsScene s → Stands s names → c.0 < length s.coops → number_in names.coops (coop_text s c) ≡ Some c.0
+coop_number s names c h n l =
+    ap (λ (l : List (List ℕ)). number_in l (coop_text s c)) n.coops
+    ∙ (ap (λ t. number_in (map coop_name s.coops) t) (sym (get_map coop_name s.coops c.0 no_coop [] l))
+    ∙ number_at (map coop_name s.coops) c.0 h.coop_names (omega (arith, map_len coop_name s.coops)))
 
 abbrev default : List ℕ
 default = codes "default"
@@ -259,12 +270,12 @@ act_fine s a allowed rest (instr.Subscribe row) c t r = name_fine allowed rest w
 act_fine s a allowed rest (instr.Unsubscribe row) c t r = name_fine allowed rest word.Unsubscribe (id_text a.row_ids row.0) (may allowed word.Unsubscribe (item (text_data (id_text a.row_ids row.0)) no_items) refl t.safe) refl refl (row_legal s a row.0 c t.names)
 act_fine s a allowed rest (instr.SetFilter f) c t r = name_fine allowed rest word.SetFilter (id_text (filter_ids a) f.0) (may allowed word.SetFilter (item (text_data (id_text (filter_ids a) f.0)) no_items) refl t.safe) refl refl (filter_legal s a f.0 c t.names)
 act_fine s a allowed rest (instr.DropFilter f) c t r = name_fine allowed rest word.DropFilter (id_text (filter_ids a) f.0) (may allowed word.DropFilter (item (text_data (id_text (filter_ids a) f.0)) no_items) refl t.safe) refl refl (filter_legal s a f.0 c t.names)
+act_fine s a allowed rest (instr.Register coop) c t r = name_fine allowed rest word.Register (coop_text s coop) (may allowed word.Register (item (text_data (coop_text s coop)) no_items) refl (λ r. refl)) refl refl (coop_legal s coop c.writable t.names)
+act_fine s a allowed rest (instr.Deregister coop) c t r = name_fine allowed rest word.Deregister (coop_text s coop) (may allowed word.Deregister (item (text_data (coop_text s coop)) no_items) refl (λ r. refl)) refl refl (coop_legal s coop c.writable t.names)
 act_fine s a allowed rest instr.Stop c t r = rw (may allowed word.Stop no_items refl (λ r. refl))
 act_fine s a allowed rest (instr.Delayed x1 x2 x3 x4) c t r = absurd t.names
 act_fine s a allowed rest (instr.Timer x1 x2 x3 x4 x5 x6) c t r = absurd t.names
 act_fine s a allowed rest (instr.Cancel x1) c t r = absurd t.names
-act_fine s a allowed rest (instr.Register x1) c t r = absurd t.names
-act_fine s a allowed rest (instr.Deregister x1) c t r = absurd t.names
 act_fine s a allowed rest (instr.Close x1 x2) c t r = absurd t.names
 act_fine s a allowed rest (instr.Receive x1 x2 x3 x4 x5 x6 x7) c t r = absurd t.names
 act_fine s a allowed rest (instr.Case x1 x2) c t r = absurd t.names
@@ -316,12 +327,12 @@ act_known s a names allowed rest (instr.Subscribe row) c n t = rw (name_utf8 _ (
 act_known s a names allowed rest (instr.Unsubscribe row) c n t = rw (name_utf8 _ (row_legal s a row.0 c t.names), row_number_again s a row.0 c t.names)
 act_known s a names allowed rest (instr.SetFilter f) c n t = rw (name_utf8 _ (filter_legal s a f.0 c t.names), filter_number_again s a f.0 c t.names)
 act_known s a names allowed rest (instr.DropFilter f) c n t = rw (name_utf8 _ (filter_legal s a f.0 c t.names), filter_number_again s a f.0 c t.names)
+act_known s a names allowed rest (instr.Register coop) c n t = ap (λ (d : Data). act_unknown (knows_at names a) (act_one (codes "register") d)) (shown_name (coop_text s coop) (coop_legal s coop c.writable t.names)) ∙ is_there names.coops (coop_text s coop) coop.0 (coop_number s names coop c.scene n t.names)
+act_known s a names allowed rest (instr.Deregister coop) c n t = ap (λ (d : Data). act_unknown (knows_at names a) (act_one (codes "deregister") d)) (shown_name (coop_text s coop) (coop_legal s coop c.writable t.names)) ∙ is_there names.coops (coop_text s coop) coop.0 (coop_number s names coop c.scene n t.names)
 act_known s a names allowed rest instr.Stop c n t = refl
 act_known s a names allowed rest (instr.Delayed x1 x2 x3 x4) c n t = absurd t.names
 act_known s a names allowed rest (instr.Timer x1 x2 x3 x4 x5 x6) c n t = absurd t.names
 act_known s a names allowed rest (instr.Cancel x1) c n t = absurd t.names
-act_known s a names allowed rest (instr.Register x1) c n t = absurd t.names
-act_known s a names allowed rest (instr.Deregister x1) c n t = absurd t.names
 act_known s a names allowed rest (instr.Close x1 x2) c n t = absurd t.names
 act_known s a names allowed rest (instr.Receive x1 x2 x3 x4 x5 x6 x7) c n t = absurd t.names
 act_known s a names allowed rest (instr.Case x1 x2) c n t = absurd t.names
@@ -373,6 +384,9 @@ few_filters s a k c e =
     let m : length (filter_ids a) ≡ length a.filters = map_len filter_id a.filters in
     let n : length a.filters ≤ 32 = c.agent.few_filters in
     omega arith
+
+pub few_coops : (s : SceneParts) (c : CoopId) → IsScene s → c.0 < length s.coops → c.0 < 2 ^ 32
+few_coops s c h l = let few : length s.coops ≤ 1024 = h.few_coops in omega arith
 
 pub narrow_small : (k : ℕ) → k < 2 ^ 32 → narrow k ≡ k
 narrow_small k l = omega arith
@@ -441,12 +455,12 @@ act_again s a names allowed rest n code (instr.Subscribe row) c st t r m k = rw 
 act_again s a names allowed rest n code (instr.Unsubscribe row) c st t r m k = rw (may allowed word.Unsubscribe (item (text_data (id_text a.row_ids row.0)) no_items) refl t.safe, name_utf8 _ (row_legal s a row.0 c t.names), row_number_again s a row.0 c t.names, narrow_small row.0 (few_rows s a row.0 c t.names))
 act_again s a names allowed rest n code (instr.SetFilter f) c st t r m k = rw (may allowed word.SetFilter (item (text_data (id_text (filter_ids a) f.0)) no_items) refl t.safe, name_utf8 _ (filter_legal s a f.0 c t.names), filter_number_again s a f.0 c t.names, narrow_small f.0 (few_filters s a f.0 c t.names))
 act_again s a names allowed rest n code (instr.DropFilter f) c st t r m k = rw (may allowed word.DropFilter (item (text_data (id_text (filter_ids a) f.0)) no_items) refl t.safe, name_utf8 _ (filter_legal s a f.0 c t.names), filter_number_again s a f.0 c t.names, narrow_small f.0 (few_filters s a f.0 c t.names))
+act_again s a names allowed rest n code (instr.Register coop) c st t r m k = rw (may allowed word.Register (item (text_data (coop_text s coop)) no_items) refl (λ r. refl), name_utf8 _ (coop_legal s coop c.writable t.names), coop_number s names coop c.scene st t.names, narrow_small coop.0 (few_coops s coop c.scene t.names))
+act_again s a names allowed rest n code (instr.Deregister coop) c st t r m k = rw (may allowed word.Deregister (item (text_data (coop_text s coop)) no_items) refl (λ r. refl), name_utf8 _ (coop_legal s coop c.writable t.names), coop_number s names coop c.scene st t.names, narrow_small coop.0 (few_coops s coop c.scene t.names))
 act_again s a names allowed rest n code instr.Stop c st t r m k = rw (may allowed word.Stop no_items refl (λ r. refl))
 act_again s a names allowed rest n code (instr.Delayed x1 x2 x3 x4) c st t r m k = absurd t.names
 act_again s a names allowed rest n code (instr.Timer x1 x2 x3 x4 x5 x6) c st t r m k = absurd t.names
 act_again s a names allowed rest n code (instr.Cancel x1) c st t r m k = absurd t.names
-act_again s a names allowed rest n code (instr.Register x1) c st t r m k = absurd t.names
-act_again s a names allowed rest n code (instr.Deregister x1) c st t r m k = absurd t.names
 act_again s a names allowed rest n code (instr.Close x1 x2) c st t r m k = absurd t.names
 act_again s a names allowed rest n code (instr.Receive x1 x2 x3 x4 x5 x6 x7) c st t r m k = absurd t.names
 act_again s a names allowed rest n code (instr.Case x1 x2) c st t r m k = absurd t.names

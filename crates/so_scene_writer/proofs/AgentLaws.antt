@@ -10,15 +10,18 @@ use Rattle.std.proofs.lemmas.List.FromFn.{fill_by_all}
 use Rattle.serde_json.specs.Data.{Data, object, Items, member, no_members}
 use Rattle.serde_json.specs.Find.{as_str, get}
 use Rattle.serde_json.specs.View.{items_of}
+use Rattle.so_ids.specs.declared.CoopId.{CoopId}
 use Rattle.so_ids.specs.declared.DispId.{DispId}
 use Rattle.so_ids.specs.declared.Priority.{Priority}
 use Rattle.so_code.specs.Values.{fits}
 use Rattle.so_state.specs.declared.choice.Row.{Row}
 use Rattle.so_state.specs.declared.states.State.{State}
 use Rattle.so_state.specs.Fault.{tree_fault}
+use Rattle.so_lists.specs.Lists.{is_empty}
 use Rattle.so_lists.proofs.Filters.{each-weaker}
 use Rattle.so_scene.specs.declared.fault.SceneFault.{SceneFault}
 use Rattle.so_scene.specs.declared.parts.AgentDef.{AgentDef}
+use Rattle.so_scene.specs.declared.parts.CoopDef.{CoopDef}
 use Rattle.so_scene.specs.declared.parts.DispKind.{DispKind}
 use Rattle.so_scene.specs.declared.parts.DispKind.TheVariants.{OneThread, ActiveObj, ActiveGroup, ThreadPool, AdvThreadPool, StrictlyOrdered, QuotedRoundRobin, OnePerPrio}
 use Rattle.so_scene.specs.declared.parts.FilterDef.{FilterDef}
@@ -44,7 +47,7 @@ use Rattle.so_scene_json.specs.declared.table.Space.TheVariants as space
 use Rattle.so_scene_json.specs.declared.values.Trouble.{Trouble}
 use Rattle.so_scene_json.specs.declared.write.Writer.{Writer}
 use Rattle.so_scene_json.specs.Table.{required, optional, later}
-use Rattle.so_scene_json.specs.Build.{build_step, agent_added, agent_written, agent_with, with_agent, with_code, tree_of, is_long, written, fresh}
+use Rattle.so_scene_json.specs.Build.{build_step, agent_added, agent_written, agent_with, with_agent, with_code, tree_of, is_long, last_coop, one_more, written, fresh}
 use Rattle.so_scene_json.specs.Defs.{disp_in, level_in, priority_in, narrow_or_zero, state_of, row_of, filter_of, states_of as states_read, rows_of as rows_read, filters_of as filters_read, vars_in, var_at}
 use Rattle.so_scene_json.specs.Groups.{with_group, group_number}
 use Rattle.so_scene_json.specs.Known.{known_step, group_fault, group_unfit, kind_at}
@@ -465,9 +468,9 @@ agent_name_read s a e = rw (got s a (codes "name") (λ x y. refl), name_utf8 a.n
 vars_found : (s : SceneParts) (a : AgentDef) → Told s a → vars_in (list_of (get (codes "vars") (agent_data s a))) ≡ a.vars.0
 vars_found s a c = ap (λ (o : Option Data). vars_in (list_of o)) (got s a (codes "vars") (λ x y. refl)) ∙ vars_again a.vars.0 c.agent.vars c.written.vars
 
-agent_read : (k : ℕ) (s : SceneParts) (a : AgentDef) (names : Declared) (groups : List Group) → Told s a → Stands s names → group_number a.disp (group_text s a) groups ≡ a.group → agent_with k names groups (agent_data s a) a.tree (scope_for a) a.code ≡ a
-agent_read k s a names groups c st g =
-    agent_made a _ _ _ _ _ _ _ _ (agent_name_read s a c.written.name) (sym c.agent.coop) (disp_id_again s names a c st)
+agent_read : (k : ℕ) (s : SceneParts) (a : AgentDef) (names : Declared) (groups : List Group) (coop : CoopId) → Told s a → Stands s names → coop.0 ≡ a.coop.0 → group_number a.disp (group_text s a) groups ≡ a.group → agent_with k coop names groups (agent_data s a) a.tree (scope_for a) a.code ≡ a
+agent_read k s a names groups coop c st o g =
+    agent_made a _ _ _ _ _ _ _ _ (agent_name_read s a c.written.name) o (disp_id_again s names a c st)
     (ap (λ (d : DispId). group_number d (group_in (agent_data s a)) groups) (disp_in_again s names a c st) ∙ (ap (λ (o : Option (List ℕ)). group_number a.disp o groups) (group_in_again s a c) ∙ g))
     (priority_read s a) (vars_found s a c) (rows_again k s a names c st) (filters_again s a names c st)
 
@@ -487,8 +490,13 @@ not_long s a c =
     rw (got s a (codes "states") (λ x y. refl), got s a (codes "on") (λ x y. refl), shown_len (state_data s a) (states_of a), shown_len (row_data s a) (rows_of a), le-ltb 63 (length (states_of a)) (omega arith), le-ltb 128 (length (rows_of a)) (omega arith))
 
 -- what has been built, with so many texts and with these groups
-abbrev pub built : SceneParts → Declared → List (List ℕ) → List AgentDef → ℕ → List Group → Build
-built s names coops agents n groups = record { names = names; messages = s.messages; dispatchers = s.dispatchers; groups = groups; coops = coops; agents = agents; texts = take n s.texts }
+abbrev pub built : SceneParts → Declared → List CoopDef → List AgentDef → ℕ → List Group → Build
+built s names coops agents n groups = record { names = names; messages = s.messages; dispatchers = s.dispatchers; groups = groups; coops = coops; agents = agents; texts = take n s.texts; autoshutdown = s.autoshutdown }
+
+-- an agent of the last of these cooperations
+pub record IsLast (coops : List CoopDef) (a : AgentDef) : Type 0 where
+  pub some : is_empty coops ≡ false
+  pub last : (last_coop coops).0 ≡ a.coop.0
 
 -- the groups behind an agent
 abbrev pub regrouped : SceneParts → List Group → AgentDef → List Group
@@ -497,25 +505,25 @@ regrouped s groups a = with_group a.disp (group_text s a) groups
 tree_sound : (place : Place) (states : List State) → tree_fault states ≡ None → tree_of place states ≡ Ok states
 tree_sound place states e = rw e
 
-agent_added_again : (s : SceneParts) (names : Declared) (coops : List (List ℕ)) (agents : List AgentDef) (n : ℕ) (groups : List Group) (a : AgentDef) → Told s a → Stands s names → group_number a.disp (group_text s a) groups ≡ a.group
-    → agent_added (built s names coops agents n groups) (agent_data s a) a.tree (at s a (texts_behind n a.code) a.code) ≡ built s names coops (agents ++ a ∷ []) (texts_behind n a.code) (regrouped s groups a)
-agent_added_again s names coops agents n groups a c st g =
-    ap (λ (x : AgentDef). built s names coops (agents ++ x ∷ []) (texts_behind n a.code) (with_group (disp_in names (agent_data s a)) (group_in (agent_data s a)) groups)) (agent_read (length agents) s a names groups c st g)
-    ∙ (ap (λ (d : DispId). built s names coops (agents ++ a ∷ []) (texts_behind n a.code) (with_group d (group_in (agent_data s a)) groups)) (disp_in_again s names a c st)
-    ∙ ap (λ (o : Option (List ℕ)). built s names coops (agents ++ a ∷ []) (texts_behind n a.code) (with_group a.disp o groups)) (group_in_again s a c))
+agent_added_again : (s : SceneParts) (names : Declared) (coops : List CoopDef) (agents : List AgentDef) (n : ℕ) (groups : List Group) (a : AgentDef) → Told s a → Stands s names → IsLast coops a → group_number a.disp (group_text s a) groups ≡ a.group
+    → agent_added (built s names coops agents n groups) (agent_data s a) a.tree (at s a (texts_behind n a.code) a.code) ≡ built s names (one_more coops) (agents ++ a ∷ []) (texts_behind n a.code) (regrouped s groups a)
+agent_added_again s names coops agents n groups a c st o g =
+    ap (λ (x : AgentDef). built s names (one_more coops) (agents ++ x ∷ []) (texts_behind n a.code) (with_group (disp_in names (agent_data s a)) (group_in (agent_data s a)) groups)) (agent_read (length agents) s a names groups (last_coop coops) c st o.last g)
+    ∙ (ap (λ (d : DispId). built s names (one_more coops) (agents ++ a ∷ []) (texts_behind n a.code) (with_group d (group_in (agent_data s a)) groups)) (disp_in_again s names a c st)
+    ∙ ap (λ (o : Option (List ℕ)). built s names (one_more coops) (agents ++ a ∷ []) (texts_behind n a.code) (with_group a.disp o groups)) (group_in_again s a c))
 
-agent_opens : (s : SceneParts) (names : Declared) (coops : List (List ℕ)) (agents : List AgentDef) (n : ℕ) (groups : List Group) (a : AgentDef) (place : Place) → Told s a → Stands s names → AreNumbered n a.code → n ≤ length s.texts → group_number a.disp (group_text s a) groups ≡ a.group
-    → with_agent place (built s names coops agents n groups) (agent_data s a) ≡ Ok (built s names coops (agents ++ a ∷ []) (texts_behind n a.code) (regrouped s groups a))
-agent_opens s names coops agents n groups a place c st m l g =
+agent_opens : (s : SceneParts) (names : Declared) (coops : List CoopDef) (agents : List AgentDef) (n : ℕ) (groups : List Group) (a : AgentDef) (place : Place) → Told s a → Stands s names → AreNumbered n a.code → n ≤ length s.texts → IsLast coops a → group_number a.disp (group_text s a) groups ≡ a.group
+    → with_agent place (built s names coops agents n groups) (agent_data s a) ≡ Ok (built s names (one_more coops) (agents ++ a ∷ []) (texts_behind n a.code) (regrouped s groups a))
+agent_opens s names coops agents n groups a place c st m l o g =
     let b : Build = built s names coops agents n groups in
     let d : Data = agent_data s a in
     let few : length a.code ≤ 1024 = c.agent.code.few in
-    rw (not_long s a c)
+    rw (not_long s a c, o.some)
     (ap (λ (x : Scope). tree_of place (states_read x (state_items d)) >>= λ tree. with_code place b d tree (written b d)) (scope_again s a c)
     ∙ (ap (λ (x : List State). tree_of place x >>= λ tree. with_code place b d tree (written b d)) (states_again s a c)
     ∙ (ap (λ r. r >>= λ tree. with_code place b d tree (written b d)) (tree_sound place a.tree c.agent.tree.sound)
     ∙ (ap (λ (w : Writer). with_code place b d a.tree w) (written_again s a names n c st m l)
-    ∙ rw (le-ltb 1024 (length a.code) few) (ap ok (agent_added_again s names coops agents n groups a c st g))))))
+    ∙ rw (le-ltb 1024 (length a.code) few) (ap ok (agent_added_again s names coops agents n groups a c st o g))))))
 
 state_build : (b : Build) (n : ℕ) (d : Data) (place : Place) → run build_step b (visits (suc n) object.State place d) ≡ Ok b
 unfolding visits fields_of field_visits run
@@ -533,11 +541,11 @@ pub all_unit : {X : Type 0} (xs : List X) → AllByRecursion (λ (x : X). Unit {
 all_unit [] = tt
 all_unit (x ∷ xs) = (tt, all_unit xs)
 
-pub agent_build : (s : SceneParts) (names : Declared) (coops : List (List ℕ)) (agents : List AgentDef) (n : ℕ) (groups : List Group) (k : ℕ) (a : AgentDef) (place : Place) → Told s a → Stands s names → AreNumbered n a.code → n ≤ length s.texts → group_number a.disp (group_text s a) groups ≡ a.group
-    → run build_step (built s names coops agents n groups) (visits (suc (suc k)) object.Agent place (agent_data s a)) ≡ Ok (built s names coops (agents ++ a ∷ []) (texts_behind n a.code) (regrouped s groups a))
-agent_build s names coops agents n groups k a place c st m l g =
-    let b : Build = built s names coops (agents ++ a ∷ []) (texts_behind n a.code) (regrouped s groups a) in
-    agent_run build_step (built s names coops agents n groups) b b b b k s a place (λ f x. refl) (agent_opens s names coops agents n groups a place c st m l g) refl refl refl refl refl
+pub agent_build : (s : SceneParts) (names : Declared) (coops : List CoopDef) (agents : List AgentDef) (n : ℕ) (groups : List Group) (k : ℕ) (a : AgentDef) (place : Place) → Told s a → Stands s names → AreNumbered n a.code → n ≤ length s.texts → IsLast coops a → group_number a.disp (group_text s a) groups ≡ a.group
+    → run build_step (built s names coops agents n groups) (visits (suc (suc k)) object.Agent place (agent_data s a)) ≡ Ok (built s names (one_more coops) (agents ++ a ∷ []) (texts_behind n a.code) (regrouped s groups a))
+agent_build s names coops agents n groups k a place c st m l o g =
+    let b : Build = built s names (one_more coops) (agents ++ a ∷ []) (texts_behind n a.code) (regrouped s groups a) in
+    agent_run build_step (built s names coops agents n groups) b b b b k s a place (λ f x. refl) (agent_opens s names coops agents n groups a place c st m l o g) refl refl refl refl refl
     refl (run_same build_step (visits (suc k) object.State) (state_data s a) (λ x. Unit {0}) b (λ x p h. state_build b k (state_data s a x) p) (states_of a) _ 0 (all_unit (states_of a)))
     refl (run_same build_step (visits (suc k) object.Filter) (filter_data s) (λ x. Unit {0}) b (λ x p h. filter_build b k (filter_data s x) p) a.filters _ 0 (all_unit a.filters))
     refl refl refl (run_same build_step (visits (suc k) object.Row) (row_data s a) (λ x. Unit {0}) b (λ x p h. row_build b k (row_data s a x) p) (rows_of a) _ 0 (all_unit (rows_of a))) refl

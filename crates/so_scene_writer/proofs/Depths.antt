@@ -21,8 +21,8 @@ use Rattle.so_scene.specs.declared.parts.SceneParts.{SceneParts}
 use Rattle.so_scene.specs.Checked.{is_pool, has_quotes}
 use Rattle.so_scene.specs.Parts.{mbox_name}
 use Rattle.so_scene_writer.specs.Sources.{StateSource, RowSource, states_of, rows_of, start_acts, finish_acts}
-use Rattle.so_scene_writer.specs.ActData.{text_data, count_data, group_text, message_text, state_text, operand_data, dest_data, args_data, act_data, acts_data}
-use Rattle.so_scene_writer.specs.Canonical.{declared, disp_data, disp_kind_word, fifo_word, of_pool, of_quoted, given, list_data, number_data, message_data, state_data, filter_data, row_data, agent_data, coop_data, scene_data, dead_data, do_data, row_state_data, suppress_data, switch_data, transfer_data}
+use Rattle.so_scene_writer.specs.ActData.{text_data, count_data, coop_text, group_text, message_text, state_text, operand_data, dest_data, args_data, act_data, acts_data}
+use Rattle.so_scene_writer.specs.Canonical.{agents_of, declared, disp_data, disp_kind_word, fifo_word, of_pool, of_quoted, given, list_data, number_data, message_data, state_data, filter_data, row_data, agent_data, coop_data, scene_data, dead_data, do_data, row_state_data, suppress_data, switch_data, transfer_data}
 
 both_under : (a b n : ℕ) → a ≤ n → b ≤ n → max a b ≤ n
 both_under a b n h l = omega arith
@@ -165,7 +165,11 @@ agent_under s a =
     omega arith
 
 coop_under : (s : SceneParts) (c : CoopDef) → depth (coop_data s c) ≤ 7
-coop_under s c = let p : depth (list_data (agent_data s) s.agents) ≤ 6 = array_under 5 (agent_data s) s.agents (agent_under s) in omega arith
+coop_under s c =
+    let o : Option Data = option_map (λ p. text_data (coop_text s p)) c.parent in
+    let p : depth (list_data (agent_data s) (agents_of s c)) ≤ 6 = array_under 5 (agent_data s) (agents_of s c) (agent_under s) in
+    let q : members_depth (given (codes "parent") o no_members) ≤ 6 = given_under 6 (codes "parent") o no_members (map_under 6 (coop_text s) c.parent) (omega arith) in
+    omega arith
 
 message_under : (m : MessageDef) → depth (message_data m) ≤ 1
 message_under m = omega arith
@@ -181,8 +185,10 @@ disp_under d =
     let p : members_depth behind ≤ 1 = given_under 1 (codes "threads") o no_members (kept_under (is_pool d.kind) (count_data d.threads) (omega arith)) (omega arith) in
     let quotes : Data = list_data count_data d.quotes in
     let u : Option Data = of_quoted d.kind quotes in
-    let v : members_depth (given (codes "quotes") u behind) ≤ 1 = given_under 1 (codes "quotes") u behind (kept_under (has_quotes d.kind) quotes (array_under 0 count_data d.quotes (λ n. omega arith))) p in
-    let ms : Members = member (codes "kind") (string (disp_kind_word d.kind)) (member (codes "name") (text_data d.name) (given (codes "quotes") u behind)) in
+    let slots : Members = member (codes "slots") (count_data d.slots) behind in
+    let w : members_depth slots ≤ 1 = omega arith in
+    let v : members_depth (given (codes "quotes") u slots) ≤ 1 = given_under 1 (codes "quotes") u slots (kept_under (has_quotes d.kind) quotes (array_under 0 count_data d.quotes (λ n. omega arith))) w in
+    let ms : Members = member (codes "kind") (string (disp_kind_word d.kind)) (member (codes "name") (text_data d.name) (given (codes "quotes") u slots)) in
     let f : Option Data = of_pool d.kind (string (fifo_word d.fifo)) in
     let q : members_depth ms ≤ 1 = omega arith in
     let r : members_depth (given (codes "fifo") f ms) ≤ 1 = given_under 1 (codes "fifo") f ms (kept_under (is_pool d.kind) (string (fifo_word d.fifo)) (omega arith)) q in

@@ -47,19 +47,20 @@ use Rattle.so_scene_writer.proofs.ActLaws.{Stands, get_map, map_len}
 
 -- ---- what is written
 
-disp_plain : Bool → Bool → DispKind → Fifo → Items → ℕ → List ℕ → Data
-disp_plain pool quoted kind fifo quotes threads name = object
+disp_plain : Bool → Bool → DispKind → Fifo → Items → ℕ → ℕ → List ℕ → Data
+disp_plain pool quoted kind fifo quotes slots threads name = object
     (given (codes "fifo") (if pool then Some (string (fifo_word fifo)) else None)
     (member (codes "kind") (string (disp_kind_word kind))
     (member (codes "name") (string name)
     (given (codes "quotes") (if quoted then Some (array quotes) else None)
-    (given (codes "threads") (if pool then Some (count_data threads) else None) no_members)))))
+    (member (codes "slots") (count_data slots)
+    (given (codes "threads") (if pool then Some (count_data threads) else None) no_members))))))
 
 abbrev quote_items : DispDef → Items
 quote_items d = items_of (map count_data d.quotes)
 
 abbrev plain_disp : DispDef → Data
-plain_disp d = disp_plain (is_pool d.kind) (has_quotes d.kind) d.kind d.fifo (quote_items d) d.threads d.name
+plain_disp d = disp_plain (is_pool d.kind) (has_quotes d.kind) d.kind d.fifo (quote_items d) d.slots d.threads d.name
 
 disp_shown : (d : DispDef) → is_name d.name ≡ true → disp_data d ≡ plain_disp d
 unfolding disp_plain
@@ -78,6 +79,9 @@ kind_again OnePerPrio = refl
 fifo_again : (fifo : Fifo) → fifo_of (string (fifo_word fifo)) ≡ Ok fifo
 fifo_again Cooperation = refl
 fifo_again Individual = refl
+
+slots_again : (n : ℕ) → 1 ≤ n → n ≤ 4096 → number_of 1 4096 (count_data n) ≡ Ok n
+slots_again n l h = rw (lt-ltb n (2 ^ 63) (omega arith), le-leb n 4096 h, le-leb 1 n l) refl
 
 threads_again : (n : ℕ) → 1 ≤ n → n ≤ 64 → number_of 1 64 (count_data n) ≡ Ok n
 threads_again n l h = rw (lt-ltb n (2 ^ 63) (omega arith), le-leb n 64 h, le-leb 1 n l) refl
@@ -107,18 +111,18 @@ quotes_read false qs e h f = sym (f refl)
 
 -- ---- one dispatcher
 
-shape_at : (sh : Shape) (n : ℕ) (place : Place) (pool quoted : Bool) (kind : DispKind) (fifo : Fifo) (quotes : Items) (threads : ℕ) (name : List ℕ) → is_pool kind ≡ pool → has_quotes kind ≡ quoted → is_name name ≡ true → 1 ≤ threads → threads ≤ 64
-    → fixed_trouble 8 quote_trouble (Some quotes) ≡ None → run shape_step sh (visits (suc n) object.Dispatcher place (disp_plain pool quoted kind fifo quotes threads name)) ≡ Ok sh
+shape_at : (sh : Shape) (n : ℕ) (place : Place) (pool quoted : Bool) (kind : DispKind) (fifo : Fifo) (quotes : Items) (slots threads : ℕ) (name : List ℕ) → is_pool kind ≡ pool → has_quotes kind ≡ quoted → is_name name ≡ true → 1 ≤ slots → slots ≤ 4096 → 1 ≤ threads → threads ≤ 64
+    → fixed_trouble 8 quote_trouble (Some quotes) ≡ None → run shape_step sh (visits (suc n) object.Dispatcher place (disp_plain pool quoted kind fifo quotes slots threads name)) ≡ Ok sh
 unfolding visits fields_of field_visits run has_unknown is_known disp_plain
-shape_at sh n place true true kind fifo quotes threads name p q e l h t = rw (e, kind_again kind, threads_again threads l h, fifo_again fifo, t, p, q) refl
-shape_at sh n place true false kind fifo quotes threads name p q e l h t = rw (e, kind_again kind, threads_again threads l h, fifo_again fifo, p, q) refl
-shape_at sh n place false true kind fifo quotes threads name p q e l h t = rw (e, kind_again kind, t, p, q) refl
-shape_at sh n place false false kind fifo quotes threads name p q e l h t = rw (e, kind_again kind, p, q) refl
+shape_at st n place true true kind fifo quotes slots threads name p q e sl sh l h t = rw (e, kind_again kind, slots_again slots sl sh, threads_again threads l h, fifo_again fifo, t, p, q) refl
+shape_at st n place true false kind fifo quotes slots threads name p q e sl sh l h t = rw (e, kind_again kind, slots_again slots sl sh, threads_again threads l h, fifo_again fifo, p, q) refl
+shape_at st n place false true kind fifo quotes slots threads name p q e sl sh l h t = rw (e, kind_again kind, slots_again slots sl sh, t, p, q) refl
+shape_at st n place false false kind fifo quotes slots threads name p q e sl sh l h t = rw (e, kind_again kind, slots_again slots sl sh, p, q) refl
 
 pub disp_shape : (sh : Shape) (n : ℕ) (d : DispDef) (place : Place) → IsDisp d → run shape_step sh (visits (suc n) object.Dispatcher place (disp_data d)) ≡ Ok sh
 disp_shape sh n d place h =
     ap (λ (x : Data). run shape_step sh (visits (suc n) object.Dispatcher place x)) (disp_shown d h.named)
-    ∙ shape_at sh n place (is_pool d.kind) (has_quotes d.kind) d.kind d.fifo (quote_items d) d.threads d.name refl refl h.named h.some_threads h.few_threads (quotes_fine d.quotes h.eight (each_of IsQuote d.quotes h.quotes))
+    ∙ shape_at sh n place (is_pool d.kind) (has_quotes d.kind) d.kind d.fifo (quote_items d) d.slots d.threads d.name refl refl h.named h.some_slots h.few_slots h.some_threads h.few_threads (quotes_fine d.quotes h.eight (each_of IsQuote d.quotes h.quotes))
 
 -- the names after a dispatcher
 abbrev with_disp : Declared → List ℕ → DispKind → Declared
@@ -135,59 +139,59 @@ fields_twice : (d : Declared) (n : ℕ) (place : Place) (x : Data) → run twice
 unfolding fields_of field_visits run
 fields_twice d n place x = refl
 
-name_at : (pool quoted : Bool) (kind : DispKind) (fifo : Fifo) (quotes : Items) (threads : ℕ) (name : List ℕ) → is_name name ≡ true → name_in (disp_plain pool quoted kind fifo quotes threads name) ≡ name
+name_at : (pool quoted : Bool) (kind : DispKind) (fifo : Fifo) (quotes : Items) (slots threads : ℕ) (name : List ℕ) → is_name name ≡ true → name_in (disp_plain pool quoted kind fifo quotes slots threads name) ≡ name
 unfolding disp_plain
-name_at true true kind fifo quotes threads name e = rw e refl
-name_at true false kind fifo quotes threads name e = rw e refl
-name_at false true kind fifo quotes threads name e = rw e refl
-name_at false false kind fifo quotes threads name e = rw e refl
+name_at true true kind fifo quotes slots threads name e = rw e refl
+name_at true false kind fifo quotes slots threads name e = rw e refl
+name_at false true kind fifo quotes slots threads name e = rw e refl
+name_at false false kind fifo quotes slots threads name e = rw e refl
 
-kind_at_key : (pool quoted : Bool) (kind : DispKind) (fifo : Fifo) (quotes : Items) (threads : ℕ) (name : List ℕ) → disp_kind_in (disp_plain pool quoted kind fifo quotes threads name) ≡ kind
+kind_at_key : (pool quoted : Bool) (kind : DispKind) (fifo : Fifo) (quotes : Items) (slots threads : ℕ) (name : List ℕ) → disp_kind_in (disp_plain pool quoted kind fifo quotes slots threads name) ≡ kind
 unfolding disp_plain
-kind_at_key true true kind fifo quotes threads name = rw (kind_again kind) refl
-kind_at_key true false kind fifo quotes threads name = rw (kind_again kind) refl
-kind_at_key false true kind fifo quotes threads name = rw (kind_again kind) refl
-kind_at_key false false kind fifo quotes threads name = rw (kind_again kind) refl
+kind_at_key true true kind fifo quotes slots threads name = rw (kind_again kind) refl
+kind_at_key true false kind fifo quotes slots threads name = rw (kind_again kind) refl
+kind_at_key false true kind fifo quotes slots threads name = rw (kind_again kind) refl
+kind_at_key false false kind fifo quotes slots threads name = rw (kind_again kind) refl
 
 disp_twice : (d : Declared) (n : ℕ) (x : DispDef) (place : Place) → IsDisp x → number_in (codes "default" ∷ d.dispatchers) x.name ≡ None → run twice_step d (visits (suc n) object.Dispatcher place (disp_data x)) ≡ Ok (with_disp d x.name x.kind)
 disp_twice d n x place h f =
     let t : Declared = with_disp d x.name x.kind in
-    let named : name_in (plain_disp x) ≡ x.name = name_at (is_pool x.kind) (has_quotes x.kind) x.kind x.fifo (quote_items x) x.threads x.name h.named in
-    let kind : disp_kind_in (plain_disp x) ≡ x.kind = kind_at_key (is_pool x.kind) (has_quotes x.kind) x.kind x.fifo (quote_items x) x.threads x.name in
+    let named : name_in (plain_disp x) ≡ x.name = name_at (is_pool x.kind) (has_quotes x.kind) x.kind x.fifo (quote_items x) x.slots x.threads x.name h.named in
+    let kind : disp_kind_in (plain_disp x) ≡ x.kind = kind_at_key (is_pool x.kind) (has_quotes x.kind) x.kind x.fifo (quote_items x) x.slots x.threads x.name in
     ap (λ (y : Data). run twice_step d (visits (suc n) object.Dispatcher place y)) (disp_shown x h.named)
     ∙ object_run twice_step d t t t n object.Dispatcher place (plain_disp x) (entering_at d place (plain_disp x) x.name x.kind named kind f) (fields_twice t n place (plain_disp x)) refl
 
-known_at : (w : Known) (n : ℕ) (place : Place) (pool quoted : Bool) (kind : DispKind) (fifo : Fifo) (quotes : Items) (threads : ℕ) (name : List ℕ) → run known_step w (visits (suc n) object.Dispatcher place (disp_plain pool quoted kind fifo quotes threads name)) ≡ Ok w
+known_at : (w : Known) (n : ℕ) (place : Place) (pool quoted : Bool) (kind : DispKind) (fifo : Fifo) (quotes : Items) (slots threads : ℕ) (name : List ℕ) → run known_step w (visits (suc n) object.Dispatcher place (disp_plain pool quoted kind fifo quotes slots threads name)) ≡ Ok w
 unfolding visits fields_of field_visits run disp_plain
-known_at w n place true true kind fifo quotes threads name = refl
-known_at w n place true false kind fifo quotes threads name = refl
-known_at w n place false true kind fifo quotes threads name = refl
-known_at w n place false false kind fifo quotes threads name = refl
+known_at w n place true true kind fifo quotes slots threads name = refl
+known_at w n place true false kind fifo quotes slots threads name = refl
+known_at w n place false true kind fifo quotes slots threads name = refl
+known_at w n place false false kind fifo quotes slots threads name = refl
 
 pub disp_known : (w : Known) (n : ℕ) (d : DispDef) (place : Place) → IsDisp d → run known_step w (visits (suc n) object.Dispatcher place (disp_data d)) ≡ Ok w
 disp_known w n d place h =
     ap (λ (x : Data). run known_step w (visits (suc n) object.Dispatcher place x)) (disp_shown d h.named)
-    ∙ known_at w n place (is_pool d.kind) (has_quotes d.kind) d.kind d.fifo (quote_items d) d.threads d.name
+    ∙ known_at w n place (is_pool d.kind) (has_quotes d.kind) d.kind d.fifo (quote_items d) d.slots d.threads d.name
 
-abbrev defined : List ℕ → DispKind → ℕ → Fifo → List ℕ → DispDef
-defined name kind threads fifo quotes = record { name = name; kind = kind; slots = 4096; threads = threads; fifo = fifo; quotes = quotes }
+abbrev defined : List ℕ → DispKind → ℕ → ℕ → Fifo → List ℕ → DispDef
+defined name kind slots threads fifo quotes = record { name = name; kind = kind; slots = slots; threads = threads; fifo = fifo; quotes = quotes }
 
-read_at : (pool quoted : Bool) (kind : DispKind) (fifo : Fifo) (quotes : Items) (threads : ℕ) (name : List ℕ) → (pool ≡ false → (threads ≡ 4) × (fifo ≡ Cooperation)) → is_name name ≡ true → 1 ≤ threads → threads ≤ 64
-    → disp_read (disp_plain pool quoted kind fifo quotes threads name) ≡ defined name kind threads fifo (quotes_in (list_of (if quoted then Some (array quotes) else None)))
+read_at : (pool quoted : Bool) (kind : DispKind) (fifo : Fifo) (quotes : Items) (slots threads : ℕ) (name : List ℕ) → (pool ≡ false → (threads ≡ 4) × (fifo ≡ Cooperation)) → is_name name ≡ true → 1 ≤ slots → slots ≤ 4096 → 1 ≤ threads → threads ≤ 64
+    → disp_read (disp_plain pool quoted kind fifo quotes slots threads name) ≡ defined name kind slots threads fifo (quotes_in (list_of (if quoted then Some (array quotes) else None)))
 unfolding disp_plain
-read_at true true kind fifo quotes threads name f e l h = rw (e, kind_again kind, threads_again threads l h, fifo_again fifo) refl
-read_at true false kind fifo quotes threads name f e l h = rw (e, kind_again kind, threads_again threads l h, fifo_again fifo) refl
-read_at false true kind fifo quotes threads name f e l h = let p = f refl in rw (e, kind_again kind, p.0, p.1) refl
-read_at false false kind fifo quotes threads name f e l h = let p = f refl in rw (e, kind_again kind, p.0, p.1) refl
+read_at true true kind fifo quotes slots threads name f e sl sh l h = rw (e, kind_again kind, slots_again slots sl sh, threads_again threads l h, fifo_again fifo) refl
+read_at true false kind fifo quotes slots threads name f e sl sh l h = rw (e, kind_again kind, slots_again slots sl sh, threads_again threads l h, fifo_again fifo) refl
+read_at false true kind fifo quotes slots threads name f e sl sh l h = let p = f refl in rw (e, kind_again kind, slots_again slots sl sh, p.0, p.1) refl
+read_at false false kind fifo quotes slots threads name f e sl sh l h = let p = f refl in rw (e, kind_again kind, slots_again slots sl sh, p.0, p.1) refl
 
-whole : (d : DispDef) (quotes : List ℕ) → d.slots ≡ 4096 → quotes ≡ d.quotes → defined d.name d.kind d.threads d.fifo quotes ≡ d
-whole d quotes e f = rw (e, f) refl
+whole : (d : DispDef) (quotes : List ℕ) → quotes ≡ d.quotes → defined d.name d.kind d.slots d.threads d.fifo quotes ≡ d
+whole d quotes e = rw e refl
 
 disp_again : (d : DispDef) → IsDisp d → disp_read (disp_data d) ≡ d
 disp_again d h =
     ap disp_read (disp_shown d h.named)
-    ∙ (read_at (is_pool d.kind) (has_quotes d.kind) d.kind d.fifo (quote_items d) d.threads d.name h.no_pool h.named h.some_threads h.few_threads
-    ∙ whole d _ h.slots (quotes_read (has_quotes d.kind) d.quotes h.eight (each_of IsQuote d.quotes h.quotes) h.no_quotes))
+    ∙ (read_at (is_pool d.kind) (has_quotes d.kind) d.kind d.fifo (quote_items d) d.slots d.threads d.name h.no_pool h.named h.some_slots h.few_slots h.some_threads h.few_threads
+    ∙ whole d _ (quotes_read (has_quotes d.kind) d.quotes h.eight (each_of IsQuote d.quotes h.quotes) h.no_quotes))
 
 abbrev build_disp : Build → DispDef → Build
 build_disp b d = record b { dispatchers = b.dispatchers ++ d ∷ [] }

@@ -21,8 +21,8 @@ use Rattle.so_scene.specs.declared.parts.MessageDef.{MessageDef}
 use Rattle.so_scene.specs.declared.parts.SceneParts.{SceneParts}
 use Rattle.so_scene.specs.Checked.{is_pool, has_quotes}
 use Rattle.so_scene_writer.specs.Sources.{StateSource, RowSource, states_of, rows_of, start_acts, finish_acts}
-use Rattle.so_scene_writer.specs.ActData.{text_data, count_data, state_text, group_text, operand_data, dest_data, args_data, act_data, acts_data}
-use Rattle.so_scene_writer.specs.Canonical.{given, number_data, message_data, declared, disp_data, state_data, filter_data, row_data, agent_data, coop_data, scene_data, dead_data, do_data, row_state_data, suppress_data, switch_data, transfer_data}
+use Rattle.so_scene_writer.specs.ActData.{text_data, count_data, coop_text, state_text, group_text, operand_data, dest_data, args_data, act_data, acts_data}
+use Rattle.so_scene_writer.specs.Canonical.{agents_of, given, number_data, message_data, declared, disp_data, state_data, filter_data, row_data, agent_data, coop_data, scene_data, dead_data, do_data, row_state_data, suppress_data, switch_data, transfer_data}
 
 list_exact : {X : Type 0} (shown : X → Data) (xs : List X) → ((x : X) → has_float (shown x) ≡ false) → items_have_float (items_of (map shown xs)) ≡ false
 list_exact shown [] f = refl
@@ -127,7 +127,7 @@ agent_exact s a =
     ) refl
 
 coop_exact : (s : SceneParts) (c : CoopDef) → has_float (coop_data s c) ≡ false
-coop_exact s c = rw (list_exact (agent_data s) s.agents (agent_exact s)) refl
+coop_exact s c = rw (list_exact (agent_data s) (agents_of s c) (agent_exact s), given_exact (codes "parent") (option_map (λ p. text_data (coop_text s p)) c.parent) no_members (map_exact (coop_text s) c.parent)) refl
 
 kept_exact : (kept : Bool) (d : Data) → has_float d ≡ false → IsExact (if kept then Some d else None)
 kept_exact true d h = h

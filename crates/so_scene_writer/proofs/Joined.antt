@@ -1,7 +1,7 @@
 -- Objects whose optional fields come one after the other.
 use Rattle.std.proofs.Common.{◌≡◌, ℕ, List, codes, Bool, true, false, Option, Some, None, option_map, Result, Ok, Err, refl, sym, ap, ◌∙◌, if◌then◌else◌}
 use Rattle.std.specs.Prelude.{IfOk}
-use Rattle.serde_json.specs.Data.{Data, member, no_members, object, string}
+use Rattle.serde_json.specs.Data.{Data, member, no_members, object, boolean, string}
 use Rattle.so_ids.specs.declared.MboxId.{MboxId}
 use Rattle.so_ids.specs.declared.MsgId.{MsgId}
 use Rattle.so_ids.specs.declared.StateId.{StateId}
@@ -10,6 +10,7 @@ use Rattle.so_state.specs.declared.choice.RowKind.{RowKind}
 use Rattle.so_state.specs.declared.choice.RowKind.TheVariants.{Run, Switch, Transfer, Suppress, Dead}
 use Rattle.so_state.specs.declared.states.State.{State}
 use Rattle.so_scene.specs.declared.parts.AgentDef.{AgentDef}
+use Rattle.so_scene.specs.declared.parts.CoopDef.{CoopDef}
 use Rattle.so_scene.specs.declared.parts.DispDef.{DispDef}
 use Rattle.so_scene.specs.declared.parts.DispKind.{DispKind}
 use Rattle.so_scene.specs.declared.parts.FilterDef.{FilterDef}
@@ -17,9 +18,9 @@ use Rattle.so_scene.specs.declared.parts.SceneParts.{SceneParts}
 use Rattle.so_scene.specs.Checked.{is_pool, has_quotes}
 use Rattle.so_scene.specs.Parts.{mbox_name}
 use Rattle.so_scene_writer.specs.Sources.{acts_in, behind, RowSource, state_source}
-use Rattle.so_scene_writer.specs.ActData.{text_data, count_data, disp_text, group_text, state_text, message_text, acts_data}
-use Rattle.so_scene_writer.specs.Canonical.{agent_data, disp_data, disp_kind_word, fifo_word, given, list_data, of_pool, of_quoted, state_data, filter_data, row_data, dead_data, do_data, row_state_data, suppress_data, switch_data, transfer_data}
-use Rattle.so_scene_writer.specs.Fields.{with_field, agent_base, disp_base, state_base, filter_base, row_base}
+use Rattle.so_scene_writer.specs.ActData.{text_data, count_data, coop_text, disp_text, group_text, state_text, message_text, acts_data}
+use Rattle.so_scene_writer.specs.Canonical.{agents_of, agent_data, coop_data, disp_data, disp_kind_word, fifo_word, given, list_data, of_pool, of_quoted, state_data, filter_data, row_data, dead_data, do_data, row_state_data, suppress_data, switch_data, transfer_data}
+use Rattle.so_scene_writer.specs.Fields.{with_field, agent_base, coop_base, disp_base, state_base, filter_base, row_base}
 use Rattle.so_scene_writer.proofs.Found.{agent_plain}
 
 pub if_ok : {A E : Type 0} (P Q : A → Type 0) (r : Result A E) → IfOk r P → ((x : A) → P x → Q x) → IfOk r Q
@@ -87,20 +88,20 @@ row_joined s a x dead do_acts id state suppress switch transfer d0 d1 d2 d3 d4 d
 
 -- ---- dispatchers
 
-disp_fields : (pool quoted : Bool) (kind : DispKind) (name : List ℕ) (fifo quotes threads : Data)
-    → with_field (codes "threads") (if pool then Some threads else None) (with_field (codes "quotes") (if quoted then Some quotes else None) (with_field (codes "fifo") (if pool then Some fifo else None) (disp_base kind name)))
+disp_fields : (pool quoted : Bool) (kind : DispKind) (name : List ℕ) (slots : ℕ) (fifo quotes threads : Data)
+    → with_field (codes "threads") (if pool then Some threads else None) (with_field (codes "quotes") (if quoted then Some quotes else None) (with_field (codes "fifo") (if pool then Some fifo else None) (disp_base kind name slots)))
     ≡ object (given (codes "fifo") (if pool then Some fifo else None) (member (codes "kind") (string (disp_kind_word kind)) (member (codes "name") (text_data name)
-    (given (codes "quotes") (if quoted then Some quotes else None) (given (codes "threads") (if pool then Some threads else None) no_members)))))
-disp_fields true true kind name fifo quotes threads = refl
-disp_fields true false kind name fifo quotes threads = refl
-disp_fields false true kind name fifo quotes threads = refl
-disp_fields false false kind name fifo quotes threads = refl
+    (given (codes "quotes") (if quoted then Some quotes else None) (member (codes "slots") (count_data slots) (given (codes "threads") (if pool then Some threads else None) no_members))))))
+disp_fields true true kind name slots fifo quotes threads = refl
+disp_fields true false kind name slots fifo quotes threads = refl
+disp_fields false true kind name slots fifo quotes threads = refl
+disp_fields false false kind name slots fifo quotes threads = refl
 
-pub disp_joined : (x : DispDef) (fifo quotes threads : Option Data) (base d0 d1 d2 : Data) → base ≡ disp_base x.kind x.name → fifo ≡ of_pool x.kind (string (fifo_word x.fifo)) → d0 ≡ with_field (codes "fifo") fifo base
+pub disp_joined : (x : DispDef) (fifo quotes threads : Option Data) (base d0 d1 d2 : Data) → base ≡ disp_base x.kind x.name x.slots → fifo ≡ of_pool x.kind (string (fifo_word x.fifo)) → d0 ≡ with_field (codes "fifo") fifo base
     → quotes ≡ of_quoted x.kind (list_data count_data x.quotes) → d1 ≡ with_field (codes "quotes") quotes d0 → threads ≡ of_pool x.kind (count_data x.threads) → d2 ≡ with_field (codes "threads") threads d1 → d2 ≡ disp_data x
 disp_joined x fifo quotes threads base d0 d1 d2 b f e0 q e1 t e2 =
     e2 ∙ (both (codes "threads") t (e1 ∙ both (codes "quotes") q (e0 ∙ both (codes "fifo") f b))
-    ∙ disp_fields (is_pool x.kind) (has_quotes x.kind) x.kind x.name (string (fifo_word x.fifo)) (list_data count_data x.quotes) (count_data x.threads))
+    ∙ disp_fields (is_pool x.kind) (has_quotes x.kind) x.kind x.name x.slots (string (fifo_word x.fifo)) (list_data count_data x.quotes) (count_data x.threads))
 
 -- ---- agents
 
@@ -113,3 +114,14 @@ agent_fields disp filters finish (Some g) name on level start states vars = refl
 
 pub agent_joined : (s : SceneParts) (a : AgentDef) (o : Option Data) (base d : Data) → o ≡ option_map text_data (group_text s a) → base ≡ agent_plain s a → d ≡ with_field (codes "group") o base → d ≡ agent_data s a
 agent_joined s a o base d e f g = g ∙ (both (codes "group") e f ∙ agent_fields (disp_text s a.disp) _ _ (option_map text_data (group_text s a)) a.name _ _ _ _ _)
+
+-- ---- cooperations
+
+coop_fields : (agents : Data) (at_start : Bool) (name : List ℕ) (o : Option Data) → with_field (codes "parent") o (coop_base agents at_start name)
+    ≡ object (member (codes "agents") agents (member (codes "at_start") (boolean at_start) (member (codes "name") (text_data name) (given (codes "parent") o no_members))))
+coop_fields agents at_start name None = refl
+coop_fields agents at_start name (Some p) = refl
+
+pub coop_joined : (s : SceneParts) (c : CoopDef) (o : Option Data) (base d : Data) → o ≡ option_map (λ p. text_data (coop_text s p)) c.parent → base ≡ coop_base (list_data (agent_data s) (agents_of s c)) c.at_start c.name
+    → d ≡ with_field (codes "parent") o base → d ≡ coop_data s c
+coop_joined s c o base d e f g = g ∙ (both (codes "parent") e f ∙ coop_fields (list_data (agent_data s) (agents_of s c)) c.at_start c.name (option_map (λ p. text_data (coop_text s p)) c.parent))

@@ -10,6 +10,8 @@ pub mod DispLaws
 pub mod GroupLaws
 pub mod Kept
 pub mod AgentLaws
+pub mod Blocks
+pub mod CoopLaws
 pub mod SceneLaws
 pub mod Listed
 pub mod Joined

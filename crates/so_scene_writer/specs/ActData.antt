@@ -4,6 +4,7 @@ use Rattle.std.specs.Str.{is_utf8}
 use Rattle.serde_json.specs.Data.{Data, number, string, array, Items, no_items, item}
 use Rattle.serde_json.specs.Find.{of_integer}
 use Rattle.serde_json.specs.View.{items_of}
+use Rattle.so_ids.specs.declared.CoopId.{CoopId}
 use Rattle.so_ids.specs.declared.DispId.{DispId}
 use Rattle.so_ids.specs.declared.MsgId.{MsgId}
 use Rattle.so_ids.specs.declared.StateId.{StateId}
@@ -20,7 +21,7 @@ use Rattle.so_code.specs.declared.instr.Operand.{Operand}
 use Rattle.so_code.specs.declared.instr.Operand.TheVariants as operand
 use Rattle.so_scene.specs.declared.parts.AgentDef.{AgentDef}
 use Rattle.so_scene.specs.declared.parts.SceneParts.{SceneParts}
-use Rattle.so_scene.specs.Parts.{message_of, mbox_name, text_of, disp_of, groups_of}
+use Rattle.so_scene.specs.Parts.{message_of, mbox_name, text_of, coop_of, disp_of, groups_of}
 use Rattle.so_scene.specs.Checked.{filter_ids}
 use Rattle.so_scene_json.specs.Values.{text_or_empty}
 
@@ -46,6 +47,9 @@ id_text ids k = text_or_empty (slice_index_or ids k None)
 
 abbrev pub disp_text : SceneParts → DispId → List ℕ
 disp_text s d = (disp_of s d).name
+
+abbrev pub coop_text : SceneParts → CoopId → List ℕ
+coop_text s c = (coop_of s c).name
 
 -- the name of a dispatcher's group by its number
 abbrev pub group_at : SceneParts → DispId → ℕ → List ℕ
@@ -157,6 +161,8 @@ act_data s a (instr.Subscribe row) = act_one (codes "subscribe") (text_data (id_
 act_data s a (instr.Unsubscribe row) = act_one (codes "unsubscribe") (text_data (id_text a.row_ids row.0))
 act_data s a (instr.SetFilter f) = act_one (codes "set_filter") (text_data (id_text (filter_ids a) f.0))
 act_data s a (instr.DropFilter f) = act_one (codes "drop_filter") (text_data (id_text (filter_ids a) f.0))
+act_data s a (instr.Register coop) = act_one (codes "register") (text_data (coop_text s coop))
+act_data s a (instr.Deregister coop) = act_one (codes "deregister") (text_data (coop_text s coop))
 act_data s a instr.Stop = act_of (codes "stop") no_items
 act_data s a other = array no_items
 

@@ -1,5 +1,5 @@
 -- A scene as data: each field of the table that is built, its keys in order, an optional one without a value left out.
-use Rattle.std.specs.Prelude.{ℕ, ℤ, List, map, drop, codes, Bool, true, false, Option, Some, None, option_map, if◌then◌else◌}
+use Rattle.std.specs.Prelude.{ℕ, ℤ, List, map, take, drop, codes, Bool, true, false, Option, Some, None, option_map, if◌then◌else◌}
 use Rattle.serde_json.specs.Data.{Data, boolean, number, string, array, object, Members, no_members, member}
 use Rattle.serde_json.specs.Find.{of_integer}
 use Rattle.serde_json.specs.View.{items_of}
@@ -22,7 +22,7 @@ use Rattle.so_scene.specs.declared.parts.SceneParts.{SceneParts}
 use Rattle.so_scene.specs.Checked.{is_pool, has_quotes}
 use Rattle.so_scene.specs.Parts.{mbox_name}
 use Rattle.so_scene_writer.specs.Sources.{StateSource, RowSource, start_acts, finish_acts, states_of, rows_of}
-use Rattle.so_scene_writer.specs.ActData.{text_data, message_text, state_text, disp_text, group_text, cmp_data, count_data, acts_data}
+use Rattle.so_scene_writer.specs.ActData.{text_data, message_text, state_text, coop_text, disp_text, group_text, cmp_data, count_data, acts_data}
 
 -- a field that is left out where it has no value
 abbrev pub given : List ℕ → Option Data → Members → Members
@@ -74,7 +74,8 @@ disp_data d = object
     (member (codes "kind") (string (disp_kind_word d.kind))
     (member (codes "name") (text_data d.name)
     (given (codes "quotes") (of_quoted d.kind (list_data count_data d.quotes))
-    (given (codes "threads") (of_pool d.kind (count_data d.threads)) no_members)))))
+    (member (codes "slots") (count_data d.slots)
+    (given (codes "threads") (of_pool d.kind (count_data d.threads)) no_members))))))
 
 -- all but the first, which is `default` and not declared
 abbrev pub declared : SceneParts → List DispDef
@@ -149,7 +150,7 @@ row_data s a x = object
     (given (codes "switch") (switch_data a x.row.kind)
     (given (codes "transfer") (transfer_data a x.row.kind) no_members)))))))))))
 
--- ---- agents and the scene
+-- ---- agents
 
 abbrev pub agent_data : SceneParts → AgentDef → Data
 agent_data s a = object
@@ -164,14 +165,24 @@ agent_data s a = object
     (member (codes "states") (list_data (state_data s a) (states_of a))
     (member (codes "vars") (list_data number_data a.vars.0) no_members))))))))))
 
--- a cooperation: while a scene has one, its agents are all there are
+-- ---- cooperations and the scene
+
+-- the agents of a cooperation: so many, from the first on
+abbrev pub agents_of : SceneParts → CoopDef → List AgentDef
+agents_of s c = take c.count (drop c.first.0 s.agents)
+
 abbrev pub coop_data : SceneParts → CoopDef → Data
-coop_data s c = object (member (codes "agents") (list_data (agent_data s) s.agents) (member (codes "name") (text_data c.name) no_members))
+coop_data s c = object
+    (member (codes "agents") (list_data (agent_data s) (agents_of s c))
+    (member (codes "at_start") (boolean c.at_start)
+    (member (codes "name") (text_data c.name)
+    (given (codes "parent") (option_map (λ p. text_data (coop_text s p)) c.parent) no_members))))
 
 abbrev pub scene_data : SceneParts → Data
 scene_data s = object
+    (member (codes "autoshutdown") (boolean s.autoshutdown)
     (member (codes "coops") (list_data (coop_data s) s.coops)
     (member (codes "dispatchers") (list_data disp_data (declared s))
     (member (codes "mboxes") (list_data text_data s.mboxes)
     (member (codes "messages") (list_data message_data s.messages)
-    (member (codes "version") (count_data 1) no_members)))))
+    (member (codes "version") (count_data 1) no_members))))))

@@ -46,8 +46,11 @@ row_base active mbox msg safe = object
     (member (codes "msg") (text_data msg)
     (member (codes "safe") (boolean safe) no_members))))
 
-abbrev pub disp_base : DispKind → List ℕ → Data
-disp_base kind name = object (member (codes "kind") (string (disp_kind_word kind)) (member (codes "name") (text_data name) no_members))
+abbrev pub disp_base : DispKind → List ℕ → ℕ → Data
+disp_base kind name slots = object
+    (member (codes "kind") (string (disp_kind_word kind))
+    (member (codes "name") (text_data name)
+    (member (codes "slots") (count_data slots) no_members)))
 
 abbrev pub agent_base : List ℕ → Data → Data → List ℕ → Data → ℕ → Data → Data → Data → Data
 agent_base disp filters finish name on level start states vars = object
@@ -60,3 +63,9 @@ agent_base disp filters finish name on level start states vars = object
     (member (codes "start") start
     (member (codes "states") states
     (member (codes "vars") vars no_members)))))))))
+
+abbrev pub coop_base : Data → Bool → List ℕ → Data
+coop_base agents at_start name = object
+    (member (codes "agents") agents
+    (member (codes "at_start") (boolean at_start)
+    (member (codes "name") (text_data name) no_members)))

@@ -9,7 +9,7 @@ ghost use Rattle.so_scene_writer.specs.ActData.{act_one, act_two, act_three, act
 
 use crate::operands::{cmp_value, count_value, dest_value, operand_value};
 use crate::words::{
-    filter_name, message_name, row_name, state_name, target_name, text, text_bytes,
+    coop_name, filter_name, message_name, row_name, state_name, target_name, text, text_bytes,
 };
 use serde_json::{Value, json};
 use so_code::{Args, Cmp, Dest, Instr, Operand};
@@ -169,12 +169,12 @@ fn act_value(
         Instr::Unsubscribe { row } => with_name(alloc, "unsubscribe", row_name(agent, row)),
         Instr::SetFilter { filter } => with_name(alloc, "set_filter", filter_name(agent, filter)),
         Instr::DropFilter { filter } => with_name(alloc, "drop_filter", filter_name(agent, filter)),
+        Instr::Register { coop } => with_name(alloc, "register", coop_name(scene, coop)),
+        Instr::Deregister { coop } => with_name(alloc, "deregister", coop_name(scene, coop)),
         Instr::Stop => json!(in alloc; ["stop"]),
         Instr::Delayed { .. } => Ok(no_act(alloc)),
         Instr::Timer { .. } => Ok(no_act(alloc)),
         Instr::Cancel { .. } => Ok(no_act(alloc)),
-        Instr::Register { .. } => Ok(no_act(alloc)),
-        Instr::Deregister { .. } => Ok(no_act(alloc)),
         Instr::Close { .. } => Ok(no_act(alloc)),
         Instr::Receive { .. } => Ok(no_act(alloc)),
         Instr::Case { .. } => Ok(no_act(alloc)),

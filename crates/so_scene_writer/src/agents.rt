@@ -1,4 +1,4 @@
-//! Lists, agents and the scene as values.
+//! Lists and agents as values.
 
 ghost use Rattle.std.specs.Prelude.{◌≡◌, ◌<◌, length, min, map, option_map, pos, slice_index_or, IfOk};
 ghost use Rattle.serde_json.specs.Data.{array};
@@ -6,20 +6,20 @@ ghost use Rattle.serde_json.specs.View.{view, items_of};
 ghost use Rattle.so_scene_writer.specs.Sources.{behind_states, states_in, rows_in, states_of, rows_of, start_acts, finish_acts};
 ghost use Rattle.so_scene_writer.specs.ActData.{acts_data, disp_text, group_text, text_data};
 ghost use Rattle.so_scene_writer.specs.Fields.{agent_base};
-ghost use Rattle.so_scene_writer.specs.Canonical.{list_data, message_data, filter_data, state_data, row_data, number_data, agent_data, coop_data, scene_data};
+ghost use Rattle.so_scene_writer.specs.Canonical.{list_data, message_data, filter_data, state_data, row_data, number_data, agent_data};
 
 use crate::acts::{acts_value, behind};
-use crate::dispatchers::dispatchers_value;
 use crate::fields::with_field;
 use crate::objects::{behind_row, filter_value, message_value, row_value, state_value};
 use crate::words::{disp_name, group_name, text};
 use serde_json::{Value, json};
 use so_code::Instr;
-use so_scene::{AgentDef, CoopDef, FilterDef, MessageDef, Name, SceneParts};
+use so_scene::{AgentDef, FilterDef, MessageDef, Name, SceneParts};
 use so_state::{Row, State};
 use std::alloc::{AllocError, Global};
 
-fn messages_value(alloc: Global, messages: &[MessageDef]) -> Result<Value, AllocError>
+/// The types of messages.
+pub(crate) fn messages_value(alloc: Global, messages: &[MessageDef]) -> Result<Value, AllocError>
     ensures { IfOk result (λ v. view v ≡ list_data message_data messages.now) }
 {
     let mut list = Vec::new(alloc);
@@ -29,7 +29,8 @@ fn messages_value(alloc: Global, messages: &[MessageDef]) -> Result<Value, Alloc
     Ok(Value::Array(list))
 }
 
-fn mboxes_value(alloc: Global, mboxes: &[Name]) -> Result<Value, AllocError>
+/// The mboxes with a name of their own.
+pub(crate) fn mboxes_value(alloc: Global, mboxes: &[Name]) -> Result<Value, AllocError>
     ensures { IfOk result (λ v. view v ≡ list_data text_data mboxes.now) }
 {
     let mut list = Vec::new(alloc);
@@ -194,7 +195,12 @@ fn agent_value(alloc: Global, scene: &SceneParts, agent: &AgentDef) -> Result<Va
     with_field(alloc, value, "group", group_value(alloc, scene, agent)?)
 }
 
-fn agents_value(alloc: Global, scene: &SceneParts, agents: &[AgentDef]) -> Result<Value, AllocError>
+/// These agents.
+pub(crate) fn agents_value(
+    alloc: Global,
+    scene: &SceneParts,
+    agents: &[AgentDef],
+) -> Result<Value, AllocError>
     ensures { IfOk result (λ v. view v ≡ list_data (agent_data scene.now) agents.now) }
 {
     let mut list = Vec::new(alloc);
@@ -202,33 +208,4 @@ fn agents_value(alloc: Global, scene: &SceneParts, agents: &[AgentDef]) -> Resul
         list.push(agent_value(alloc, scene, agent)?)?;
     }
     Ok(Value::Array(list))
-}
-
-fn coop_value(alloc: Global, scene: &SceneParts, coop: &CoopDef) -> Result<Value, AllocError>
-    ensures { IfOk result (λ v. view v ≡ coop_data scene.now coop.now) }
-{
-    let agents = agents_value(alloc, scene, scene.agents.as_slice())?;
-    let name = text(coop.name.bytes());
-    json!(in alloc; {"agents": agents, "name": name})
-}
-
-fn coops_value(alloc: Global, scene: &SceneParts, coops: &[CoopDef]) -> Result<Value, AllocError>
-    ensures { IfOk result (λ v. view v ≡ list_data (coop_data scene.now) coops.now) }
-{
-    let mut list = Vec::new(alloc);
-    for coop in coops {
-        list.push(coop_value(alloc, scene, coop)?)?;
-    }
-    Ok(Value::Array(list))
-}
-
-/// A scene.
-pub(crate) fn scene_value(alloc: Global, scene: &SceneParts) -> Result<Value, AllocError>
-    ensures { IfOk result (λ v. view v ≡ scene_data scene.now) }
-{
-    let coops = coops_value(alloc, scene, scene.coops.as_slice())?;
-    let dispatchers = dispatchers_value(alloc, scene.dispatchers.as_slice())?;
-    let mboxes = mboxes_value(alloc, scene.mboxes.as_slice())?;
-    let messages = messages_value(alloc, scene.messages.as_slice())?;
-    json!(in alloc; {"coops": coops, "dispatchers": dispatchers, "mboxes": mboxes, "messages": messages, "version": 1u8})
 }

@@ -97,11 +97,12 @@ fn quotes_value(alloc: Global, disp: &DispDef) -> Result<Option<Value>, AllocErr
 }
 
 fn disp_base(alloc: Global, disp: &DispDef) -> Result<Value, AllocError>
-    ensures { IfOk result (λ v. view v ≡ disp_base disp.now.kind disp.now.name) }
+    ensures { IfOk result (λ v. view v ≡ disp_base disp.now.kind disp.now.name disp.now.slots) }
 {
     let kind = kind_word(disp.kind);
     let name = text(disp.name.bytes());
-    json!(in alloc; {"kind": kind, "name": name})
+    let slots = disp.slots;
+    json!(in alloc; {"kind": kind, "name": name, "slots": slots})
 }
 
 fn disp_value(alloc: Global, disp: &DispDef) -> Result<Value, AllocError>

@@ -3,6 +3,7 @@
 
 mod acts;
 mod agents;
+mod coops;
 mod dispatchers;
 mod fields;
 mod laws;

@@ -4,9 +4,9 @@ ghost use Rattle.std.specs.Prelude.{◌≡◌};
 ghost use Rattle.so_scene.specs.Checked.{filter_ids};
 ghost use Rattle.so_scene.specs.Parts.{groups_of, mbox_name, text_of};
 ghost use Rattle.so_scene_json.specs.Values.{text_or_empty};
-ghost use Rattle.so_scene_writer.specs.ActData.{shown, disp_text, group_at, message_text, state_text, id_text, target_text};
+ghost use Rattle.so_scene_writer.specs.ActData.{shown, coop_text, disp_text, group_at, message_text, state_text, id_text, target_text};
 
-use so_ids::{DispId, FilterId, MboxId, MsgId, RowId, StateId, Target, TextId};
+use so_ids::{CoopId, DispId, FilterId, MboxId, MsgId, RowId, StateId, Target, TextId};
 use so_scene::{AgentDef, Name, SceneParts};
 
 /// The text of bytes, empty where they are no UTF-8.
@@ -102,6 +102,16 @@ pub(crate) fn filter_name(agent: &AgentDef, filter: FilterId) -> &[u8]
 {
     match agent.filters.as_slice().get(filter.0 as usize) {
         Some(filter) => bytes_or_none(&filter.id),
+        None => b"",
+    }
+}
+
+/// The name of a cooperation.
+pub(crate) fn coop_name(scene: &SceneParts, coop: CoopId) -> &[u8]
+    ensures { result.now ≡ coop_text scene.now coop }
+{
+    match scene.coops.as_slice().get(coop.0 as usize) {
+        Some(coop) => coop.name.bytes(),
         None => b"",
     }
 }

@@ -6,7 +6,7 @@ ghost use Rattle.so_scene_json.specs.Scene.{scene_of};
 ghost use Rattle.serde_json.specs.Written.{compact_text};
 ghost use Rattle.so_scene_writer.specs.Canonical.{scene_data};
 
-use crate::agents::scene_value;
+use crate::coops::scene_value;
 use so_ids::NoMemory;
 use so_scene::{Scene, SceneParts};
 use std::alloc::{AllocError, Global};

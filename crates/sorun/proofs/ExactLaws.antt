@@ -9,7 +9,6 @@ use Rattle.so_history.specs.declared.lines.Mode.{Mode}
 use Rattle.so_history.specs.Kept.{Kept}
 use Rattle.so_history.specs.Steps.{finished, is_over}
 use Rattle.so_history.specs.Text.{text}
-use Rattle.so_history.proofs.FactLaws.{has_facts}
 use Rattle.so_env.specs.declared.outcome.Cause.{Cause}
 use Rattle.so_history.specs.Coops.{aborted}
 use Rattle.so_env.specs.declared.outcome.Cause.TheVariants.{Done, Usage, Limit, Aborted, Scene, Read, Long, Write, Memory}
@@ -58,13 +57,13 @@ module _ (job : Job) (r : Report) (fx fy : ℕ) (a b : Option (List ℕ)) (x y :
     simulated told bytes s h is given has run true cause printed risen = cut_off bytes s is given cause (risen.rose refl)
     simulated told bytes s h is given has run false cause printed risen = elim (cases_Bool (finished s h.entries)) [
       | inl over ↦ (let done : r.cause ≡ Done = cause ∙ rw over refl in
-          finishes bytes s is given done (whole s record { kept = h; has = has; chain = run.chain; legal = run.legal; facts = has_facts s h.entries run.legal; printed = printed; cause = inl (done, over) }))
+          finishes bytes s is given done (whole s record { kept = h; has = has; chain = run.chain; legal = run.legal; facts = run.facts; printed = printed; cause = inl (done, over) }))
       | inr going ↦ elim (cases_Bool (aborted h.entries)) [
         | inl broken ↦ (let is_aborted : r.cause ≡ Aborted = cause ∙ rw (going, broken) refl in
-            breaks bytes s is given is_aborted (whole s record { kept = h; has = has; chain = run.chain; legal = run.legal; facts = has_facts s h.entries run.legal; printed = printed; cause = inr (inl (is_aborted, going, broken)) }))
+            breaks bytes s is given is_aborted (whole s record { kept = h; has = has; chain = run.chain; legal = run.legal; facts = run.facts; printed = printed; cause = inr (inl (is_aborted, going, broken)) }))
         | inr unbroken ↦ (let limit : r.cause ≡ Limit = cause ∙ rw (going, unbroken) refl in
             let open_end : is_over s h.entries ≡ false = rw (going, unbroken) refl in
-            stops bytes s is given limit (whole s record { kept = h; has = has; chain = run.chain; legal = run.legal; facts = has_facts s h.entries run.legal; printed = printed; cause = inr (inr (limit, open_end, run.at_limit open_end)) }))
+            stops bytes s is given limit (whole s record { kept = h; has = has; chain = run.chain; legal = run.legal; facts = run.facts; printed = printed; cause = inr (inr (limit, open_end, run.at_limit open_end)) }))
       ]
     ]
 
@@ -292,7 +291,7 @@ module _ (r : Report) (fx fy : ℕ) (a b : Option (List ℕ)) (x y : ℕ) where
 -- what is run has the facts
 facts_of : (mode : Mode) (units : ℕ) (s : SceneParts) (cause : Cause) (n : ℕ) (h : Option Kept) (a b : Option (List ℕ)) (x y : ℕ) → RunAnswers h mode units s cause n a b x y → FactsOf (Some s) h
 facts_of mode units s cause n None a b x y run = tt
-facts_of mode units s cause n (Some h) a b x y run = has_facts s h.entries run.legal
+facts_of mode units s cause n (Some h) a b x y run = run.facts
 
 no_facts : (scene : Option SceneParts) (h : Option Kept) → h ≡ None → FactsOf scene h
 no_facts None None is = tt

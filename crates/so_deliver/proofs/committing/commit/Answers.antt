@@ -1,5 +1,5 @@
-use Rattle.std.proofs.Common.{◌≡◌, ◌<◌, length, Some, None, sym, ◌∙◌, arith}
-use Rattle.so_deliver.proofs.CommitLaws.{commit_begins, commit_room, commit_goes, commit_ends, committed-safe, not_past, event_known}
+use Rattle.std.proofs.Common.{sym, ◌∙◌, arith}
+use Rattle.so_deliver.proofs.CommitLaws.{commit_begins, commit_goes, committed-safe, not_past, event_known}
 use Rattle.so_deliver.proofs.committing.commit.Goals as goal
 
 pub loop-k-init : goal.loop-k-init

@@ -3,7 +3,7 @@ use Rattle.std.proofs.lemmas.List.{length_push}
 use Rattle.so_ids.specs.declared.AgentId.{AgentId}
 use Rattle.so_deliver.proofs.PlanLaws.{event_for, goes-queued, goes-lost, goes-on}
 use Rattle.so_deliver.proofs.plan.queue_each.Goals as goal
-use Rattle.so_deliver.proofs.plan.queue_each.Goals.{then-is_let_through+then-closed, then-is_let_through+else-closed, else-is_let_through}
+use Rattle.so_deliver.proofs.plan.queue_each.Goals.{then-is_let_through+then-is_leaving, then-is_let_through+else-is_leaving, else-is_let_through}
 
 nobody : AgentId
 nobody = record { 0 = 0 }
@@ -15,14 +15,14 @@ loop-agent-preserved c =
     let is : get_or c.registered-agent-items.result.now c.loop-agent.agent-index nobody ≡ get_or c.args.table.now.order c.loop-agent.agent-index nobody
     = ap (λ agents. get_or agents c.loop-agent.agent-index nobody) c.registered-agent-items.ensures.value in
     elim c.if-is_let_through.branch [
-      | then-is_let_through+then-closed w ↦ rw (w.outcomes-is, w.lost-is) (record {
-        goes = goes-lost _ _ _ _ _ _ _ _ _ _ _ nobody within is (sym c.is_let_through.ensures ∙ w.if-is_let_through.true) w.if-closed.true c.loop-agent.invariant.goes;
+      | then-is_let_through+then-is_leaving w ↦ rw (w.outcomes-is, w.lost-is) (record {
+        goes = goes-lost _ _ _ _ _ _ _ _ _ _ _ nobody within is (sym c.is_let_through.ensures ∙ w.if-is_let_through.true) (sym w.is_leaving.ensures ∙ w.if-is_leaving.true) c.loop-agent.invariant.goes;
         few_events = omega arith;
         few_losses = omega arith;
         room = c.loop-agent.invariant.room;
       })
-      | then-is_let_through+else-closed w ↦ rw (w.outcomes-is, w.queue.ensures, w.lost-is) (record {
-        goes = goes-queued _ _ _ _ _ _ _ _ _ _ _ nobody within is (sym c.is_let_through.ensures ∙ w.if-is_let_through.true) w.if-closed.false c.loop-agent.invariant.goes;
+      | then-is_let_through+else-is_leaving w ↦ rw (w.outcomes-is, w.queue.ensures, w.lost-is) (record {
+        goes = goes-queued _ _ _ _ _ _ _ _ _ _ _ nobody within is (sym c.is_let_through.ensures ∙ w.if-is_let_through.true) (sym w.is_leaving.ensures ∙ w.if-is_leaving.false) c.loop-agent.invariant.goes;
         few_events = omega (arith, length_push c.loop-agent.outcomes.queued (event_for c.args.mbox c.args.msg c.args.payload (get_or c.registered-agent-items.result.now c.loop-agent.agent-index nobody)));
         few_losses = omega arith;
         room = c.loop-agent.invariant.room;

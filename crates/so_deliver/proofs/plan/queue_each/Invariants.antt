@@ -6,7 +6,7 @@ use Rattle.so_deliver.proofs.plan.queue_each.Given as goal
 
 abbrev pub invariant-loop-agent : goal.invariant-loop-agent
 invariant-loop-agent l = record {
-  goes : Goes l.table l.closed l.mbox l.msg l.payload l.outcomes.queued l.lost l.agent-index (events (outcomes_of l.table l.closed l.mbox l.msg l.payload)) (losses (outcomes_of l.table l.closed l.mbox l.msg l.payload));
+  goes : Goes l.table l.coops l.mbox l.msg l.payload l.outcomes.queued l.lost l.agent-index (events (outcomes_of l.table l.coops l.mbox l.msg l.payload)) (losses (outcomes_of l.table l.coops l.mbox l.msg l.payload));
   few_events : length l.outcomes.queued ≤ l.agent-index;
   few_losses : l.lost ≤ l.agent-index;
   room : l.outcomes.room ≡ l.initial.outcomes.room;

@@ -14,7 +14,7 @@ enter-requires-clause-agent c =
     omega (arith, scene, c.requires.range, c.loop-k-test.true)
 
 pub enter-requires-clause-new : goal.enter-requires-clause-new
-enter-requires-clause-new c = ap (λ m. is_entered m (record { 0 = c.args.first.0 + c.loop-k.k })) c.loop-k.invariant ∙ not_entered c.args.first c.loop-k.k c.args.mboxes.now c.requires.nobody
+enter-requires-clause-new c = ap (λ m. is_entered m (record { 0 = c.args.first.0 + c.loop-k.k })) c.loop-k.invariant ∙ not_entered c.args.first c.args.count c.loop-k.k c.args.mboxes.now (omega (arith, c.loop-k-test.true)) c.requires.nobody
 
 pub loop-k-preserved : goal.loop-k-preserved
 loop-k-preserved c = c.enter.ensures ∙ (ap (after_enter (record { 0 = c.args.first.0 + c.loop-k.k })) c.loop-k.invariant ∙ entered_next c.args.first c.loop-k.k c.args.mboxes.now)

@@ -6,4 +6,4 @@ pub returns-in-Ok-clause-checked : goal.returns-in-Ok-clause-checked
 returns-in-Ok-clause-checked c =
     let made = c.in-Ok.ensures in
     is_checked c.args.build c.parts_with.result c.requires made.each_text_once
-    (is_parts c.args.build c.in-Ok.lists.coops c.in-Ok.lists.mboxes c.in-Ok.lists.texts c.in-Ok.lists.groups made.coops made.mboxes made.texts made.groups ∙ sym c.parts_with.ensures)
+    (is_parts c.args.build c.in-Ok.lists.mboxes c.in-Ok.lists.texts c.in-Ok.lists.groups made.mboxes made.texts made.groups ∙ sym c.parts_with.ensures)

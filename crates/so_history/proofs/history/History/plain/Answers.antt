@@ -1,30 +1,40 @@
 use Rattle.std.proofs.Common.{refl, arith}
 use Rattle.so_history.proofs.PlaceLaws.{inside, before-entry}
 use Rattle.so_history.proofs.CauseLaws.{turn_of, exception_of, by_exception, is_exception}
-use Rattle.so_history.proofs.TextLaws.{act_named, abort_named}
+use Rattle.so_history.proofs.TextLaws.{refuse_named, act_named, abort_named}
 use Rattle.so_history.proofs.history.History.plain.Goals as goal
 
--- an act: its turn began earlier, and its agent and its text are there
+-- a refused registration: the cooperation and the agent that it names are there
+
+pub put_refused-requires-clause-coop : goal.put_refused-requires-clause-coop
+put_refused-requires-clause-coop c =
+    (refuse_named c.args.scene.now c.args.self.now.entries c.args.place.0 c.args.entry c.in-Refuse.coop c.in-Refuse.cause c.parts-parts.ensures.keeps c.requires.legal c.requires.here c.in-Refuse.is).coop_there
+
+pub put_refused-requires-clause-agent : goal.put_refused-requires-clause-agent
+put_refused-requires-clause-agent c =
+    (refuse_named c.args.scene.now c.args.self.now.entries c.args.place.0 c.args.entry c.in-Refuse.coop c.in-Refuse.cause c.parts-parts.ensures.keeps c.requires.legal c.requires.here c.in-Refuse.is).names
+
+-- an act: its turn began earlier, and its agent and what its line names are there
 
 pub owner-requires : goal.owner-requires
 owner-requires c =
     let it = act_named c.args.scene.now c.args.self.now.entries c.args.place.0 c.args.entry c.in-Act.turn c.in-Act.effect c.in-Act.answer c.parts-parts.ensures.keeps c.requires.legal c.requires.here c.in-Act.is in
     omega (arith, it.early, inside c.args.self.now.entries c.args.place.0 c.args.entry c.requires.here)
 
-pub put_effect-requires-clause-agent : goal.put_effect-requires-clause-agent
-put_effect-requires-clause-agent c =
+pub put_act-requires-clause-agent : goal.put_act-requires-clause-agent
+put_act-requires-clause-agent c =
     let it = act_named c.args.scene.now c.args.self.now.entries c.args.place.0 c.args.entry c.in-Act.turn c.in-Act.effect c.in-Act.answer c.parts-parts.ensures.keeps c.requires.legal c.requires.here c.in-Act.is in
     rw c.owner.ensures it.agent
 
-pub put_effect-requires-clause-text : goal.put_effect-requires-clause-text
-put_effect-requires-clause-text c =
-    (act_named c.args.scene.now c.args.self.now.entries c.args.place.0 c.args.entry c.in-Act.turn c.in-Act.effect c.in-Act.answer c.parts-parts.ensures.keeps c.requires.legal c.requires.here c.in-Act.is).text
+pub put_act-requires-clause-named : goal.put_act-requires-clause-named
+put_act-requires-clause-named c =
+    (act_named c.args.scene.now c.args.self.now.entries c.args.place.0 c.args.entry c.in-Act.turn c.in-Act.effect c.in-Act.answer c.parts-parts.ensures.keeps c.requires.legal c.requires.here c.in-Act.is).line
 
 pub returns-in-Act : goal.returns-in-Act
 returns-in-Act c =
     let it = act_named c.args.scene.now c.args.self.now.entries c.args.place.0 c.args.entry c.in-Act.turn c.in-Act.effect c.in-Act.answer c.parts-parts.ensures.keeps c.requires.legal c.requires.here c.in-Act.is in
     let there = before-entry c.args.self.now.entries c.args.place.0 c.in-Act.turn.0 it.early (inside c.args.self.now.entries c.args.place.0 c.args.entry c.requires.here) in
-    rw (c.put_effect.ensures, c.in-Act.is, c.owner.ensures, there) refl
+    rw (c.put_act.ensures, c.in-Act.is, c.owner.ensures, there) refl
 
 -- an abort by an exception: the same of its turn
 

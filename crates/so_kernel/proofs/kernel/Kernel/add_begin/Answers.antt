@@ -9,7 +9,7 @@ use Rattle.so_history.proofs.OrderLaws.{message_picked, event_picked}
 use Rattle.so_history.proofs.DemandLaws.{picked_of}
 use Rattle.so_kernel.specs.Shapes.{Core}
 use Rattle.so_kernel.specs.Gates.{is_skip}
-use Rattle.so_kernel.proofs.KeptLaws.{kept_after, has_room, has_place, begun_lane, going}
+use Rattle.so_kernel.proofs.KeptLaws.{kept_after, has_room, has_place, next_legal, begun_lane, going}
 use Rattle.so_kernel.proofs.CountLaws.{few_of}
 use Rattle.so_kernel.proofs.TakeLaws.{picked_beside, safe_key}
 use Rattle.so_kernel.proofs.TableLaws.{tables-begin, begins_turn}
@@ -84,7 +84,7 @@ invariant_of-self c =
     let known = picked_of c.self.inside.scene.now c.self.inside.history.entries c.args.lane c.args.demand c.self.invariant.0.scene picks in
     let in_range = begun_lane c.args.entry c.args.lane c.args.demand c.self.invariant.0 (rw c.self.view_is c.requires.ready) is in
     let kept = kept_after c.args.entry c.begun.new.self c.self.invariant.0 (rw c.self.view_is c.requires.ready)
-    (c.begun.ensures ∙ rw (c.len.ensures.value, c.key-key.ensures.value, subst S (sym c.self.view_is) c.begins_safe-safe.ensures, c.self.invariant.0.tables) (sym (tables-begin c.self.inside.scene.now c.self.inside.history.limit c.self.inside.history.entries c.args.entry c.args.lane c.args.demand c.self.invariant.0.scene c.self.invariant.0.legal picks is (is ∙ begins) in_range known (going c.args.entry c.self.invariant.0 (rw c.self.view_is c.requires.ready))))) in
+    (c.begun.ensures ∙ rw (c.len.ensures.value, c.key-key.ensures.value, subst S (sym c.self.view_is) c.begins_safe-safe.ensures, c.self.invariant.0.tables) (sym (tables-begin c.self.inside.scene.now c.self.inside.history.limit c.self.inside.history.entries c.args.entry c.args.lane c.args.demand c.self.invariant.0.scene c.self.invariant.0.legal picks is (next_legal c.args.entry c.self.invariant.0 (rw c.self.view_is c.requires.ready)) (is ∙ begins) in_range known (going c.args.entry c.self.invariant.0 (rw c.self.view_is c.requires.ready))))) in
     rw (c.push.ensures.entries, c.push.ensures.limit) (kept, c.self.invariant.1, stands_same c.self.inside.scene.now c.self.inside.history.entries c.args.entry c.self.inside.states (λ a l. rw (is ∙ begins) refl) c.self.invariant.2)
 
 pub returns-clause-turn : goal.returns-clause-turn
@@ -96,5 +96,5 @@ returns-clause-turn c =
     let frame = subst F (sym c.self.view_is) c.begin_frame-frame.ensures in
     let is = subst Q (sym c.self.view_is) c.requires.is in
     let begins = begins_turn c.self.inside.scene.now c.self.inside.history.entries c.args.lane c.args.demand (sym (ap is_skip is) ∙ c.requires.begins) in
-    rw (c.push.ensures.entries, c.len.ensures.value, subst S (sym c.self.view_is) c.begins_safe-safe.ensures, frame, ← message_picked c.self.inside.scene.now c.self.inside.history.entries c.args.lane c.args.demand (subst P (sym c.self.view_is) c.requires.picked), c.source_of.ensures, ← event_picked c.self.inside.scene.now c.self.inside.history.entries c.args.lane c.args.demand (subst P (sym c.self.view_is) c.requires.picked))
+    rw (c.push.ensures.entries, c.len.ensures.value, subst S (sym c.self.view_is) c.begins_safe-safe.ensures, frame, c.asks_finish.ensures, ← message_picked c.self.inside.scene.now c.self.inside.history.entries c.args.lane c.args.demand (subst P (sym c.self.view_is) c.requires.picked), c.source_of.ensures, ← event_picked c.self.inside.scene.now c.self.inside.history.entries c.args.lane c.args.demand (subst P (sym c.self.view_is) c.requires.picked))
     (held_begun c.self.inside.scene.now c.self.inside.history.entries c.args.entry c.args.lane c.args.demand c.self.invariant.0.legal (is ∙ begins))

@@ -12,7 +12,7 @@ pub filter_dropped-requires-clause-room : goal.filter_dropped-requires-clause-ro
 filter_dropped-requires-clause-room c =
     let A : Core → Type 0 = λ k. IsActOf k.scene k.history c.args.entry c.args.agent (effect.DropFilter c.args.filter) in
     let acts = subst A (sym c.self.view_is) c.requires.acts in
-    has_room c.args.entry 0 c.self.invariant.0 (rw c.self.view_is c.requires.ready) (cost-acted c.self.inside.scene.now c.self.inside.history.entries c.args.entry c.args.agent (effect.DropFilter c.args.filter) acts refl)
+    has_room c.args.entry 0 c.self.invariant.0 (rw c.self.view_is c.requires.ready) (cost-acted c.self.inside.scene.now c.self.inside.history.entries c.args.entry acts.turn (effect.DropFilter c.args.filter) acts.answer acts.is refl)
 
 pub filter_dropped-requires-clause-agent : goal.filter_dropped-requires-clause-agent
 filter_dropped-requires-clause-agent c =
@@ -37,4 +37,4 @@ invariant_of-self c =
     let known = subst K (sym c.self.view_is) c.requires.agent in
     let kept = kept_after c.args.entry c.filter_dropped.new.self c.self.invariant.0 (rw c.self.view_is c.requires.ready)
     (c.filter_dropped.ensures ∙ rw c.self.invariant.0.tables (sym (tables-drop_filter c.self.inside.scene.now c.self.inside.history.limit c.self.inside.history.entries c.args.entry c.args.agent c.args.filter acts known c.self.invariant.0.legal (going c.args.entry c.self.invariant.0 (rw c.self.view_is c.requires.ready))))) in
-    rw (c.push.ensures.entries, c.push.ensures.limit) (kept, c.self.invariant.1, stands_acted c.self.inside.scene.now c.self.inside.history.entries c.args.entry c.args.agent (effect.DropFilter c.args.filter) c.self.inside.states acts (λ l. refl) c.self.invariant.2)
+    rw (c.push.ensures.entries, c.push.ensures.limit) (kept, c.self.invariant.1, stands_acted c.self.inside.scene.now c.self.inside.history.entries c.args.entry acts.turn (effect.DropFilter c.args.filter) acts.answer c.self.inside.states acts.is (λ b l. refl) c.self.invariant.2)

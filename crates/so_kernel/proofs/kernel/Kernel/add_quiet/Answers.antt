@@ -1,4 +1,4 @@
-use Rattle.std.proofs.Common.{◌<◌, length, sym, ◌∙◌, subst}
+use Rattle.std.proofs.Common.{sym, ◌∙◌, subst}
 use Rattle.so_kernel.specs.Shapes.{Core}
 use Rattle.so_kernel.specs.Gates.{IsQuietActOf}
 use Rattle.so_kernel.proofs.KeptLaws.{kept_after, has_room, has_place, going}
@@ -19,8 +19,6 @@ pub invariant_of-self : goal.invariant_of-self
 invariant_of-self c =
     let A : Core → Type 0 = λ k. IsQuietActOf k.scene k.history c.args.entry c.args.agent in
     let acts = subst A (sym c.self.view_is) c.requires.acts in
-    let K : Core → Type 0 = λ k. c.args.agent.0 < length k.scene.agents in
-    let known = subst K (sym c.self.view_is) c.requires.agent in
     let kept = kept_after c.args.entry c.acted.new.self c.self.invariant.0 (rw c.self.view_is c.requires.ready)
-    (c.acted.ensures ∙ rw c.self.invariant.0.tables (sym (tables-quiet c.self.inside.scene.now c.self.inside.history.limit c.self.inside.history.entries c.args.entry c.args.agent acts known c.self.invariant.0.legal (going c.args.entry c.self.invariant.0 (rw c.self.view_is c.requires.ready))))) in
+    (c.acted.ensures ∙ rw c.self.invariant.0.tables (sym (tables-quiet c.self.inside.scene.now c.self.inside.history.limit c.self.inside.history.entries c.args.entry c.args.agent acts c.self.invariant.0.legal (going c.args.entry c.self.invariant.0 (rw c.self.view_is c.requires.ready))))) in
     rw (c.push.ensures.entries, c.push.ensures.limit) (kept, c.self.invariant.1, stands_quiet c.self.inside.scene.now c.self.inside.history.entries c.args.entry c.args.agent c.self.inside.states acts c.self.invariant.2)

@@ -2,7 +2,9 @@ use Rattle.std.proofs.Common.{◌<◌, length, refl, sym, ◌∙◌, subst}
 use Rattle.so_code.specs.declared.effect.Effect.TheVariants as effect
 use Rattle.so_scene.specs.Parts.{filters_of}
 use Rattle.so_kernel.specs.Shapes.{Core}
+use Rattle.so_kernel.specs.Kept.{IsReady}
 use Rattle.so_kernel.specs.Gates.{IsActOf}
+use Rattle.so_kernel.proofs.AdmittedLaws.{acting_keeps}
 use Rattle.so_kernel.proofs.KeptLaws.{kept_after, has_room, has_place, going}
 use Rattle.so_kernel.proofs.TableLaws.{tables-set_filter, cost-acted}
 use Rattle.so_kernel.proofs.MboxLaws.{no_filter_fault}
@@ -13,7 +15,7 @@ pub filter_set-requires-clause-room : goal.filter_set-requires-clause-room
 filter_set-requires-clause-room c =
     let A : Core → Type 0 = λ k. IsActOf k.scene k.history c.args.entry c.args.agent (effect.SetFilter c.args.filter) in
     let acts = subst A (sym c.self.view_is) c.requires.acts in
-    has_room c.args.entry 0 c.self.invariant.0 (rw c.self.view_is c.requires.ready) (cost-acted c.self.inside.scene.now c.self.inside.history.entries c.args.entry c.args.agent (effect.SetFilter c.args.filter) acts refl)
+    has_room c.args.entry 0 c.self.invariant.0 (rw c.self.view_is c.requires.ready) (cost-acted c.self.inside.scene.now c.self.inside.history.entries c.args.entry acts.turn (effect.SetFilter c.args.filter) acts.answer acts.is refl)
 
 pub filter_set-requires-clause-agent : goal.filter_set-requires-clause-agent
 filter_set-requires-clause-agent c =
@@ -29,11 +31,12 @@ filter_set-requires-clause-filter c =
 
 pub filter_set-requires-clause-rules : goal.filter_set-requires-clause-rules
 filter_set-requires-clause-rules c =
-    let K : Core → Type 0 = λ k. c.args.agent.0 < length k.scene.agents in
-    let known = subst K (sym c.self.view_is) c.requires.agent in
+    let A : Core → Type 0 = λ k. IsActOf k.scene k.history c.args.entry c.args.agent (effect.SetFilter c.args.filter) in
+    let acts = subst A (sym c.self.view_is) c.requires.acts in
+    let keeps = acting_keeps c.self.inside.scene.now c.self.inside.history.entries c.args.entry c.args.agent (effect.SetFilter c.args.filter) c.self.invariant.0.legal (subst (λ (k : Core). IsReady k c.args.entry) (sym c.self.view_is) c.requires.ready).step acts in
     let W : Core → Type 0 = λ k. c.args.filter.0 < length (filters_of k.scene c.args.agent) in
     let within = subst W (sym c.self.view_is) c.requires.filter in
-    rw c.self.invariant.0.tables (no_filter_fault c.self.inside.scene.now c.args.agent c.args.filter c.self.invariant.0.scene known within)
+    rw c.self.invariant.0.tables (no_filter_fault c.self.inside.scene.now c.args.agent c.args.filter keeps within)
 
 pub push-requires : goal.push-requires
 push-requires c = has_place c.args.entry c.self.invariant.0 (rw c.self.view_is c.requires.ready)
@@ -46,4 +49,4 @@ invariant_of-self c =
     let known = subst K (sym c.self.view_is) c.requires.agent in
     let kept = kept_after c.args.entry c.filter_set.new.self c.self.invariant.0 (rw c.self.view_is c.requires.ready)
     (c.filter_set.ensures ∙ rw c.self.invariant.0.tables (sym (tables-set_filter c.self.inside.scene.now c.self.inside.history.limit c.self.inside.history.entries c.args.entry c.args.agent c.args.filter acts known c.self.invariant.0.legal (going c.args.entry c.self.invariant.0 (rw c.self.view_is c.requires.ready))))) in
-    rw (c.push.ensures.entries, c.push.ensures.limit) (kept, c.self.invariant.1, stands_acted c.self.inside.scene.now c.self.inside.history.entries c.args.entry c.args.agent (effect.SetFilter c.args.filter) c.self.inside.states acts (λ l. refl) c.self.invariant.2)
+    rw (c.push.ensures.entries, c.push.ensures.limit) (kept, c.self.invariant.1, stands_acted c.self.inside.scene.now c.self.inside.history.entries c.args.entry acts.turn (effect.SetFilter c.args.filter) acts.answer c.self.inside.states acts.is (λ b l. refl) c.self.invariant.2)

@@ -2,7 +2,9 @@ use Rattle.std.proofs.Common.{◌<◌, length, refl, sym, ◌∙◌, subst}
 use Rattle.so_code.specs.declared.effect.Effect.TheVariants as effect
 use Rattle.so_scene.specs.Parts.{rows_of}
 use Rattle.so_kernel.specs.Shapes.{Core}
+use Rattle.so_kernel.specs.Kept.{IsReady}
 use Rattle.so_kernel.specs.Gates.{IsActOf}
+use Rattle.so_kernel.proofs.AdmittedLaws.{acting_keeps}
 use Rattle.so_kernel.proofs.KeptLaws.{kept_after, has_room, has_place, going}
 use Rattle.so_kernel.proofs.TableLaws.{tables-subscribe, cost-acted}
 use Rattle.so_kernel.proofs.StateLaws.{stands_acted}
@@ -12,7 +14,7 @@ pub subscribed-requires-clause-room : goal.subscribed-requires-clause-room
 subscribed-requires-clause-room c =
     let A : Core → Type 0 = λ k. IsActOf k.scene k.history c.args.entry c.args.agent (effect.Subscribe c.args.row) in
     let acts = subst A (sym c.self.view_is) c.requires.acts in
-    has_room c.args.entry 0 c.self.invariant.0 (rw c.self.view_is c.requires.ready) (cost-acted c.self.inside.scene.now c.self.inside.history.entries c.args.entry c.args.agent (effect.Subscribe c.args.row) acts refl)
+    has_room c.args.entry 0 c.self.invariant.0 (rw c.self.view_is c.requires.ready) (cost-acted c.self.inside.scene.now c.self.inside.history.entries c.args.entry acts.turn (effect.Subscribe c.args.row) acts.answer acts.is refl)
 
 pub subscribed-requires-clause-agent : goal.subscribed-requires-clause-agent
 subscribed-requires-clause-agent c =
@@ -37,6 +39,7 @@ invariant_of-self c =
     let known = subst K (sym c.self.view_is) c.requires.agent in
     let W : Core → Type 0 = λ k. c.args.row.0 < length (rows_of k.scene c.args.agent) in
     let within = subst W (sym c.self.view_is) c.requires.row in
+    let keeps = acting_keeps c.self.inside.scene.now c.self.inside.history.entries c.args.entry c.args.agent (effect.Subscribe c.args.row) c.self.invariant.0.legal (subst (λ (k : Core). IsReady k c.args.entry) (sym c.self.view_is) c.requires.ready).step acts in
     let kept = kept_after c.args.entry c.subscribed.new.self c.self.invariant.0 (rw c.self.view_is c.requires.ready)
-    (c.subscribed.ensures ∙ rw c.self.invariant.0.tables (sym (tables-subscribe c.self.inside.scene.now c.self.inside.history.limit c.self.inside.history.entries c.args.entry c.args.agent c.args.row acts c.self.invariant.0.scene known within c.self.invariant.0.legal (going c.args.entry c.self.invariant.0 (rw c.self.view_is c.requires.ready))))) in
-    rw (c.push.ensures.entries, c.push.ensures.limit) (kept, c.self.invariant.1, stands_acted c.self.inside.scene.now c.self.inside.history.entries c.args.entry c.args.agent (effect.Subscribe c.args.row) c.self.inside.states acts (λ l. refl) c.self.invariant.2)
+    (c.subscribed.ensures ∙ rw c.self.invariant.0.tables (sym (tables-subscribe c.self.inside.scene.now c.self.inside.history.limit c.self.inside.history.entries c.args.entry c.args.agent c.args.row acts known keeps within c.self.invariant.0.legal (going c.args.entry c.self.invariant.0 (rw c.self.view_is c.requires.ready))))) in
+    rw (c.push.ensures.entries, c.push.ensures.limit) (kept, c.self.invariant.1, stands_acted c.self.inside.scene.now c.self.inside.history.entries c.args.entry acts.turn (effect.Subscribe c.args.row) acts.answer c.self.inside.states acts.is (λ b l. refl) c.self.invariant.2)

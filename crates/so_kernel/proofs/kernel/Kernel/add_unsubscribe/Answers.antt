@@ -12,7 +12,7 @@ pub unsubscribed-requires-clause-room : goal.unsubscribed-requires-clause-room
 unsubscribed-requires-clause-room c =
     let A : Core → Type 0 = λ k. IsActOf k.scene k.history c.args.entry c.args.agent (effect.Unsubscribe c.args.row) in
     let acts = subst A (sym c.self.view_is) c.requires.acts in
-    has_room c.args.entry 0 c.self.invariant.0 (rw c.self.view_is c.requires.ready) (cost-acted c.self.inside.scene.now c.self.inside.history.entries c.args.entry c.args.agent (effect.Unsubscribe c.args.row) acts refl)
+    has_room c.args.entry 0 c.self.invariant.0 (rw c.self.view_is c.requires.ready) (cost-acted c.self.inside.scene.now c.self.inside.history.entries c.args.entry acts.turn (effect.Unsubscribe c.args.row) acts.answer acts.is refl)
 
 pub unsubscribed-requires-clause-agent : goal.unsubscribed-requires-clause-agent
 unsubscribed-requires-clause-agent c =
@@ -37,4 +37,4 @@ invariant_of-self c =
     let known = subst K (sym c.self.view_is) c.requires.agent in
     let kept = kept_after c.args.entry c.unsubscribed.new.self c.self.invariant.0 (rw c.self.view_is c.requires.ready)
     (c.unsubscribed.ensures ∙ rw c.self.invariant.0.tables (sym (tables-unsubscribe c.self.inside.scene.now c.self.inside.history.limit c.self.inside.history.entries c.args.entry c.args.agent c.args.row acts known c.self.invariant.0.legal (going c.args.entry c.self.invariant.0 (rw c.self.view_is c.requires.ready))))) in
-    rw (c.push.ensures.entries, c.push.ensures.limit) (kept, c.self.invariant.1, stands_acted c.self.inside.scene.now c.self.inside.history.entries c.args.entry c.args.agent (effect.Unsubscribe c.args.row) c.self.inside.states acts (λ l. refl) c.self.invariant.2)
+    rw (c.push.ensures.entries, c.push.ensures.limit) (kept, c.self.invariant.1, stands_acted c.self.inside.scene.now c.self.inside.history.entries c.args.entry acts.turn (effect.Unsubscribe c.args.row) acts.answer c.self.inside.states acts.is (λ b l. refl) c.self.invariant.2)

@@ -1,0 +1,3 @@
+pub mod Coops
+pub mod Family
+pub mod Laws
