@@ -13,4 +13,3 @@ pub mod Own
 pub mod Turns
 pub mod Plans
 pub mod Differs
-pub mod Echo

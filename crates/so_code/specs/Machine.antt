@@ -174,7 +174,8 @@ abbrev pub first_move : ℕ → List Instr → Frame → Option (Move × Frame)
 first_move zero code f = None
 first_move (suc n) code f = go_on (first_move n code) (step code f)
 
--- more steps than a move of a frame ever takes: a plan has at most 33 parts, and each of them, and what comes before
+-- more steps than a move of a frame ever takes, so that the next move is free of their number (so_code's laws step_moves and
+-- step_goes_on): a plan has at most 33 parts, and each of them, and what comes before
 -- them, takes less than twice the code's length and three
 abbrev pub steps : List Instr → ℕ
 steps code = 34 * (2 * length code + 3)

@@ -14,7 +14,7 @@ use std::marker::Model;
 /// state, rows; or the one of a thread. A receive is followed by its handlers, each from its `Case` to
 /// its `Back`, with no receive and no switch in them, and no switch is in an enter or exit body. A
 /// jump goes forward over whole acts of its own list.
-#[derive(Debug, Drop)]
+#[derive(Drop)]
 pub struct Code {
     instrs: Vec<Instr>,
 }

@@ -6,7 +6,7 @@ use so_ids::{
 };
 
 /// What a turn does to the world.
-#[derive(Clone, Copy, Debug, PartialEq, Eq)]
+#[derive(Clone, Copy, PartialEq, Eq)]
 pub enum Effect {
     /// A line of the agent's or the thread's log.
     Log {
@@ -83,7 +83,7 @@ pub enum Effect {
 }
 
 /// What the core answers.
-#[derive(Clone, Copy, Debug, PartialEq, Eq)]
+#[derive(Clone, Copy, PartialEq, Eq)]
 pub enum Answer {
     /// It is done.
     Okay,
@@ -116,7 +116,7 @@ pub enum Answer {
 }
 
 /// The exception by which a turn fails.
-#[derive(Clone, Copy, Debug, PartialEq, Eq)]
+#[derive(Clone, Copy, PartialEq, Eq)]
 pub enum FailKind {
     /// A sum, difference or product doesn't fit 64 bits.
     Overflow,
@@ -131,7 +131,7 @@ pub enum FailKind {
 }
 
 /// One move of a turn.
-#[derive(Clone, Copy, Debug, PartialEq, Eq)]
+#[derive(Clone, Copy, PartialEq, Eq)]
 pub enum Move {
     /// An effect, after which the frame waits for its answer.
     Do(Effect),

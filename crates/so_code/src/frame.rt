@@ -5,7 +5,7 @@ use crate::instr::Body;
 use so_ids::{MsgId, Opening, Payload, Plan, StateId, Vars};
 
 /// What a turn does next.
-#[derive(Clone, Copy, Debug, PartialEq, Eq)]
+#[derive(Clone, Copy, PartialEq, Eq)]
 pub enum Todo {
     /// The instruction at the place.
     Act,
@@ -32,7 +32,7 @@ pub enum Todo {
 }
 
 /// The frame of a turn.
-#[derive(Clone, Copy, Debug, PartialEq, Eq)]
+#[derive(Clone, Copy, PartialEq, Eq)]
 pub struct Frame {
     pub todo: Todo,
     /// The instruction to which the turn has come.

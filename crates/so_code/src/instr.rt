@@ -3,7 +3,7 @@
 use so_ids::{ChainId, CoopId, FilterId, MsgId, RowId, StateId, Target, TextId};
 
 /// How two numbers are compared.
-#[derive(Clone, Copy, Debug, PartialEq, Eq)]
+#[derive(Clone, Copy, PartialEq, Eq)]
 pub enum Cmp {
     Eq,
     Ne,
@@ -14,7 +14,7 @@ pub enum Cmp {
 }
 
 /// What an act reads.
-#[derive(Clone, Copy, Debug, PartialEq, Eq)]
+#[derive(Clone, Copy, PartialEq, Eq)]
 pub enum Operand {
     /// The number itself.
     Num(i64),
@@ -29,7 +29,7 @@ pub enum Operand {
 }
 
 /// What an act writes.
-#[derive(Clone, Copy, Debug, PartialEq, Eq)]
+#[derive(Clone, Copy, PartialEq, Eq)]
 pub enum Dest {
     /// A variable, 0 to 15.
     Var(u8),
@@ -38,14 +38,14 @@ pub enum Dest {
 }
 
 /// The operands of a line or a message: the first `used` count, and the rest are `Num(0)`.
-#[derive(Clone, Copy, Debug, PartialEq, Eq)]
+#[derive(Clone, Copy, PartialEq, Eq)]
 pub struct Args {
     pub list: [Operand; 4],
     pub used: u8,
 }
 
 /// A list of acts that runs as a whole.
-#[derive(Clone, Copy, Debug, PartialEq, Eq)]
+#[derive(Clone, Copy, PartialEq, Eq)]
 pub enum Body {
     /// The agent's start handler.
     Start,
@@ -62,7 +62,7 @@ pub enum Body {
 }
 
 /// An act, or a mark between acts. A jump counts the instructions that it passes over.
-#[derive(Clone, Copy, Debug, PartialEq, Eq)]
+#[derive(Clone, Copy, PartialEq, Eq)]
 pub enum Instr {
     Set {
         to: Dest,

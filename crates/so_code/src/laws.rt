@@ -1,11 +1,12 @@
 //! What holds of the turns of a code. Each law is the contract of a function that does nothing.
 
-ghost use Rattle.std.specs.Prelude.{◌≡◌, ◌+◌, ◌++◌, ◌≤◌, List, true, false, length, replicate, slice_get};
+ghost use Rattle.std.specs.Prelude.{◌≡◌, ◌+◌, ◌++◌, ◌≤◌, List, true, false, length, replicate, slice_get, Some, None};
 ghost use Rattle.std.specs.List.{AllByRecursion};
 ghost use Rattle.so_ids.specs.declared.StateId.{StateId as StateNumber};
 ghost use Rattle.so_code.specs.declared.effect.Answer.{Answer as AnyAnswer};
 ghost use Rattle.so_code.specs.declared.effect.Answer.TheVariants.{Okay};
 ghost use Rattle.so_code.specs.declared.effect.Effect.{Effect as AnyEffect};
+ghost use Rattle.so_code.specs.declared.effect.Move.{Move as AnyMove};
 ghost use Rattle.so_code.specs.declared.effect.Move.TheVariants.{Do};
 ghost use Rattle.so_code.specs.declared.frame.Frame.{Frame as AnyFrame};
 ghost use Rattle.so_code.specs.declared.instr.Cmp.{Cmp as AnyCmp};
@@ -13,12 +14,25 @@ ghost use Rattle.so_code.specs.declared.instr.Operand.{Operand as AnyOperand};
 ghost use Rattle.so_code.specs.declared.instr.Instr.{Instr as AnyInstr};
 ghost use Rattle.so_code.specs.Values.{holds, value};
 ghost use Rattle.so_code.specs.Shape.{IsCode};
-ghost use Rattle.so_code.specs.Machine.{plan_step, after};
+ghost use Rattle.so_code.specs.Machine.{plan_step, step, after};
 ghost use Rattle.so_code.specs.Running.{IsFrame};
 ghost use Rattle.so_code.specs.Origins.{Origin};
 ghost use Rattle.so_code.specs.Own.{RunsActs, IsOwnAct, is_own};
 ghost use Rattle.so_code.specs.Turns.{effects_by, effects_in, is_straight, lines_of, is_log, at_place, BeginsWith, first_place, IsIf, GoesOnWith};
 ghost use Rattle.so_code.specs.Plans.{plan_parts, do_part, TransfersOnce};
+
+/// Where a step gives a move, that is the turn's next one.
+pub fn step_moves()
+    ensures { (code : List AnyInstr) (f g : AnyFrame) (move : AnyMove) →
+        IsCode code → IsFrame code f → step code f ≡ (Some move, g) → after code f ≡ (move, g) }
+{}
+
+/// Where a step gives none, the next move is that of the frame after the step. So the next move is what the steps come to,
+/// whatever number of them its definition allows.
+pub fn step_goes_on()
+    ensures { (code : List AnyInstr) (f g : AnyFrame) →
+        IsCode code → IsFrame code f → step code f ≡ (None, g) → after code f ≡ after code g }
+{}
 
 /// A turn whose body has no jump asks for the effects of the body's acts, in their order, until an
 /// act or an answer raises an exception.

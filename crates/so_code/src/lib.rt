@@ -12,8 +12,6 @@ mod begin;
 mod behaviour;
 mod bodies;
 mod code;
-#[cfg(test)]
-mod echo;
 mod effect;
 mod frame;
 mod instr;
@@ -21,8 +19,6 @@ pub mod laws;
 mod receives;
 mod run;
 mod step;
-#[cfg(test)]
-mod tests;
 mod values;
 
 pub use behaviour::{Behaviour, Script};

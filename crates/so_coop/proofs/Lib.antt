@@ -1,4 +1,4 @@
 pub mod AdmissionLaws
 pub mod AgentLaws
-pub mod FamilyLaws
+pub mod CountLaws
 pub mod LeavingLaws

@@ -1,3 +1,3 @@
 pub mod Coops
-pub mod Family
+pub mod Counts
 pub mod Laws

@@ -113,7 +113,7 @@ impl<'a> Coops<'a> {
         ensures { result ≡ refused_rule self.now.scene (agents_of self.now.scene coop) k }
     {
         let agent = self.agent_at(coop, k);
-        match self.scene.definition_fault(agent) {
+        match self.faults[agent.0 as usize] {
             Some(fault) => Some(Refusal::Definition(agent, fault)),
             None => None,
         }

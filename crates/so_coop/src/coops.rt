@@ -1,16 +1,20 @@
 //! How the cooperations of a run stand, and what changes it.
 
-ghost use Rattle.std.specs.Prelude.{◌≡◌, ◌<◌, false, IfOk};
+ghost use Rattle.std.specs.Prelude.{◌≡◌, ◌<◌, ◌≤◌, ◌+◌, ◌&&◌, length, slice_index_or, true, false, IfOk, IfSome};
+ghost use Rattle.so_ids.specs.declared.CoopId.{CoopId as CoopNumber};
+ghost use Rattle.so_scene.specs.Cooperations.{is_parent};
 ghost use Rattle.so_scene.specs.Parts.{agent_of};
 ghost use Rattle.so_coop.specs.Coops.{IsCoopOf, IsAgentOf, absent, entered, nobody, standing_at, is_leaving, present, with_coop, after_enter, is_free, may_mark, after_mark, begun_to_leave, after_leave_begin, after_finished, after_left};
+ghost use Rattle.so_coop.specs.Counts.{one, stays, is_marked, AreJudged};
 
-use so_ids::{AgentId, CoopId, NoMemory, Reason};
+use crate::counts::{Counts, exchanged};
+use so_ids::{AgentId, CoopId, DefFault, NoMemory, Reason};
 use so_scene::Scene;
 use std::alloc::Global;
 use std::marker::Model;
 
 /// How a cooperation stands.
-#[derive(Clone, Copy, Debug, PartialEq, Eq)]
+#[derive(Clone, Copy, PartialEq, Eq)]
 pub struct Coop {
     /// Whether it is registered.
     pub present: bool,
@@ -53,24 +57,41 @@ impl Coop {
     {
         self.present && !self.leaving && self.mark.is_none()
     }
+
+    /// Tells whether it is registered and not leaving yet.
+    pub(crate) fn stays(self) -> bool
+        ensures { result ≡ stays self }
+    {
+        self.present && !self.leaving
+    }
+
+    /// Tells whether it is registered, not leaving yet, and marked to leave.
+    pub(crate) fn is_marked(self) -> bool
+        ensures { result ≡ is_marked self }
+    {
+        self.stays() && self.mark.is_some()
+    }
 }
 
 /// The cooperations of a scene in a run, each with how it stands. Nothing after its making takes memory.
-#[derive(Debug, Drop)]
+#[derive(Drop)]
 pub struct Coops<'a> {
     pub(crate) scene: &'a Scene,
     coops: Vec<Coop>,
+    pub(crate) counts: Counts,
+    pub(crate) children: Vec<u32>,
+    pub(crate) faults: Vec<Option<DefFault>>,
 }
 
 impl<'a> Model for Coops<'a> {
-    ghost use Rattle.std.specs.Prelude.{◌≡◌, length};
     ghost use Rattle.so_coop.specs.Coops.{CoopTable};
+    ghost use Rattle.so_coop.specs.Counts.{IsKept};
 
     ghost Value = { CoopTable };
 
     ghost view = { λ t. record { scene = t.scene.now; coops = t.coops.items } };
 
-    ghost invariant = { λ t. length t.coops.items ≡ length t.scene.now.coops };
+    ghost invariant = { λ t. IsKept (record { scene = t.scene.now; coops = t.coops.items }) t.counts t.children.items t.faults.items };
 }
 
 impl<'a> Coops<'a> {
@@ -78,10 +99,19 @@ impl<'a> Coops<'a> {
     pub fn with(alloc: Global, scene: &'a Scene) -> Result<Coops<'a>, NoMemory>
         ensures { IfOk result (λ t. t ≡ nobody scene.now) }
     {
-        let Ok(coops) = Vec::from_elem(alloc, Coop::absent(), scene.coops() as usize) else {
-            return Err(NoMemory);
-        };
-        Ok(Coops { scene, coops })
+        let count = scene.coops() as usize;
+        Ok(Coops {
+            scene,
+            coops: Vec::from_elem(alloc, Coop::absent(), count)?,
+            counts: Counts {
+                present: 0,
+                leaving: 0,
+                staying: 0,
+                marked: 0,
+            },
+            children: Vec::from_elem(alloc, 0, count)?,
+            faults: faults_of(alloc, scene)?,
+        })
     }
 
     /// The scene that it was made for.
@@ -113,12 +143,7 @@ impl<'a> Coops<'a> {
     pub fn present(&self) -> u32
         ensures { result ≡ present self.now }
     {
-        let _parts = self.scene.parts();
-        self.coops
-            .as_slice()
-            .iter()
-            .filter(|coop| coop.present)
-            .count() as u32
+        self.counts.present
     }
 
     /// A cooperation is registered.
@@ -189,6 +214,35 @@ impl<'a> Coops<'a> {
         requires { IsCoopOf self.old.scene coop }
         ensures { self.new ≡ with_coop coop stands self.old }
     {
+        let _parts = self.scene.parts();
+        let old = self.coops[coop.0 as usize];
+        self.counts = self.counts.changed(old, stands);
+        let parent = self.scene.coop(coop).parent;
+        recount(&mut self.children, parent, old.present, stands.present);
         self.coops[coop.0 as usize] = stands;
     }
+}
+
+/// Counts one child of the parent, if there is one, less where it was registered, and one more where it is now.
+fn recount(children: &mut Vec<u32>, parent: Option<CoopId>, old: bool, new: bool)
+    requires within { IfSome parent (λ p. p.0 < length children.old.items) }
+    requires some { IfSome parent (λ p. (old ≡ true → 0 < slice_index_or children.old.items p.0 0) × (slice_index_or children.old.items p.0 0 ≤ 1024)) }
+    ensures length { length children.new.items ≡ length children.old.items }
+    ensures each { (c : CoopNumber) → c.0 < length children.old.items → slice_index_or children.new.items c.0 0 + one (old && is_parent c parent) ≡ slice_index_or children.old.items c.0 0 + one (new && is_parent c parent) }
+{
+    if let Some(parent) = parent {
+        let count = children[parent.0 as usize];
+        children[parent.0 as usize] = exchanged(count, old, new);
+    }
+}
+
+/// The first rule of definition that each agent breaks.
+fn faults_of(alloc: Global, scene: &Scene) -> Result<Vec<Option<DefFault>>, NoMemory>
+    ensures { IfOk result (λ faults. AreJudged scene.now faults.items) }
+{
+    let mut faults = Vec::with_capacity(alloc, scene.agents() as usize)?;
+    for k in 0..scene.agents() {
+        faults.push_reserved(scene.definition_fault(AgentId(k)));
+    }
+    Ok(faults)
 }

@@ -1,7 +1,7 @@
 //! Which cooperation is to leave next and why, and which has left.
 
 ghost use Rattle.std.specs.Prelude.{◌≡◌, ◌<◌, length, false};
-ghost use Rattle.so_scene.specs.Cooperations.{coop_number, parent_leaves, reason_unmarked, reason_of, leaving_at, leaving_next, is_parent, is_child, has_child};
+ghost use Rattle.so_scene.specs.Cooperations.{coop_number, parent_leaves, reason_unmarked, reason_of, leaving_at, leaving_next, has_child};
 ghost use Rattle.so_coop.specs.Coops.{IsCoopOf, standing, has_ended, ended_at, left_next};
 
 use crate::coops::Coops;
@@ -13,6 +13,12 @@ impl<'a> Coops<'a> {
     pub fn leaving_next(&self, stopped: bool) -> Option<(CoopId, Reason)>
         ensures { result ≡ leaving_next self.now.scene (standing self.now stopped) }
     {
+        if self.counts.staying == 0 {
+            return None;
+        }
+        if self.counts.leaving == 0 && self.counts.marked == 0 && !stopped {
+            return None;
+        }
         for k in 0..self.scene.coops() {
             let leaving = self.leaving_at(CoopId(k), stopped);
             if leaving.is_some() {
@@ -27,6 +33,9 @@ impl<'a> Coops<'a> {
     pub fn left_next(&self) -> Option<CoopId>
         ensures { result ≡ left_next self.now }
     {
+        if self.counts.leaving == 0 {
+            return None;
+        }
         for k in 0..self.scene.coops() {
             let ended = self.ended_at(CoopId(k));
             if ended.is_some() {
@@ -91,6 +100,7 @@ impl<'a> Coops<'a> {
 
     /// The cooperation, if it has ended.
     fn ended_at(&self, coop: CoopId) -> Option<CoopId>
+        requires { IsCoopOf self.now.scene coop }
         ensures { result ≡ ended_at self.now coop.0 }
     {
         if self.has_ended(coop) {
@@ -102,6 +112,7 @@ impl<'a> Coops<'a> {
 
     /// Tells whether the cooperation is leaving, its agents' finish turns are over, and it has no child registered.
     fn has_ended(&self, coop: CoopId) -> bool
+        requires { IsCoopOf self.now.scene coop }
         ensures { result ≡ has_ended self.now coop }
     {
         let stands = self.stands(coop);
@@ -110,31 +121,9 @@ impl<'a> Coops<'a> {
 
     /// Tells whether a cooperation is registered that has this one as its named parent.
     fn has_child(&self, coop: CoopId) -> bool
+        requires { IsCoopOf self.now.scene coop }
         ensures { result ≡ has_child self.now.scene (standing self.now false) coop }
     {
-        for k in 0..self.scene.coops() {
-            if self.is_child(coop, CoopId(k)) {
-                return true;
-            }
-        }
-        false
-    }
-
-    /// Tells whether the second cooperation is registered, and has the first as its named parent.
-    fn is_child(&self, coop: CoopId, child: CoopId) -> bool
-        requires { IsCoopOf self.now.scene child }
-        ensures { result ≡ is_child self.now.scene (standing self.now false) coop child }
-    {
-        self.stands(child).present && is_parent(coop, self.scene.coop(child).parent)
-    }
-}
-
-/// Tells whether the cooperation is the named parent, if one is named.
-fn is_parent(coop: CoopId, parent: Option<CoopId>) -> bool
-    ensures { result ≡ is_parent coop parent }
-{
-    match parent {
-        None => false,
-        Some(parent) => parent == coop,
+        self.children[coop.0 as usize] > 0
     }
 }

@@ -3,11 +3,8 @@
 
 mod admission;
 mod coops;
-#[cfg(test)]
-mod example;
+mod counts;
 pub mod laws;
 mod leaving;
-#[cfg(test)]
-mod tests;
 
 pub use coops::{Coop, Coops};

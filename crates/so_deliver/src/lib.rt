@@ -2,12 +2,8 @@
 #![tactic(auto)]
 
 mod committing;
-#[cfg(test)]
-mod example;
 mod outcomes;
 mod plan;
-#[cfg(test)]
-mod tests;
 
 pub use committing::{commit, queue_demand};
 pub use outcomes::Outcomes;

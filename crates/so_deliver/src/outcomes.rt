@@ -8,7 +8,7 @@ use std::alloc::Global;
 use std::marker::Model;
 
 /// The events that a delivery queues, in the order of its receivers, with room for so many.
-#[derive(Debug, Drop)]
+#[derive(Drop)]
 pub struct Outcomes {
     queued: Vec<Queued>,
     room: u32,
@@ -30,9 +30,7 @@ impl Outcomes {
     pub fn with(alloc: Global, cap: u32) -> Result<Outcomes, NoMemory>
         ensures { IfOk result (λ all. all ≡ no_outcomes cap) }
     {
-        let Ok(queued) = Vec::with_capacity(alloc, cap as usize) else {
-            return Err(NoMemory);
-        };
+        let queued = Vec::with_capacity(alloc, cap as usize)?;
         Ok(Outcomes { queued, room: cap })
     }
 

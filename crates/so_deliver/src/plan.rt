@@ -15,7 +15,7 @@ use so_ids::{AgentId, MboxId, MsgId, Payload, Queued, Sent, Target};
 use so_mbox::Table;
 
 /// The answer to a delivery.
-#[derive(Clone, Copy, Debug, PartialEq, Eq)]
+#[derive(Clone, Copy, PartialEq, Eq)]
 pub enum Planned {
     /// Nothing stands against it. It tells what the sender is told.
     Fits(Sent),
@@ -75,13 +75,14 @@ fn queue_each(
     outcomes: &mut Outcomes,
 ) -> u32
     requires scene { coops.now.scene ≡ table.now.scene }
+    requires mbox { mbox.0 < mboxes table.now.scene }
     requires room { length table.now.scene.agents ≤ outcomes.old.room }
     ensures events { outcomes.new ≡ with_queued (events (outcomes_of table.now coops.now mbox msg payload)) outcomes.old }
     ensures lost { result ≡ length (filter is_lost (outcomes_of table.now coops.now mbox msg payload)) }
 {
     outcomes.clear();
     let mut lost = 0;
-    for agent in table.registered() {
+    for agent in table.candidates(mbox, msg) {
         if is_let_through(table, *agent, mbox, msg, payload) {
             if coops.is_leaving(*agent) {
                 lost += 1;

@@ -6,7 +6,7 @@ ghost use Rattle.so_disp_adv.specs.declared.heads.HeadClass.{HeadClass as Class}
 use so_ids::DemandId;
 
 /// What becomes of a demand that is taken.
-#[derive(Clone, Copy, Debug, PartialEq, Eq)]
+#[derive(Clone, Copy, PartialEq, Eq)]
 pub enum HeadClass {
     /// A turn begins that runs beside no other of its queue.
     Exclusive,

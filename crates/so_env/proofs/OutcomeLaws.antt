@@ -8,7 +8,7 @@ use Rattle.so_history.specs.Steps.{Legal}
 use Rattle.so_history.specs.Chain.{IsChain}
 use Rattle.so_history.specs.Text.{text}
 use Rattle.so_history.proofs.ChainLaws.{stops_at}
-use Rattle.so_history.proofs.FactLaws.{has_facts}
+use Rattle.so_facts.proofs.AllLaws.{has_all_facts}
 use Rattle.so_env.specs.Prints.{Printed, HasRisen, Counts, IsSimulated, cause_of}
 use Rattle.so_env.specs.declared.outcome.Cause.{Cause}
 
@@ -18,14 +18,14 @@ pub record Parts (s : SceneParts) (n : ℕ) (mode : Mode) (h : List Entry) (caus
   pub legal : Legal s h
   pub is : cause ≡ cause_of s h failed
   pub printed : Printed failed a b (text s mode h)
-  pub counts : Counts s mode h failed p
+  pub counts : Counts s mode h failed p a b
   pub risen : HasRisen failed x y
 
 simulated : (s : SceneParts) (n : ℕ) (mode : Mode) (h : List Entry) (cause : Cause) (failed : Bool) (p : ℕ) (a b : Option (List ℕ)) (x y : ℕ) → IsScene s → Parts s n mode h cause failed p a b x y → IsSimulated s n mode h cause p a b x y
 simulated s n mode h cause failed p a b x y range parts = record {
   chain = parts.chain;
   legal = parts.legal;
-  facts = has_facts s h range parts.legal;
+  facts = has_all_facts s h range parts.legal;
   failed = failed;
   is = parts.is;
   at_limit = stops_at s n h range parts.legal parts.chain.whole;
@@ -35,7 +35,7 @@ simulated s n mode h cause failed p a b x y range parts = record {
 }
 
 pub simulated_by : (s s0 s1 : SceneParts) (n n0 : ℕ) (mode : Mode) (h h1 : List Entry) (cause : Cause) (failed : Bool) (p : ℕ) (a b : Option (List ℕ)) (x y : ℕ) → s0 ≡ s → n0 ≡ n → s1 ≡ s0 → h ≡ h1 → IsScene s
-    → IsChain s0 n0 h1 → Legal s1 h1 → cause ≡ cause_of s1 h1 failed → Printed failed a b (text s0 mode h1) → Counts s0 mode h1 failed p → HasRisen failed x y → IsSimulated s n mode h cause p a b x y
+    → IsChain s0 n0 h1 → Legal s1 h1 → cause ≡ cause_of s1 h1 failed → Printed failed a b (text s0 mode h1) → Counts s0 mode h1 failed p a b → HasRisen failed x y → IsSimulated s n mode h cause p a b x y
 simulated_by s s0 s1 n n0 mode h h1 cause failed p a b x y scene units same history range chain legal is printed counts risen =
     subst (λ (l : List Entry). IsSimulated s n mode l cause p a b x y) (sym history)
     (simulated s n mode h1 cause failed p a b x y range record {
@@ -43,6 +43,6 @@ simulated_by s s0 s1 n n0 mode h h1 cause failed p a b x y scene units same hist
       legal = subst (λ (z : SceneParts). Legal z h1) (same ∙ scene) legal;
       is = subst (λ (z : SceneParts). cause ≡ cause_of z h1 failed) (same ∙ scene) is;
       printed = subst (λ (z : SceneParts). Printed failed a b (text z mode h1)) scene printed;
-      counts = subst (λ (z : SceneParts). Counts z mode h1 failed p) scene counts;
+      counts = subst (λ (z : SceneParts). Counts z mode h1 failed p a b) scene counts;
       risen = risen;
     })

@@ -8,15 +8,17 @@ use Rattle.so_history.specs.declared.entry.Entry.{Entry}
 use Rattle.so_history.specs.Turns.{running_at, lane_number}
 use Rattle.so_history.specs.Chain.{first, next_entry, FollowsFirst, IsChain}
 use Rattle.so_history.proofs.TurnLaws.{none_first}
-use Rattle.so_kernel.specs.Shapes.{Core}
-use Rattle.so_kernel.specs.Gates.{gated, core_after, stepped, entries}
+use Rattle.so_ledger.specs.Shapes.{Core}
+use Rattle.so_ledger.specs.Gates.{gated, core_after}
+use Rattle.so_kernel.specs.Answers.{stepped, entries}
 use Rattle.so_kernel.specs.Held.{AreHeld, IsLaneHeld}
-use Rattle.so_kernel.specs.declared.answers.Refused.{Refused}
-use Rattle.so_kernel.specs.declared.answers.Refused.TheVariants.{Nothing, Full, Over}
+use Rattle.so_ledger.specs.declared.gate.Refused.{Refused}
+use Rattle.so_ledger.specs.declared.gate.Refused.TheVariants.{Nothing, Full, Over}
 use Rattle.so_kernel.specs.declared.answers.Stepped.{Stepped}
 use Rattle.so_kernel.specs.declared.answers.Turn.{Turn}
-use Rattle.so_kernel.proofs.KeptLaws.{fits_gated}
-use Rattle.so_kernel.proofs.GateLaws.{goes_on, stops, one_entry}
+use Rattle.so_ledger.proofs.GateLaws.{fits_gated}
+use Rattle.so_ledger.proofs.GateLaws.{goes_on, stops}
+use Rattle.so_kernel.proofs.AnswerLaws.{one_entry}
 use Rattle.so_env.specs.Runs.{IsOnTheWay}
 
 -- a step added an entry, or added none

@@ -1,26 +1,49 @@
 -- A step that says Nothing leaves the next step to be tried, and any other answer is the answer.
-use Rattle.std.proofs.Common.{◌≡◌, ℕ, ◌+◌, ◌<◌, Option, None, Err, sym, ◌∙◌, ap, subst, add-one, inl, inr}
+use Rattle.std.proofs.Common.{◌≡◌, ℕ, ◌+◌, ◌<◌, Bool, true, false, cond, Option, None, Err, refl, sym, ◌∙◌, ap, subst, add-one, inl, inr}
 use Rattle.std.proofs.lemmas.Bool.{cases_Bool}
 use Rattle.so_ids.specs.declared.LaneId.{LaneId}
 use Rattle.so_lists.specs.Lists.{or_else}
 use Rattle.so_scene.specs.Lanes.{lanes}
 use Rattle.so_history.specs.declared.entry.Entry.{Entry}
-use Rattle.so_history.specs.Chain.{taking_entry, lane_entry, first}
+use Rattle.so_history.specs.Chain.{taking_entry, lane_entry, pick_entry, step_of, first_entry, first}
+use Rattle.so_history.specs.declared.entry.Pick.{Pick}
 use Rattle.so_history.specs.Coops.{aborted}
+use Rattle.so_history.specs.Steps.{is_over}
 use Rattle.so_history.proofs.ChainLaws.{first-free}
-use Rattle.so_kernel.specs.Shapes.{Core}
-use Rattle.so_kernel.specs.Gates.{gated, core_after, stepped}
-use Rattle.so_kernel.specs.declared.answers.Refused.TheVariants.{Nothing}
+use Rattle.so_ledger.specs.Shapes.{Core}
+use Rattle.so_ledger.specs.Gates.{gated, core_after}
+use Rattle.so_kernel.specs.Answers.{stepped}
+use Rattle.so_ledger.specs.declared.gate.Refused.TheVariants.{Nothing}
 use Rattle.so_kernel.specs.declared.answers.Stepped.{Stepped}
 use Rattle.so_kernel.specs.declared.answers.Stepped.TheVariants.{Nothing as NothingStep}
-use Rattle.so_kernel.proofs.HeldLaws.{lane_free, same_over}
-use Rattle.so_kernel.proofs.GateLaws.{two-nothing, two-other, core_nothing, still_going, below-other, nothing_is, nothing_gated}
+use Rattle.so_kernel.proofs.HeldLaws.{lane_free}
+use Rattle.so_ledger.proofs.GateLaws.{same_over}
+use Rattle.so_kernel.proofs.AnswerLaws.{two-nothing, two-other, core_nothing, still_going, below-other, nothing_is}
+use Rattle.so_ledger.proofs.GateLaws.{nothing_gated}
 use Rattle.so_env.specs.Runs.{NoneRuns, lanes_entry, free_first}
 
 -- a step that would add this entry
 pub record Steps (k l : Core) (a : Option Entry) (answer : Stepped) : Type 0 where
   pub answer_is : answer ≡ stepped (gated k a)
   pub after : l ≡ core_after k (gated k a)
+
+-- the gate asks whether the run is over before all else, so that it answers alike to what asks that too
+gated_cond : (k : Core) (a : Option Entry) (over : Bool) → is_over k.scene k.history ≡ over → gated k (cond over None a) ≡ gated k a
+unfolding gated
+gated_cond k a true over = rw over refl
+gated_cond k a false over = refl
+
+gated_step : (k : Core) (p : Pick) → gated k (step_of k.scene k.history p) ≡ gated k (pick_entry k.scene k.history p)
+unfolding step_of
+gated_step k p = gated_cond k (pick_entry k.scene k.history p) (is_over k.scene k.history) refl
+
+gated_first : (k : Core) → gated k (first k.scene k.history) ≡ gated k (first_entry k.scene k.history)
+unfolding first
+gated_first k = gated_cond k (first_entry k.scene k.history) (is_over k.scene k.history) refl
+
+-- the step of a pick
+pub by_pick : (k l : Core) (p : Pick) (answer : Stepped) → answer ≡ stepped (gated k (step_of k.scene k.history p)) → l ≡ core_after k (gated k (step_of k.scene k.history p)) → Steps k l (pick_entry k.scene k.history p) answer
+by_pick k l p answer is after = record { answer_is = is ∙ ap stepped (gated_step k p); after = after ∙ ap (core_after k) (gated_step k p) }
 
 -- after Nothing the kernel is as before
 pub unchanged : (k l : Core) (a : Option Entry) → Steps k l a NothingStep → l ≡ k
@@ -64,7 +87,8 @@ one_more k l lane none s =
 -- the first step where no turn is in hand
 pub first_free : (k : Core) → NoneRuns k → gated k (first k.scene k.history) ≡ gated k (free_first k)
 first_free k free =
-    elim (cases_Bool (aborted k.history)) [
+    gated_first k
+    ∙ elim (cases_Bool (aborted k.history)) [
       | inl y ↦ same_over k _ _ y
       | inr f ↦ ap (gated k) (first-free k.scene k.history (free f))
     ]

@@ -7,7 +7,7 @@ use Rattle.so_history.specs.declared.entry.Entry.{Entry}
 use Rattle.so_history.specs.Turns.{running_at, lane_number}
 use Rattle.so_history.specs.Coops.{aborted}
 use Rattle.so_history.specs.Chain.{registration, tidying, taking_entry, FollowsFirst}
-use Rattle.so_kernel.specs.Shapes.{Core}
+use Rattle.so_ledger.specs.Shapes.{Core}
 use Rattle.so_kernel.specs.Held.{AreHeld}
 use Rattle.so_kernel.specs.declared.answers.Turn.{Turn}
 

@@ -3,9 +3,10 @@
 ghost use Rattle.std.specs.Prelude.{◌≡◌, ◌≤◌, Some, None, Err, MatchOption, length};
 ghost use Rattle.so_scene.specs.Lanes.{lanes};
 ghost use Rattle.so_history.specs.Chain.{first};
-ghost use Rattle.so_kernel.specs.Gates.{gated, core_after, stepped};
+ghost use Rattle.so_ledger.specs.Gates.{gated, core_after};
+ghost use Rattle.so_kernel.specs.Answers.{stepped};
 ghost use Rattle.so_kernel.specs.Held.{AreHeld};
-ghost use Rattle.so_kernel.specs.declared.answers.Refused.TheVariants.{Nothing};
+ghost use Rattle.so_ledger.specs.declared.gate.Refused.TheVariants.{Nothing};
 ghost use Rattle.so_env.specs.Runs.{NoneBelow, IsFirstHeld, NoneRuns, lanes_entry, tidy_first, free_first};
 
 use so_history::Pick;

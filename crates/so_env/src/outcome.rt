@@ -4,7 +4,7 @@ use so_history::History;
 use so_scene::SceneFault;
 
 /// Why a run ended, or why there was none.
-#[derive(Debug, Drop)]
+#[derive(Drop)]
 pub enum Cause {
     /// The run is finished.
     Done,

@@ -12,7 +12,7 @@ use so_lines::LineBuf;
 use so_scene::Scene;
 
 /// How far the printing has come: whether a write failed, and how many pieces were handed out.
-#[derive(Clone, Copy, Debug, PartialEq, Eq)]
+#[derive(Clone, Copy, PartialEq, Eq)]
 pub(crate) struct Printing {
     pub failed: bool,
     pub pieces: u64,

@@ -121,7 +121,7 @@ fn run<K: Sink>(kernel: &mut Kernel, turns: &mut Turns, mode: Mode, out: &mut K)
     ensures chain { IsChain kernel.old.scene kernel.old.limit kernel.new.history }
     ensures scene { kernel.new.scene ≡ kernel.old.scene }
     ensures printed { Printed result.failed (K.content out.old) (K.content out.new) (text kernel.old.scene mode kernel.new.history) }
-    ensures pieces { Counts kernel.old.scene mode kernel.new.history result.failed result.pieces }
+    ensures pieces { Counts kernel.old.scene mode kernel.new.history result.failed result.pieces (K.content out.old) (K.content out.new) }
     ensures cause { HasRisen result.failed (K.faults out.old) (K.faults out.new) }
 {
     let mut printing = Printing {

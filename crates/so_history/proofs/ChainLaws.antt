@@ -1,5 +1,6 @@
 -- The entries of the picks, and that a run that is not over goes on.
 use Rattle.std.proofs.Common.{◌≡◌, ℕ, ◌<◌, List, [], ◌∷◌, ◌++◌, length, Bool, true, false, not, ◌&&◌, ◌||◌, cond, Option, Some, None, refl, sym, ◌∙◌, ap, subst, is_some, inl, inr}
+use Rattle.std.specs.Prelude.{◌↔◌}
 use Rattle.std.specs.List.{find, list_any, AllByRecursion}
 use Rattle.std.specs.Option.{option_map, option_and_then}
 use Rattle.std.specs.Cmp.Derive.{both_true}
@@ -38,6 +39,7 @@ use Rattle.so_history.specs.declared.entry.EntryKind.TheVariants.{Act, Leaving, 
 use Rattle.so_history.specs.declared.entry.StopCause.{StopCause}
 use Rattle.so_history.specs.declared.entry.StopCause.TheVariants.{Asked, Auto, Idle}
 use Rattle.so_history.specs.declared.entry.Demand.{Demand}
+use Rattle.so_history.specs.declared.entry.Pick.{Pick}
 use Rattle.so_history.specs.Demands.{waiting}
 use Rattle.so_history.specs.Turns.{Started, running, running_at, running_on, running_with, lane_number, key_number, move_of}
 use Rattle.so_history.specs.Coops.{is_same, roster, present, leaving, next_coop, all_tried, stopped, stop_asked, aborted, standing}
@@ -45,7 +47,7 @@ use Rattle.so_history.specs.declared.entry.EventSource.{EventSource}
 use Rattle.so_history.specs.Units.{fits}
 use Rattle.so_history.specs.Order.{opening_of, is_allowed_beside, is_allowed, is_free, may_take, pick}
 use Rattle.so_history.specs.Steps.{choice_for, NamesEffect, may_leave, left_at, left_next, is_auto, may_stop, is_idle, finished, is_over, answer_to_send, answer_of, entry_of, Legal}
-use Rattle.so_history.specs.Chain.{by_main, signed, next_of, turn_entry, turn_on, taking_entry, registration_of, registration, leaving_for, leaving_entry, left_for, left_entry, stop_entry, tidying, lane_entry, first, fitting, next_entry, StopsAtLimit}
+use Rattle.so_history.specs.Chain.{by_main, signed, next_of, turn_entry, turn_on, taking_entry, registration_of, registration, leaving_for, leaving_entry, left_for, left_entry, stop_entry, tidying, lane_entry, pick_entry, step_of, first_entry, first, fitting, next_entry, StopsAtLimit}
 use Rattle.so_history.proofs.DemandLaws.{pick-free, waiting_of}
 use Rattle.so_history.proofs.HeadLaws.{HasNext, some_next}
 use Rattle.so_history.proofs.TurnLaws.{turn_of, at_looked_up, running_nowhere, running_at-nil}
@@ -147,8 +149,8 @@ no_begin s h lane e = rw (nothing_picked s h lane e) refl
 
 -- where no turn runs, the first step is a registration, else what is to be tidied, else a Begin
 pub first-free : (s : SceneParts) (h : List Entry) → ((l : ℕ) → l < lanes s → running_at lane_number h l ≡ []) →
-    first s h ≡ or_else (registration s h) (or_else (tidying s h) (first_below (λ l. taking_entry s h (record { 0 = l })) (lanes s)))
-unfolding first tidying
+    first_entry s h ≡ or_else (registration s h) (or_else (tidying s h) (first_below (λ l. taking_entry s h (record { 0 = l })) (lanes s)))
+unfolding first_entry tidying
 first-free s h free =
     let none : first_below (λ l. turn_entry s h (turn_on h (record { 0 = l }))) (lanes s) ≡ None = first_below-none _ (lanes s) (λ l k. ap (λ ts. turn_entry s h (head ts)) (free l k)) in
     let begins : (e : Entry) → stop_entry s h Idle ≡ Some e → first_below (λ l. taking_entry s h (record { 0 = l })) (lanes s) ≡ None =
@@ -156,8 +158,8 @@ first-free s h free =
     rw none (ap (or_else (registration s h)) (sym (regroup (stop_entry s h Asked) (stop_entry s h Auto) (leaving_entry s h) (left_entry s h) (stop_entry s h Idle) _ (or_else-swap (stop_entry s h Idle) _ begins))))
 
 -- and where the first turn that runs is on this lane, it is that turn's move
-pub first-turn : (s : SceneParts) (h : List Entry) (lane : ℕ) (x : Entry) → lane < lanes s → turn_entry s h (turn_on h (record { 0 = lane })) ≡ Some x → ((l : ℕ) → l < lane → running_at lane_number h l ≡ []) → first s h ≡ Some x
-unfolding first
+pub first-turn : (s : SceneParts) (h : List Entry) (lane : ℕ) (x : Entry) → lane < lanes s → turn_entry s h (turn_on h (record { 0 = lane })) ≡ Some x → ((l : ℕ) → l < lane → running_at lane_number h l ≡ []) → first_entry s h ≡ Some x
+unfolding first_entry
 first-turn s h lane x l e before = rw (first_below-some (λ i. turn_entry s h (turn_on h (record { 0 = i }))) (lanes s) lane x l e (λ i k. ap (λ ts. turn_entry s h (head ts)) (before i k))) refl
 
 -- the entry of a lane where no turn runs on it
@@ -334,15 +336,15 @@ over s h legal w r u =
     let was : stopped h ≡ true = was_stopped s h w r u in
     rw (was, nobody_left s h legal w r was u (last_of (roster h)), w) refl
 
-moves_none : (s : SceneParts) (h : List Entry) → IsScene s → Legal s h → first s h ≡ None → (l : ℕ) → l < lanes s → running_at lane_number h l ≡ []
-unfolding first
+moves_none : (s : SceneParts) (h : List Entry) → IsScene s → Legal s h → first_entry s h ≡ None → (l : ℕ) → l < lanes s → running_at lane_number h l ≡ []
+unfolding first_entry
 moves_none s h scene legal none l k =
     no_turn s h (record { 0 = l }) scene legal (none-first_below (λ i. turn_entry s h (turn_on h (record { 0 = i }))) (lanes s)
     (or_else-none (first_below (λ i. turn_entry s h (turn_on h (record { 0 = i }))) (lanes s)) _ none).0 l k)
 
--- after a legal history that is not over there is a first step
-pub goes_on : (s : SceneParts) (h : List Entry) → IsScene s → Legal s h → first s h ≡ None → finished s h ≡ true
-goes_on s h scene legal none =
+-- where nothing comes first after a legal history, it is finished
+finished_there : (s : SceneParts) (h : List Entry) → IsScene s → Legal s h → first_entry s h ≡ None → finished s h ≡ true
+finished_there s h scene legal none =
     let free = moves_none s h scene legal none in
     let quiet : running h ≡ [] = running_nowhere s h legal free in
     let parts = or_else-none (registration s h) _ (sym (first-free s h free) ∙ none) in
@@ -352,6 +354,46 @@ goes_on s h scene legal none =
     let entry : taking_entry s h (record { 0 = l }) ≡ None = none-first_below (λ i. taking_entry s h (record { 0 = i })) (lanes s) rest.1 l k in
     sym (pick-free s h (record { 0 = l }) (ap is_empty (free l k))) ∙ option_map-none _ (pick s h (record { 0 = l })) entry in
     over s h legal (nothing_waits s h scene quiet unpicked) quiet (untidied s h parts.0 rest.0)
+
+-- ---- what is asked first: whether the run is over
+
+-- the step of a pick, and the first one, in a run that goes on, and in one that is over
+pub step_of-going : (s : SceneParts) (h : List Entry) (p : Pick) → is_over s h ≡ false → step_of s h p ≡ pick_entry s h p
+unfolding step_of
+step_of-going s h p going = rw going refl
+
+pub step_of-over : (s : SceneParts) (h : List Entry) (p : Pick) → is_over s h ≡ true → step_of s h p ≡ None
+unfolding step_of
+step_of-over s h p over = rw over refl
+
+pub first-going : (s : SceneParts) (h : List Entry) → is_over s h ≡ false → first s h ≡ first_entry s h
+unfolding first
+first-going s h going = rw going refl
+
+pub first-over : (s : SceneParts) (h : List Entry) → is_over s h ≡ true → first s h ≡ None
+unfolding first
+first-over s h over = rw over refl
+
+-- a step that there is belongs to a run that goes on
+going_where : (s : SceneParts) (h : List Entry) (a : Option Entry) (over : Bool) (e : Entry) → cond over None a ≡ Some e → (over ≡ false) × (a ≡ Some e)
+going_where s h a true e is = absurd cc
+going_where s h a false e is = (refl, is)
+
+pub step_of-some : (s : SceneParts) (h : List Entry) (p : Pick) (e : Entry) → step_of s h p ≡ Some e → (is_over s h ≡ false) × (pick_entry s h p ≡ Some e)
+unfolding step_of
+step_of-some s h p e is = going_where s h (pick_entry s h p) (is_over s h) e is
+
+pub first-some : (s : SceneParts) (h : List Entry) (e : Entry) → first s h ≡ Some e → (is_over s h ≡ false) × (first_entry s h ≡ Some e)
+unfolding first
+first-some s h e is = going_where s h (first_entry s h) (is_over s h) e is
+
+-- after a legal history there is no first step exactly where the run is over
+none_case : (s : SceneParts) (h : List Entry) (over : Bool) → is_over s h ≡ over → IsScene s → Legal s h → first s h ≡ None → over ≡ true
+none_case s h true is scene legal none = refl
+none_case s h false is scene legal none = sym is ∙ ap (λ b. b || aborted h) (finished_there s h scene legal (sym (first-going s h is) ∙ none))
+
+pub goes_on : (s : SceneParts) (h : List Entry) → IsScene s → Legal s h → (first s h ≡ None) ↔ (is_over s h ≡ true)
+goes_on s h scene legal = (none_case s h (is_over s h) refl scene legal, first-over s h)
 
 -- a simulation that stops before the run is over stops at a first step that doesn't fit
 end_fits : (s : SceneParts) (limit : ℕ) (h : List Entry) (x : Entry) (b : Bool) → fits s limit h x ≡ b → cond b (Some x) None ≡ None → fits s limit h x ≡ false
@@ -365,4 +407,4 @@ end_case s limit h (Some x) is some e = record { entry = x; next = is; too_large
 pub stops_at : (s : SceneParts) (limit : ℕ) (h : List Entry) → IsScene s → Legal s h → next_entry s limit h ≡ None → is_over s h ≡ false → StopsAtLimit s limit h
 unfolding next_entry
 stops_at s limit h scene legal none going =
-    end_case s limit h (first s h) refl (λ n. false≢true (sym going ∙ ap (λ b. b || aborted h) (goes_on s h scene legal n))) (rw going at none)
+    end_case s limit h (first s h) refl (λ n. false≢true (sym going ∙ (goes_on s h scene legal).0 n)) none

@@ -45,7 +45,7 @@ use Rattle.so_history.specs.Finishing.{IsQuiet}
 use Rattle.so_history.specs.Facts.{StandsAt, RegistersAt, by_main, by_act, RefusesAt, queued_at, LeftBetween, WholeCoops, demands_for, demands_since, IsFirst, IsLast, StartsAndFinishes}
 use Rattle.so_history.proofs.AskedLaws.{effect_asks, asked_of_each, delivered_open}
 use Rattle.so_history.proofs.DemandLaws.{queued_here, demands_early}
-use Rattle.so_history.proofs.PlaceLaws.{Where, is_last, is_early, place_of_entry, inside, entry_at-last, before-last, before-early, steps_at}
+use Rattle.so_history.proofs.PlaceLaws.{Where, is_last, is_early, place_of_entry, inside, entry_at-last, before-last, before-early, length-before, steps_at}
 use Rattle.so_history.proofs.PresenceLaws.{stands_later, stood_before, Registered, now, earlier, registered_when, registers_nowhere, registers_before, present_now, goes_left, begins_leaving, leaves_present}
 use Rattle.so_history.proofs.RosterLaws.{joins, joins_by_effect, admitted_open, joins_admitted, leaving_present}
 
@@ -78,18 +78,18 @@ queued : (s : SceneParts) (h : List Entry) (place : ℕ) (x : Entry) → entry_a
 queued s [] place x e = absurd cc
 queued s (y ∷ h) place x e = queued_case s y h place x (place_of_entry y h place x e) (queued s h place x)
 
-asked_at : (s : SceneParts) (h : List Entry) (place : ℕ) (kind : EntryKind) → Legal s h → StandsAt h place kind → queued_at s h place ≡ demands_from place 0 (asked_by s (before h place) kind)
-asked_at s h place kind legal stands =
-    let at = steps_at s h place stands.entry legal stands.here in
-    queued s h place stands.entry stands.here ∙ (ap (λ k. queued_by s (before h place) k) stands.is ∙ ap (λ n. demands_from n 0 (asked_by s (before h place) kind)) at.length_is)
+-- so of each list of entries, legal or not, what those ask that stand in it
+pub asked_at : (s : SceneParts) (h : List Entry) (place : ℕ) (kind : EntryKind) → StandsAt h place kind → queued_at s h place ≡ demands_from place 0 (asked_by s (before h place) kind)
+asked_at s h place kind stands =
+    queued s h place stands.entry stands.here ∙ (ap (λ k. queued_by s (before h place) k) stands.is ∙ ap (λ n. demands_from n 0 (asked_by s (before h place) kind)) (length-before h place stands.entry stands.here))
 
-started_at : (s : SceneParts) (h : List Entry) (place : ℕ) (coop : CoopId) → Legal s h → RegistersAt h place coop → queued_at s h place ≡ demands_from place 0 (ask_each Start (agents_of s coop))
-started_at s h place coop legal (by_main it) = asked_at s h place (Register coop) legal it
-started_at s h place coop legal (by_act turn it) = asked_at s h place (Act turn (effect.Register coop) answer.Okay) legal it
+pub started_at : (s : SceneParts) (h : List Entry) (place : ℕ) (coop : CoopId) → RegistersAt h place coop → queued_at s h place ≡ demands_from place 0 (ask_each Start (agents_of s coop))
+started_at s h place coop (by_main it) = asked_at s h place (Register coop) it
+started_at s h place coop (by_act turn it) = asked_at s h place (Act turn (effect.Register coop) answer.Okay) it
 
-refused_at : (s : SceneParts) (h : List Entry) (place : ℕ) (coop : CoopId) (cause : Refusal) → Legal s h → RefusesAt h place coop cause → queued_at s h place ≡ []
-refused_at s h place coop cause legal (RefusesAt.by_main it) = asked_at s h place (Refuse coop cause) legal it
-refused_at s h place coop cause legal (RefusesAt.by_act turn it) = asked_at s h place (Act turn (effect.Register coop) (answer.Refused cause)) legal it
+pub refused_at : (s : SceneParts) (h : List Entry) (place : ℕ) (coop : CoopId) (cause : Refusal) → RefusesAt h place coop cause → queued_at s h place ≡ []
+refused_at s h place coop cause (RefusesAt.by_main it) = asked_at s h place (Refuse coop cause) it
+refused_at s h place coop cause (RefusesAt.by_act turn it) = asked_at s h place (Act turn (effect.Register coop) (answer.Refused cause)) it
 
 -- ---- what may leave
 
@@ -178,9 +178,9 @@ children_left s h i j child parent legal is registers stands l =
 
 pub whole_coops : (s : SceneParts) (h : List Entry) → Legal s h → WholeCoops s h
 whole_coops s h legal = record {
-  starts = λ place coop registers. started_at s h place coop legal registers;
-  refused = λ place coop cause refuses. refused_at s h place coop cause legal refuses;
-  finishes = λ place coop reason stands. asked_at s h place (Leaving coop reason) legal stands;
+  starts = λ place coop registers. started_at s h place coop registers;
+  refused = λ place coop cause refuses. refused_at s h place coop cause refuses;
+  finishes = λ place coop reason stands. asked_at s h place (Leaving coop reason) stands;
   leaves = λ place coop stands. (left_row s h place coop legal stands).may.quiet;
   children = λ i j child parent is registers stands l. children_left s h i j child parent legal is registers stands l;
 }
@@ -336,7 +336,7 @@ joins_asks s h (Register d) c is = ap (λ x. ask_each Start (agents_of s x)) (sa
 joins_asks s h (Act turn e a) c is = effect_starts s h e a c is
 joins_asks s h other c is = absurd cc
 
-joins_queues : (s : SceneParts) (h : List Entry) (kind : EntryKind) (c : CoopId) → joins kind ≡ Some c → queued_by s h kind ≡ demands_from (length h) 0 (ask_each Start (agents_of s c))
+pub joins_queues : (s : SceneParts) (h : List Entry) (kind : EntryKind) (c : CoopId) → joins kind ≡ Some c → queued_by s h kind ≡ demands_from (length h) 0 (ask_each Start (agents_of s c))
 joins_queues s h kind c is = ap (demands_from (length h) 0) (joins_asks s h kind c is)
 
 first_case : (s : SceneParts) (e : Entry) (h : List Entry) (place : ℕ) (c : CoopId) (a : AgentId) → IsScene s → a.0 < length s.agents → is_of s c a ≡ true → Registered e h place c → (RegistersAt h place c → IsFirst Start (demands_since s h place a)) → IsFirst Start (demands_since s (e ∷ h) place a)
@@ -347,7 +347,7 @@ first_case s e h place c a scene known its (now at joined) ih =
 first_case s e h place c a scene known its (earlier early there) ih =
     subst (IsFirst Start) (sym (since_more s e h place a (omega (arith, early)))) (first-append Start (demands_since s h place a) (filter (is_for a) (queued_by s h e.kind)) (ih there))
 
-starts_first : (s : SceneParts) (h : List Entry) (place : ℕ) (c : CoopId) (a : AgentId) → IsScene s → a.0 < length s.agents → is_of s c a ≡ true → RegistersAt h place c → IsFirst Start (demands_since s h place a)
+pub starts_first : (s : SceneParts) (h : List Entry) (place : ℕ) (c : CoopId) (a : AgentId) → IsScene s → a.0 < length s.agents → is_of s c a ≡ true → RegistersAt h place c → IsFirst Start (demands_since s h place a)
 starts_first s [] place c a scene known its it = absurd (registers_nowhere place c it)
 starts_first s (e ∷ h) place c a scene known its it = first_case s e h place c a scene known its (registered_when e h place c it) (starts_first s h place c a scene known its)
 

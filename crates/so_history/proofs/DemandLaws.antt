@@ -144,10 +144,10 @@ waiting-taken s h e id none it =
     ∙ (filter_agree _ _ (λ d. ap not (it d.id)) (waiting s h) ∙ filter-without id (waiting s h) (waiting_sorted s h))
 
 -- how often a demand was taken
-takings-cons : (e : Entry) (h : List Entry) (d : DemandId) → takings (e ∷ h) d ≡ cond (takes e.kind d) 1 0 + takings h d
+pub takings-cons : (e : Entry) (h : List Entry) (d : DemandId) → takings (e ∷ h) d ≡ cond (takes e.kind d) 1 0 + takings h d
 takings-cons e h d = sum_by-cons (λ x. cond (takes x.kind d) 1 0) e h
 
-untaken_count : (h : List Entry) (d : DemandId) → taken h d ≡ false → takings h d ≡ 0
+pub untaken_count : (h : List Entry) (d : DemandId) → taken h d ≡ false → takings h d ≡ 0
 unfolding taken
 untaken_count [] d f = refl
 untaken_count (e ∷ h) d f =

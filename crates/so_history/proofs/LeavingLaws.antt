@@ -55,7 +55,7 @@ its_order : (s : SceneParts) (d x : Demand) → is_for d.agent x ≡ true → is
 its_order s d x its = in_order_with s x d (same_order s x.agent d.agent (ap (λ n. record { 0 = n }) (eqb-true x.agent.0 d.agent.0 its)))
 
 -- so what waits for it is that demand and what waits after it is taken
-taken_first : (s : SceneParts) (h : List Entry) (lane : LaneId) (d : Demand) → pick s h lane ≡ Some d → filter (is_for d.agent) (waiting s h) ≡ d ∷ filter (is_for d.agent) (without d.id (waiting s h))
+pub taken_first : (s : SceneParts) (h : List Entry) (lane : LaneId) (d : Demand) → pick s h lane ≡ Some d → filter (is_for d.agent) (waiting s h) ≡ d ∷ filter (is_for d.agent) (without d.id (waiting s h))
 taken_first s h lane d picks =
     first_with_rest (is_for d.agent) (waiting s h) d (waiting_sorted s h)
     (find_narrower (is_in_order_with s d) (is_for d.agent) (waiting s h) d (its_order s d) (eq-eqb d.agent.0 d.agent.0 refl) (picked_in_order s h lane d picks))
@@ -99,7 +99,7 @@ plain_ending s h e a same begins (to_finish last) = to_finish (subst (IsLast Fin
 plain_ending s h e a same begins (finishing none only) = finishing (same ∙ none) (subst (FinishesOnly a) (sym (running-ended h e begins)) (each-filter _ (λ t. not (ends e.kind t.place)) (running h) only))
 
 -- one that takes a demand of another agent
-other_waits : (s : SceneParts) (h : List Entry) (e : Entry) (a : AgentId) (it : Takes s h e) → is_for a it.demand ≡ false → filter (is_for a) (waiting s (e ∷ h)) ≡ filter (is_for a) (waiting s h)
+pub other_waits : (s : SceneParts) (h : List Entry) (e : Entry) (a : AgentId) (it : Takes s h e) → is_for a it.demand ≡ false → filter (is_for a) (waiting s (e ∷ h)) ≡ filter (is_for a) (waiting s h)
 other_waits s h e a it other = ap (filter (is_for a)) it.waiting_is ∙ rest_spared (is_for a) (waiting s h) it.demand other (picked_waits s h it.lane it.demand it.picks)
 
 other_ending : (s : SceneParts) (h : List Entry) (e : Entry) (a : AgentId) → filter (is_for a) (waiting s (e ∷ h)) ≡ filter (is_for a) (waiting s h) → (FinishesOnly a (running h) → FinishesOnly a (running (e ∷ h))) → Ending s h a → Ending s (e ∷ h) a
@@ -117,7 +117,7 @@ rest_of d [] ds is last =
     no_more refl (ap (λ (x : Demand). x.kind) one ∙ last.is)
 rest_of d (x ∷ rest) ds is last = more record { demand = last.demand; last = sym (ap (last_or None) is) ∙ last.last; is = last.is }
 
-its_waits : (s : SceneParts) (h : List Entry) (e : Entry) (a : AgentId) (it : Takes s h e) → it.demand.agent ≡ a → filter (is_for a) (waiting s h) ≡ it.demand ∷ filter (is_for a) (waiting s (e ∷ h))
+pub its_waits : (s : SceneParts) (h : List Entry) (e : Entry) (a : AgentId) (it : Takes s h e) → it.demand.agent ≡ a → filter (is_for a) (waiting s h) ≡ it.demand ∷ filter (is_for a) (waiting s (e ∷ h))
 its_waits s h e a it its =
     subst (λ x. filter (is_for x) (waiting s h) ≡ it.demand ∷ filter (is_for x) (without it.demand.id (waiting s h))) its (taken_first s h it.lane it.demand it.picks)
     ∙ ap (λ ds. it.demand ∷ filter (is_for a) ds) (sym it.waiting_is)

@@ -52,14 +52,14 @@ takes_taken (x ∷ h) d place it =
           rw before (or_true (takes x.kind d)))
     ]
 
-wider : (e : Entry) (h : List Entry) (d : DemandId) (place : ℕ) → place ≤ length h → TakenBefore h d place → TakenBefore (e ∷ h) d place
+pub wider : (e : Entry) (h : List Entry) (d : DemandId) (place : ℕ) → place ≤ length h → TakenBefore h d place → TakenBefore (e ∷ h) d place
 wider e h d place l it = record {
   when = it.when;
   earlier = it.earlier;
   takes = record { entry = it.takes.entry; here = entry_at-early e h it.when (omega (arith, it.earlier)) ∙ it.takes.here; takes = it.takes.takes };
 }
 
-taken_somewhere : (h : List Entry) (d : DemandId) → taken h d ≡ true → TakenBefore h d (length h)
+pub taken_somewhere : (h : List Entry) (d : DemandId) → taken h d ≡ true → TakenBefore h d (length h)
 unfolding taken
 taken_somewhere [] d e = absurd cc
 taken_somewhere (x ∷ h) d e =
@@ -78,7 +78,7 @@ named-early s e h id early =
     (each-weaker _ (λ d. same_demand id d.id ≡ false) (λ d at. let here : d.id.place.0 ≡ length h = at in and_left (id.place.0 == d.id.place.0) (id.k == d.id.k) (ne_eqb id.place.0 d.id.place.0 (λ same. omega arith))) (queued_by s h e.kind) (queued_here s h e.kind))
 
 -- a demand that is there and not taken waits under its name
-named_waits : (s : SceneParts) (h : List Entry) (d : Demand) → named d.id (demands s h) ≡ Some d → taken h d.id ≡ false → named d.id (waiting s h) ≡ Some d
+pub named_waits : (s : SceneParts) (h : List Entry) (d : Demand) → named d.id (demands s h) ≡ Some d → taken h d.id ≡ false → named d.id (waiting s h) ≡ Some d
 unfolding waiting
 named_waits s h d there untaken = find-filter (λ x. same_demand d.id x.id) (λ x. not (taken h x.id)) (demands s h) d (rw untaken refl) there
 
@@ -121,7 +121,7 @@ what s h by (Begin lane demand opening agent) row d t = what_taking s h by lane 
 what s h by (Skip lane demand why) row d t = what_taking s h by lane (Skip lane demand why) row d t
 what s h by other row d t = absurd cc
 
-place_before : (a b : DemandId) → is_earlier a b ≡ true → a.place.0 ≤ b.place.0
+pub place_before : (a b : DemandId) → is_earlier a b ≡ true → a.place.0 ≤ b.place.0
 place_before a b e = grind arith
 
 -- the entry takes the later demand

@@ -40,6 +40,15 @@ place_of_entry e h place x is =
       | inr other ↦ (let there : entry_at h place ≡ Some x = rw other at is in is_early (inside h place x there) there)
     ]
 
+-- as many entries stand before an entry as its place says
+length_case : (e : Entry) (h : List Entry) (place : ℕ) (x : Entry) → Where e h place x → (entry_at h place ≡ Some x → length (before h place) ≡ place) → length (before (e ∷ h) place) ≡ place
+length_case e h place x (is_last at same) ih = ap (λ n. length (before (e ∷ h) n)) at ∙ (ap length (before-last e h) ∙ sym at)
+length_case e h place x (is_early early there) ih = ap length (before-early e h place early) ∙ ih there
+
+pub length-before : (h : List Entry) (place : ℕ) (x : Entry) → entry_at h place ≡ Some x → length (before h place) ≡ place
+length-before [] place x e = absurd cc
+length-before (y ∷ h) place x e = length_case y h place x (place_of_entry y h place x e) (length-before h place x)
+
 -- each entry of a legal history is a legal step after those before it
 pub record StepsAt (s : SceneParts) (h : List Entry) (place : ℕ) (x : Entry) : Type 0 where
   pub legal : Legal s (before h place)

@@ -151,7 +151,7 @@ taken_waits : (s : SceneParts) (h : List Entry) (e : Entry) (p : Demand → Bool
 taken_waits s h e p it = ap (λ xs. count_by p (it.demand ∷ []) + count_by p xs) it.waiting_is ∙ taken_count s h p it.lane it.demand it.picks
 
 -- a turn that begins finishes where its demand asks so
-opens_finish : (s : SceneParts) (h : List Entry) (a : AgentId) (kind : DemandKind) → is_finishing (opening_for s h a kind) ≡ asks_finish kind
+pub opens_finish : (s : SceneParts) (h : List Entry) (a : AgentId) (kind : DemandKind) → is_finishing (opening_for s h a kind) ≡ asks_finish kind
 opens_finish s h a Start = refl
 opens_finish s h a Finish = refl
 opens_finish s h a (Event mbox msg payload) = refl

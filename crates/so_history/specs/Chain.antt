@@ -1,5 +1,5 @@
 -- The entry that each pick makes, the first legal step, and the chain of first steps: the run of the simulation.
-use Rattle.std.specs.Prelude.{◌≡◌, ℕ, List, [], ◌∷◌, false, Option, Some, None, if◌then◌else◌}
+use Rattle.std.specs.Prelude.{◌≡◌, ℕ, ◌<◌, List, [], ◌∷◌, false, Option, Some, None, if◌then◌else◌}
 use Rattle.std.specs.Option.{option_map, option_and_then}
 use Rattle.so_ids.specs.declared.PartyId.{PartyId}
 use Rattle.so_ids.specs.declared.LaneId.{LaneId}
@@ -86,15 +86,24 @@ tidying s h =
 unfoldable pub lane_entry : SceneParts → List Entry → LaneId → Option Entry
 lane_entry s h lane = or_else (turn_entry s h (turn_on h lane)) (taking_entry s h lane)
 
--- the entry that a pick makes
-abbrev pub of : SceneParts → List Entry → Pick → Option Entry
-of s h pick.Register = registration s h
-of s h (pick.Lane lane) = lane_entry s h lane
-of s h pick.Tidy = tidying s h
+-- a lane that is picked is one of the scene's
+abbrev pub IsPickInRange : SceneParts → Pick → Type 0
+IsPickInRange s (pick.Lane lane) = lane.0 < lanes s
+IsPickInRange s other = Unit {0}
 
--- the first legal step, in the order of the simulation
-unfoldable pub first : SceneParts → List Entry → Option Entry
-first s h =
+-- what a pick makes in a run that goes on
+abbrev pub pick_entry : SceneParts → List Entry → Pick → Option Entry
+pick_entry s h pick.Register = registration s h
+pick_entry s h (pick.Lane lane) = lane_entry s h lane
+pick_entry s h pick.Tidy = tidying s h
+
+-- the step of a pick: none where the run is over
+unfoldable pub step_of : SceneParts → List Entry → Pick → Option Entry
+step_of s h pick = if is_over s h then None else pick_entry s h pick
+
+-- what comes first in a run that goes on, in the order of the simulation
+unfoldable pub first_entry : SceneParts → List Entry → Option Entry
+first_entry s h =
     or_else (first_below (λ l. turn_entry s h (turn_on h (record { 0 = l }))) (lanes s))
     (or_else (registration s h)
     (or_else (stop_entry s h Asked)
@@ -104,13 +113,18 @@ first s h =
     (or_else (first_below (λ l. taking_entry s h (record { 0 = l })) (lanes s))
     (stop_entry s h Idle)))))))
 
+-- the first legal step: none where the run is over
+unfoldable pub first : SceneParts → List Entry → Option Entry
+first s h = if is_over s h then None else first_entry s h
+
+-- a step, where it fits the units
 abbrev pub fitting : SceneParts → ℕ → List Entry → Option Entry → Option Entry
 fitting s limit h None = None
 fitting s limit h (Some e) = if fits s limit h e then Some e else None
 
--- the simulation's next entry: the first legal step, while the run goes on and the step fits
+-- the simulation's next entry: the first legal step, where it fits
 unfoldable pub next_entry : SceneParts → ℕ → List Entry → Option Entry
-next_entry s limit h = if is_over s h then None else fitting s limit h (first s h)
+next_entry s limit h = fitting s limit h (first s h)
 
 -- each entry is the simulation's next after those before it
 abbrev pub FollowsFirst : SceneParts → ℕ → List Entry → Type 0

@@ -151,7 +151,8 @@ pub record LeftBetween (h : List Entry) (coop : CoopId) (i j : ℕ) : Type 0 whe
 
 -- whole cooperations: each agent is to start where its cooperation is registered, none where that is refused, and each to finish
 -- where it leaves; when it has left, none of its agents has a demand that waits or a turn that runs; and of the cooperations that
--- name it as their parent, each that was registered has left before it
+-- name it as their parent, each that was registered has left before it. The first three say what the definition of demands comes to:
+-- they hold of every list of entries, and refuse none
 pub record WholeCoops (s : SceneParts) (h : List Entry) : Type 0 where
   pub starts : (place : ℕ) (coop : CoopId) → RegistersAt h place coop → queued_at s h place ≡ demands_from place 0 (ask_each Start (agents_of s coop))
   pub refused : (place : ℕ) (coop : CoopId) (cause : Refusal) → RefusesAt h place coop cause → queued_at s h place ≡ []
@@ -181,7 +182,7 @@ pub record IsLast (kind : DemandKind) (ds : List Demand) : Type 0 where
   pub is : demand.kind ≡ kind
 
 -- start and finish: from the registration of its cooperation an agent's first demand is to start, and its last, when the
--- cooperation has left, is to finish
+-- cooperation has left, is to finish. The first of these holds of every list of entries
 pub record StartsAndFinishes (s : SceneParts) (h : List Entry) : Type 0 where
   pub first : (place : ℕ) (coop : CoopId) (a : AgentId) → RegistersAt h place coop → a.0 < length s.agents → is_of s coop a ≡ true → IsFirst Start (demands_since s h place a)
   pub last : (i j : ℕ) (coop : CoopId) (a : AgentId) → RegistersAt h i coop → StandsAt h j (Left coop) → i < j → a.0 < length s.agents → is_of s coop a ≡ true → IsLast Finish (demands_since s (before h j) i a)

@@ -7,7 +7,7 @@ use so_ids::{
 };
 
 /// Why the run stops.
-#[derive(Clone, Copy, Debug, PartialEq, Eq)]
+#[derive(Clone, Copy, PartialEq, Eq)]
 pub enum StopCause {
     /// By a stop act.
     Asked,
@@ -18,7 +18,7 @@ pub enum StopCause {
 }
 
 /// Why a demand is taken without a turn.
-#[derive(Clone, Copy, Debug, PartialEq, Eq)]
+#[derive(Clone, Copy, PartialEq, Eq)]
 pub enum SkipWhy {
     /// No row and no dead-letter row of the agent is for the event.
     Nothing,
@@ -29,14 +29,14 @@ pub enum SkipWhy {
 }
 
 /// Why the run is aborted.
-#[derive(Clone, Copy, Debug, PartialEq, Eq)]
+#[derive(Clone, Copy, PartialEq, Eq)]
 pub enum AbortCause {
     /// The exception of a turn, whose owner's reaction is to abort (SObjectizer's `abort_on_exception`).
     Exception(Place, FailKind),
 }
 
 /// What happened.
-#[derive(Clone, Copy, Debug, PartialEq, Eq)]
+#[derive(Clone, Copy, PartialEq, Eq)]
 pub enum EntryKind {
     /// Main registered a cooperation.
     Register {
@@ -90,14 +90,14 @@ pub enum EntryKind {
 }
 
 /// What happened, and which party made it happen. A turn is named by the place of its Begin.
-#[derive(Clone, Copy, Debug, PartialEq, Eq)]
+#[derive(Clone, Copy, PartialEq, Eq)]
 pub struct Entry {
     pub by: PartyId,
     pub kind: EntryKind,
 }
 
 /// What a demand asks of its agent.
-#[derive(Clone, Copy, Debug, PartialEq, Eq)]
+#[derive(Clone, Copy, PartialEq, Eq)]
 pub enum DemandKind {
     /// To run its start handler.
     Start,
@@ -112,14 +112,14 @@ pub enum DemandKind {
 }
 
 /// What an event is looked up by: the mbox that its message was sent through, and its type.
-#[derive(Clone, Copy, Debug, PartialEq, Eq)]
+#[derive(Clone, Copy, PartialEq, Eq)]
 pub struct EventSource {
     pub mbox: MboxId,
     pub msg: MsgId,
 }
 
 /// A demand: it waits in the queue of its agent's events until a turn takes it.
-#[derive(Clone, Copy, Debug, PartialEq, Eq)]
+#[derive(Clone, Copy, PartialEq, Eq)]
 pub struct Demand {
     pub id: DemandId,
     pub agent: AgentId,
@@ -127,7 +127,7 @@ pub struct Demand {
 }
 
 /// Which step is to be made.
-#[derive(Clone, Copy, Debug, PartialEq, Eq)]
+#[derive(Clone, Copy, PartialEq, Eq)]
 pub enum Pick {
     /// Main's next registration.
     Register,

@@ -1,13 +1,13 @@
 //! What holds of every legal history. Each law is the contract of a function that does nothing.
 
-ghost use Rattle.std.specs.Prelude.{◌≡◌, ◌<◌, List, None, length, true};
+ghost use Rattle.std.specs.Prelude.{◌≡◌, ◌↔◌, ◌<◌, List, None, length, true};
 ghost use Rattle.so_ids.specs.declared.AgentId.{AgentId};
 ghost use Rattle.so_ids.specs.declared.CoopId.{CoopId};
 ghost use Rattle.so_scene.specs.declared.parts.SceneParts.{SceneParts};
 ghost use Rattle.so_scene.specs.Checked.{IsScene};
 ghost use Rattle.so_history.specs.declared.entry.Entry.{Entry};
 ghost use Rattle.so_history.specs.Coops.{leaving};
-ghost use Rattle.so_history.specs.Steps.{finished, Legal};
+ghost use Rattle.so_history.specs.Steps.{is_over, Legal};
 ghost use Rattle.so_history.specs.Finishing.{unfinished, IsQuiet};
 ghost use Rattle.so_history.specs.Chain.{first};
 ghost use Rattle.so_history.specs.Facts.{NoOverlap, TakenOnce, InOrder, ByChoice, WholeCoops, StartsAndFinishes};
@@ -50,9 +50,10 @@ pub fn finishes_all()
     ensures { (s : SceneParts) (h : List Entry) (c : CoopId) → IsScene s → Legal s h → leaving h c ≡ true → unfinished s h c ≡ 0 → IsQuiet s h c }
 {}
 
-/// Two agents of a scene share a queue exactly where they are bound to one dispatcher, and it puts them
-/// together: a one_thread any two, an active_obj none but an agent and itself, an active_group those of a group,
-/// and a pool those of a cooperation, or none but an agent and itself.
+/// Two agents of a scene share a queue exactly where they are bound to one dispatcher, and it puts them together: a
+/// one_thread, a strictly_ordered and a quoted_round_robin any two; an active_obj none but an agent and itself; an
+/// active_group those of a group; a thread_pool and an adv_thread_pool those of a cooperation, or none but an agent and
+/// itself; and a one_per_prio those of a priority.
 pub fn shares_by_rule()
     ensures { (s : SceneParts) (a b : AgentId) → IsScene s → a.0 < length s.agents → b.0 < length s.agents → SharesByRule s a b }
 {}
@@ -62,7 +63,7 @@ pub fn numbers_queues()
     ensures { (s : SceneParts) (a b : AgentId) → a.0 < length s.agents → b.0 < length s.agents → NumbersQueues s a b }
 {}
 
-/// A run that isn't over goes on: after its history there is a first step.
+/// There is no first step exactly where the run is over.
 pub fn goes_on()
-    ensures { (s : SceneParts) (h : List Entry) → IsScene s → Legal s h → first s h ≡ None → finished s h ≡ true }
+    ensures { (s : SceneParts) (h : List Entry) → IsScene s → Legal s h → (first s h ≡ None) ↔ (is_over s h ≡ true) }
 {}

@@ -5,8 +5,6 @@ mod entry;
 mod history;
 pub mod laws;
 mod lines;
-#[cfg(test)]
-mod tests;
 mod trace;
 mod words;
 

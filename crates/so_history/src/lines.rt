@@ -18,7 +18,7 @@ use so_lines::{LineBuf, put, put_payload};
 use so_scene::Scene;
 
 /// What a line shows.
-#[derive(Clone, Copy, Debug, PartialEq, Eq)]
+#[derive(Clone, Copy, PartialEq, Eq)]
 pub enum Mode {
     /// What agents log, in names.
     Plain,

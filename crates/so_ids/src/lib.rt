@@ -4,67 +4,71 @@
 //! `u32` each, so that a number of one kind is never taken for one of another.
 #![tactic(auto)]
 
+use std::alloc::AllocError;
+
+pub mod limits;
+
 ghost use Rattle.std.specs.Prelude.{◌≡◌, ◌≤◌, ◌<◌, ◌+◌, ◌^◌, IfSome, IfNone};
 ghost use Rattle.so_ids.specs.Ids.{party_of, main_party, is_earlier, same_demand};
 
 /// An agent, by its place among all agents of the scene.
-#[derive(Clone, Copy, Debug, PartialEq, Eq, PartialOrd, Ord)]
+#[derive(Clone, Copy, PartialEq, Eq)]
 pub struct AgentId(pub u32);
 
 /// A cooperation, by its place in the scene.
-#[derive(Clone, Copy, Debug, PartialEq, Eq, PartialOrd, Ord)]
+#[derive(Clone, Copy, PartialEq, Eq)]
 pub struct CoopId(pub u32);
 
 /// A lane: the worker of a dispatcher, or a plain thread.
-#[derive(Clone, Copy, Debug, PartialEq, Eq, PartialOrd, Ord)]
+#[derive(Clone, Copy, PartialEq, Eq)]
 pub struct LaneId(pub u32);
 
 /// Who signs an entry: 0 is main, and n + 1 is lane n.
-#[derive(Clone, Copy, Debug, PartialEq, Eq, PartialOrd, Ord)]
+#[derive(Clone, Copy, PartialEq, Eq)]
 pub struct PartyId(pub u32);
 
 /// A mbox: agent n's direct mbox is n, and the named mboxes follow.
-#[derive(Clone, Copy, Debug, PartialEq, Eq, PartialOrd, Ord)]
+#[derive(Clone, Copy, PartialEq, Eq)]
 pub struct MboxId(pub u32);
 
 /// A message chain (SObjectizer's mchain).
-#[derive(Clone, Copy, Debug, PartialEq, Eq, PartialOrd, Ord)]
+#[derive(Clone, Copy, PartialEq, Eq)]
 pub struct ChainId(pub u32);
 
 /// A message type.
-#[derive(Clone, Copy, Debug, PartialEq, Eq, PartialOrd, Ord)]
+#[derive(Clone, Copy, PartialEq, Eq)]
 pub struct MsgId(pub u32);
 
 /// A subscription row of an agent.
-#[derive(Clone, Copy, Debug, PartialEq, Eq, PartialOrd, Ord)]
+#[derive(Clone, Copy, PartialEq, Eq)]
 pub struct RowId(pub u32);
 
 /// A delivery filter of an agent.
-#[derive(Clone, Copy, Debug, PartialEq, Eq, PartialOrd, Ord)]
+#[derive(Clone, Copy, PartialEq, Eq)]
 pub struct FilterId(pub u32);
 
 /// A state of an agent: 0 is `default`, and the declared states follow.
-#[derive(Clone, Copy, Debug, PartialEq, Eq, PartialOrd, Ord)]
+#[derive(Clone, Copy, PartialEq, Eq)]
 pub struct StateId(pub u32);
 
 /// A timer, by the order of arming.
-#[derive(Clone, Copy, Debug, PartialEq, Eq, PartialOrd, Ord)]
+#[derive(Clone, Copy, PartialEq, Eq)]
 pub struct TimerId(pub u32);
 
 /// A key: one event queue.
-#[derive(Clone, Copy, Debug, PartialEq, Eq, PartialOrd, Ord)]
+#[derive(Clone, Copy, PartialEq, Eq)]
 pub struct KeyId(pub u32);
 
 /// A dispatcher: 0 is `default`, and the scene's follow.
-#[derive(Clone, Copy, Debug, PartialEq, Eq, PartialOrd, Ord)]
+#[derive(Clone, Copy, PartialEq, Eq)]
 pub struct DispId(pub u32);
 
 /// A text of the scene.
-#[derive(Clone, Copy, Debug, PartialEq, Eq, PartialOrd, Ord)]
+#[derive(Clone, Copy, PartialEq, Eq)]
 pub struct TextId(pub u32);
 
 /// A place in a history, from 0.
-#[derive(Clone, Copy, Debug, PartialEq, Eq, PartialOrd, Ord)]
+#[derive(Clone, Copy, PartialEq, Eq, PartialOrd, Ord)]
 pub struct Place(pub u32);
 
 impl PartyId {
@@ -84,7 +88,7 @@ impl LaneId {
 
 /// A demand for an agent (SObjectizer's execution demand): the `k`-th, from 0, that the entry at
 /// `place` queued. Demands compare by place, then by `k`.
-#[derive(Clone, Copy, Debug, PartialEq, Eq, PartialOrd, Ord)]
+#[derive(Clone, Copy, PartialEq, Eq, PartialOrd, Ord)]
 pub struct DemandId {
     pub place: Place,
     pub k: u32,
@@ -107,18 +111,18 @@ impl DemandId {
 }
 
 /// What a message carries: the first `used` fields count, and the rest are 0. A signal has none.
-#[derive(Clone, Copy, Debug, PartialEq, Eq)]
+#[derive(Clone, Copy, PartialEq, Eq)]
 pub struct Payload {
     pub fields: [i64; 4],
     pub used: u8,
 }
 
 /// An agent's variables.
-#[derive(Clone, Copy, Debug, PartialEq, Eq)]
+#[derive(Clone, Copy, PartialEq, Eq)]
 pub struct Vars(pub [i64; 16]);
 
 /// A priority, from 0, the lowest, to 7.
-#[derive(Clone, Copy, Debug, PartialEq, Eq, PartialOrd, Ord)]
+#[derive(Clone, Copy, PartialEq, Eq)]
 pub struct Priority {
     pub level: u8,
     ghost in_range: { level ≤ 7 },
@@ -139,14 +143,14 @@ impl Priority {
 }
 
 /// Where a message is sent.
-#[derive(Clone, Copy, Debug, PartialEq, Eq)]
+#[derive(Clone, Copy, PartialEq, Eq)]
 pub enum Target {
     Mbox(MboxId),
     Chain(ChainId),
 }
 
 /// What an agent's state table chooses for an event.
-#[derive(Clone, Copy, Debug, PartialEq, Eq)]
+#[derive(Clone, Copy, PartialEq, Eq)]
 pub enum Chosen {
     /// The row's handler.
     Run { row: RowId },
@@ -163,7 +167,7 @@ pub enum Chosen {
 }
 
 /// How a turn begins.
-#[derive(Clone, Copy, Debug, PartialEq, Eq)]
+#[derive(Clone, Copy, PartialEq, Eq)]
 pub enum Opening {
     /// The agent's start handler (`so_evt_start`).
     Start,
@@ -179,7 +183,7 @@ pub enum Opening {
 
 /// A switch of states: those left, from inner to outer, then those entered, from outer to inner.
 /// The first `n_exits` and `n_enters` places count, and the rest are state 0.
-#[derive(Clone, Copy, Debug, PartialEq, Eq)]
+#[derive(Clone, Copy, PartialEq, Eq)]
 pub struct Plan {
     pub leaf: StateId,
     pub exits: [StateId; 16],
@@ -189,7 +193,7 @@ pub struct Plan {
 }
 
 /// What became of one delivery.
-#[derive(Clone, Copy, Debug, PartialEq, Eq)]
+#[derive(Clone, Copy, PartialEq, Eq)]
 pub struct Sent {
     /// Demands queued and messages stored in chains.
     pub queued: u32,
@@ -202,7 +206,7 @@ pub struct Sent {
 }
 
 /// An event that a delivery queues for an agent.
-#[derive(Clone, Copy, Debug, PartialEq, Eq)]
+#[derive(Clone, Copy, PartialEq, Eq)]
 pub struct Queued {
     pub agent: AgentId,
     pub mbox: MboxId,
@@ -211,7 +215,7 @@ pub struct Queued {
 }
 
 /// What a put into a chain did.
-#[derive(Clone, Copy, Debug, PartialEq, Eq)]
+#[derive(Clone, Copy, PartialEq, Eq)]
 pub enum Put {
     Stored,
     DroppedNew,
@@ -223,7 +227,7 @@ pub enum Put {
 }
 
 /// Why a receive ended.
-#[derive(Clone, Copy, Debug, PartialEq, Eq)]
+#[derive(Clone, Copy, PartialEq, Eq)]
 pub enum EndReason {
     HandleN,
     ExtractN,
@@ -234,7 +238,7 @@ pub enum EndReason {
 }
 
 /// Why a registration was refused.
-#[derive(Clone, Copy, Debug, PartialEq, Eq)]
+#[derive(Clone, Copy, PartialEq, Eq)]
 pub enum Refusal {
     /// The cooperation has no agents.
     Empty,
@@ -249,7 +253,7 @@ pub enum Refusal {
 }
 
 /// Which definition rule an agent breaks.
-#[derive(Clone, Copy, Debug, PartialEq, Eq)]
+#[derive(Clone, Copy, PartialEq, Eq)]
 pub enum DefFault {
     /// A row names another agent's direct mbox.
     NotOwner,
@@ -264,7 +268,7 @@ pub enum DefFault {
 }
 
 /// Why a cooperation leaves.
-#[derive(Clone, Copy, Debug, PartialEq, Eq)]
+#[derive(Clone, Copy, PartialEq, Eq)]
 pub enum Reason {
     /// By a deregister act.
     Asked,
@@ -277,49 +281,15 @@ pub enum Reason {
 }
 
 /// Memory that was wanted isn't there.
-#[derive(Clone, Copy, Debug, PartialEq, Eq)]
+#[derive(Clone, Copy, PartialEq, Eq)]
 pub struct NoMemory;
 
-/// A call of the outside failed.
-#[derive(Clone, Copy, Debug, PartialEq, Eq)]
-pub struct Failed;
-
-#[cfg(test)]
-mod tests {
-    use super::*;
-
-    fn demand(place: u32, k: u32) -> DemandId {
-        DemandId {
-            place: Place(place),
-            k,
-        }
-    }
-
-    #[test]
-    fn main_is_party_0_and_the_lanes_follow(rt: HostRuntime) {
-        assert_eq!(rt; PartyId::MAIN, PartyId(0));
-        assert_eq!(rt; LaneId(0).party(), PartyId(1));
-        assert_eq!(rt; LaneId(255).party(), PartyId(256));
-    }
-
-    #[test]
-    fn demands_compare_by_place_and_then_by_number(rt: HostRuntime) {
-        let cases = [
-            (demand(0, 0), demand(0, 1), true),
-            (demand(0, 9), demand(1, 0), true),
-            (demand(2, 0), demand(1, 5), false),
-            (demand(3, 3), demand(3, 3), false),
-        ];
-        for (a, b, before) in cases {
-            assert_eq!(rt; a.is_before(b), before);
-            assert_eq!(rt; a.is(b), a == b);
-        }
-    }
-
-    #[test]
-    fn there_are_eight_priorities(rt: HostRuntime) {
-        assert!(rt; Priority::of(0).is_some());
-        assert!(rt; Priority::of(7).is_some());
-        assert!(rt; Priority::of(8).is_none());
+impl From<AllocError> for NoMemory {
+    fn from(_refused: AllocError) -> NoMemory {
+        NoMemory
     }
 }
+
+/// A call of the outside failed.
+#[derive(Clone, Copy, PartialEq, Eq)]
+pub struct Failed;

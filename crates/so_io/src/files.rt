@@ -5,7 +5,7 @@ ghost use Rattle.so_io.specs.Files.{ReadsContent, ReadHasCause};
 use std::alloc::Global;
 
 /// Why a file wasn't read.
-#[derive(Clone, Copy, Debug, PartialEq, Eq)]
+#[derive(Clone, Copy, PartialEq, Eq)]
 pub enum ReadFail {
     /// The file isn't there, or reading it failed.
     Failed,

@@ -64,25 +64,3 @@ impl Clock for ListClock {
         ensures { self.new ≡ self.old }
     {}
 }
-
-#[cfg(test)]
-mod tests {
-    use super::*;
-    use std::test::Fail;
-
-    fn read_and_wait<R: Wait, C: Clock>(rt: &R, clock: &mut C) -> u64 {
-        clock.pause(rt, 1);
-        clock.now()
-    }
-
-    #[test]
-    fn gives_the_list_and_then_its_last_reading(rt: HostRuntime) -> Result<(), Fail> {
-        let readings = vec![in rt.alloc(); 5, 7, 20]?;
-        assert!(rt; !readings.is_empty());
-        let mut clock = ListClock::new(readings);
-        for reading in [5, 7, 20, 20, 20] {
-            assert_eq!(rt; read_and_wait(&rt, &mut clock), reading);
-        }
-        Ok(())
-    }
-}

@@ -78,30 +78,3 @@ impl Sink for MemSink {
         }
     }
 }
-
-#[cfg(test)]
-mod tests {
-    use super::*;
-    use crate::sink::put_all;
-    use std::test::Fail;
-
-    #[test]
-    fn takes_pieces_whole_up_to_its_capacity(rt: HostRuntime) -> Result<(), Fail> {
-        let fails = vec![in rt.alloc(); 1, 2]?;
-        let mut sink = MemSink::new(rt.alloc(), 5, fails).map_err(|_| "no memory")?;
-        let cases = [
-            ("abc", Ok(3)),
-            ("d", Err(Failed)),
-            ("d", Err(Failed)),
-            ("def", Err(Failed)),
-            ("de", Ok(2)),
-            ("f", Err(Failed)),
-        ];
-        for (call, (piece, want)) in cases.iter().enumerate() {
-            assert_eq!(rt; sink.write(piece.as_bytes()), *want, "call {call}");
-        }
-        assert_eq!(rt; put_all(&mut sink, b"g"), Err(Failed));
-        assert_eq!(rt; sink.bytes(), b"abcde".as_slice());
-        Ok(())
-    }
-}

@@ -73,29 +73,3 @@ impl<'a, R: std::rt::Files> Files for RealFiles<'a, R> {
         answer
     }
 }
-
-#[cfg(test)]
-mod tests {
-    use super::*;
-    use std::test::Fail;
-    use std::{env, fs, process};
-
-    #[test]
-    fn reads_a_file_of_at_most_so_many_bytes(rt: HostRuntime) -> Result<(), Fail> {
-        let alloc = rt.alloc();
-        let name = format!(in alloc; "so_io-{}", process::id(rt.process()))?;
-        let path = env::temp_dir(&rt)?.join(alloc, name.as_str())?;
-        let path = path.to_str().ok_or("no text")?;
-        let content = vec![in alloc; 7; 5000]?;
-        fs::write(&rt, path, content.as_slice())?;
-        let mut files = RealFiles::new(&rt);
-        let exactly = files.read_all(alloc, path, 5000);
-        let one_over = files.read_all(alloc, path, 4999);
-        fs::remove_file(&rt, path)?;
-        let gone = files.read_all(alloc, path, 5000);
-        assert!(rt; exactly == Ok(content));
-        assert!(rt; one_over == Err(ReadFail::TooLong));
-        assert!(rt; gone == Err(ReadFail::Failed));
-        Ok(())
-    }
-}

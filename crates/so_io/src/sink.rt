@@ -37,7 +37,7 @@ pub fn put_all<K: Sink>(sink: &mut K, piece: &[u8]) -> Result<(), Failed>
 }
 
 /// A sink that takes every piece whole, keeps and tells nothing, and never fails.
-#[derive(Clone, Copy, Debug, Default)]
+#[derive(Clone, Copy, Default)]
 pub struct NeverFails;
 
 impl NeverFails {
@@ -56,18 +56,5 @@ impl Sink for NeverFails {
         ensures { result ≡ Ok (length piece.now) }
     {
         Ok(piece.len())
-    }
-}
-
-#[cfg(test)]
-mod tests {
-    use super::*;
-
-    #[test]
-    fn a_sink_that_never_fails_takes_all(rt: HostRuntime) {
-        let mut sink = NeverFails::new();
-        assert_eq!(rt; sink.write(b"abc"), Ok(3));
-        assert_eq!(rt; put_all(&mut sink, b"abc"), Ok(()));
-        assert_eq!(rt; put_all(&mut sink, b""), Ok(()));
     }
 }

@@ -1,15 +1,9 @@
 -- The effect of a turn that has moved, and its answer.
-use Rattle.std.proofs.Common.{◌≡◌, List, Option, Some, None, refl, sym, ◌∙◌, ap, subst}
-use Rattle.std.proofs.lemmas.Option.{same_Some}
-use Rattle.so_ids.specs.declared.AgentId.{AgentId}
-use Rattle.so_ids.specs.declared.CoopId.{CoopId}
-use Rattle.so_ids.specs.declared.Refusal.{Refusal}
+use Rattle.std.proofs.Common.{◌≡◌, List, Some, refl, sym, ◌∙◌, ap, subst}
 use Rattle.so_code.specs.declared.effect.Answer.{Answer}
-use Rattle.so_code.specs.declared.effect.Answer.TheVariants as answer
-use Rattle.so_code.specs.declared.effect.Effect.TheVariants as effect
 use Rattle.so_code.specs.declared.effect.Effect.{Effect}
 use Rattle.so_code.specs.declared.effect.Move.{Move}
-use Rattle.so_code.specs.declared.effect.Move.TheVariants.{Do}
+use Rattle.so_code.specs.declared.effect.Move.TheVariants.{Do, Done, Fail}
 use Rattle.so_code.specs.declared.frame.Frame.{Frame}
 use Rattle.so_code.specs.declared.frame.Todo.TheVariants as todo
 use Rattle.so_code.specs.Running.{IsFrame, IsRunning}
@@ -18,21 +12,16 @@ use Rattle.so_code.proofs.Moves.{is_running}
 use Rattle.so_scene.specs.Parts.{code_of}
 use Rattle.so_scene.specs.Checked.{IsScene}
 use Rattle.so_history.specs.Turns.{move_of}
-use Rattle.so_history.specs.Steps.{NamesEffect, answer_of, answer_to_register, IsMove, Legal}
+use Rattle.so_history.specs.Steps.{NamesEffect, answer_of, IsMove, Legal}
 use Rattle.so_history.specs.declared.entry.Entry.{Entry}
 use Rattle.so_scene.specs.declared.parts.SceneParts.{SceneParts}
 use Rattle.so_history.proofs.SoundLaws.{IsSound, agent_code, moved_waits, moved_frame, names_parts, answer_fits, course_sound}
 use Rattle.so_kernel.specs.declared.answers.Turn.{Turn}
-use Rattle.so_kernel.specs.Shapes.{Core}
-use Rattle.so_history.specs.declared.entry.EntryKind.{EntryKind}
-use Rattle.so_history.specs.declared.entry.EntryKind.TheVariants.{Register, Refuse, Act}
-use Rattle.so_scene.specs.Cooperations.{admission}
-use Rattle.so_history.specs.Coops.{standing}
-use Rattle.so_history.specs.Chain.{registering}
-use Rattle.so_history.proofs.TurnLaws.{turn_looked_up}
-use Rattle.so_history.proofs.TextLaws.{beginner_of}
-use Rattle.so_kernel.specs.Gates.{HasMoved, IsActOf, IsAnsweredBy, act_entry, answer_for}
-use Rattle.so_kernel.proofs.HeldLaws.{held_whose}
+use Rattle.so_ledger.specs.Shapes.{Core}
+use Rattle.so_history.specs.declared.entry.EntryKind.TheVariants.{Act, End, Abort}
+use Rattle.so_history.specs.declared.entry.AbortCause.TheVariants.{Exception}
+use Rattle.so_code.specs.declared.effect.FailKind.{FailKind}
+use Rattle.so_kernel.specs.Hands.{HasMoved, answer_for}
 
 module _ (k : Core) (t : Turn) (m : Move) (scene : IsScene k.scene) (legal : Legal k.scene k.history) (moved : HasMoved k.scene k.history t m) where
   pub sound_before : IsSound k.scene (record { agent = t.agent; safe = t.safe; event = t.event; frame = moved.before })
@@ -64,18 +53,7 @@ moved_fits k t e a scene legal moved answers =
 pub answer_is : (k : Core) (t : Turn) (e : Effect) (a : Answer) → answer_of k.scene k.history t.agent t.event e ≡ Some a → answer_for k t e ≡ a
 answer_is k t e a answers = rw answers refl
 
--- the entry of an act is one of its turn's agent
-pub acts_for_agent : (k : Core) (t : Turn) (e : Effect) (a : Answer) → HasMoved k.scene k.history t (Do e) → answer_of k.scene k.history t.agent t.event e ≡ Some a → IsActOf k.scene k.history (act_entry k t e) t.agent e
-acts_for_agent k t e a moved answers = record {
-  turn = t.begun;
-  event = t.event;
-  answer = a;
-  is = ap (Act t.begun e) (answer_is k t e a answers);
-  whose = beginner_of k.history t.begun.0 moved.held.turn (turn_looked_up k.history t.begun.0 moved.held.turn moved.held.runs) ∙ held_whose k.scene k.history _ moved.held;
-  answers = answers;
-}
-
--- and a legal step
+-- the entry of an act is a legal step
 pub moves_act : (s : SceneParts) (h : List Entry) (t : Turn) (e : Effect) (a : Answer) → HasMoved s h t (Do e) → answer_of s h t.agent t.event e ≡ Some a → IsMove s h t.by t.begun.0 (Act t.begun e a)
 moves_act s h t e a moved answers = record {
   turn = moved.held.turn;
@@ -86,28 +64,23 @@ moves_act s h t e a moved answers = record {
   is = rw (moved.moves, answers) refl;
 }
 
--- ---- the entry of a registration
+-- and so are its end and its failure
+pub moves_end : (s : SceneParts) (h : List Entry) (t : Turn) → HasMoved s h t Done → IsMove s h t.by t.begun.0 (End t.begun)
+moves_end s h t moved = record {
+  turn = moved.held.turn;
+  runs = moved.held.runs;
+  signed = sym moved.held.by;
+  reached = record { agent = t.agent; safe = t.safe; event = t.event; frame = moved.before };
+  has = moved.held.course;
+  is = rw moved.moves refl;
+}
 
-said_in : Answer → EntryKind → Answer
-said_in other (Act turn effect said) = said
-said_in other kind = other
-
-pub answered_so : (s : SceneParts) (h : List Entry) (e : Entry) (a : AgentId) (x : Effect) (said : Answer) (acts : IsActOf s h e a x) → IsAnsweredBy e said → e.kind ≡ Act acts.turn x said
-unfolding said_in
-answered_so s h e a x said acts by = acts.is ∙ ap (Act acts.turn x) (ap (said_in said) (sym acts.is ∙ by.is))
-
--- an act that registers is answered by okay or by why not
-registers_so : (o : Option Refusal) (said : Answer) → Some (answer_to_register o) ≡ Some said → (said ≡ answer.Okay → ⊥) → ((cause : Refusal) → said ≡ answer.Refused cause → ⊥) → ⊥
-registers_so None said is okay refused = okay (sym (same_Some answer.Okay said is))
-registers_so (Some cause) said is okay refused = refused cause (sym (same_Some (answer.Refused cause) said is))
-
-pub registers_act : (s : SceneParts) (h : List Entry) (e : Entry) (a : AgentId) (coop : CoopId) (said : Answer) → IsActOf s h e a (effect.Register coop) → IsAnsweredBy e said → (said ≡ answer.Okay → ⊥) → ((cause : Refusal) → said ≡ answer.Refused cause → ⊥) → ⊥
-unfolding said_in
-registers_act s h e a coop said acts by okay refused =
-    let same : acts.answer ≡ said = ap (said_in said) (sym acts.is ∙ by.is) in
-    registers_so (admission s (standing h) coop) said (acts.answers ∙ ap Some same) okay refused
-
--- and main's is made, or refused
-pub registers_main : (coop : CoopId) (o : Option Refusal) (kind : EntryKind) → kind ≡ registering coop o → ((c : CoopId) → kind ≡ Register c → ⊥) → ((c : CoopId) (cause : Refusal) → kind ≡ Refuse c cause → ⊥) → ⊥
-registers_main coop None kind is made refused = made coop is
-registers_main coop (Some cause) kind is made refused = refused coop cause is
+pub moves_fail : (s : SceneParts) (h : List Entry) (t : Turn) (kind : FailKind) → HasMoved s h t (Fail kind) → IsMove s h t.by t.begun.0 (Abort (Exception t.begun kind))
+moves_fail s h t kind moved = record {
+  turn = moved.held.turn;
+  runs = moved.held.runs;
+  signed = sym moved.held.by;
+  reached = record { agent = t.agent; safe = t.safe; event = t.event; frame = moved.before };
+  has = moved.held.course;
+  is = rw moved.moves refl;
+}

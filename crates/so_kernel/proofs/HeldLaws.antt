@@ -1,5 +1,5 @@
 -- The turns in hand after one more entry.
-use Rattle.std.proofs.Common.{◌≡◌, ℕ, ◌<◌, List, [], ◌∷◌, length, Bool, true, false, ◌||◌, cond, Option, Some, None, arith, refl, sym, ◌∙◌, ap, inl, inr, get_or, subst, Result, Ok, Err, zero, suc}
+use Rattle.std.proofs.Common.{◌≡◌, ℕ, ◌<◌, List, [], ◌∷◌, length, true, false, Option, Some, None, arith, refl, sym, ◌∙◌, ap, inl, inr, get_or, subst, Result, Ok, Err, zero, suc}
 use Rattle.std.specs.Prelude.{◌==◌, slice_set, is_some}
 use Rattle.std.specs.Option.{option_map}
 use Rattle.std.proofs.lemmas.List.{length-set, get_or-set_same, get_or-set_other, set-get_or}
@@ -9,17 +9,14 @@ use Rattle.so_ids.specs.declared.PartyId.{PartyId}
 use Rattle.so_ids.specs.declared.CoopId.{CoopId}
 use Rattle.so_ids.specs.declared.LaneId.{LaneId}
 use Rattle.so_ids.specs.declared.Refusal.{Refusal}
-use Rattle.so_ids.specs.declared.AgentId.{AgentId}
 use Rattle.so_ids.specs.declared.Place.{Place}
 use Rattle.so_ids.specs.Ids.{party_of}
 use Rattle.so_code.specs.declared.effect.Answer.{Answer}
 use Rattle.so_code.specs.declared.effect.Effect.{Effect}
 use Rattle.so_code.specs.declared.effect.Move.{Move}
-use Rattle.so_code.specs.declared.effect.Move.TheVariants.{Do}
+use Rattle.so_code.specs.declared.effect.Move.TheVariants.{Do, Done, Fail}
 use Rattle.so_code.specs.declared.frame.Frame.{Frame}
 use Rattle.so_code.specs.Machine.{after}
-use Rattle.so_code.specs.Openings.{begun}
-use Rattle.so_code.specs.Answers.{answered}
 use Rattle.so_code.specs.declared.effect.FailKind.{FailKind}
 use Rattle.so_scene.specs.declared.parts.SceneParts.{SceneParts}
 use Rattle.so_scene.specs.Checked.{IsScene}
@@ -29,69 +26,31 @@ use Rattle.so_history.specs.declared.entry.Entry.{Entry}
 use Rattle.so_history.specs.declared.entry.EntryKind.{EntryKind}
 use Rattle.so_history.specs.declared.entry.EntryKind.TheVariants.{Register, Refuse, Begin, Skip, Act, End, Leaving, Left, Stop, Abort}
 use Rattle.so_history.specs.declared.entry.Demand.{Demand}
-use Rattle.so_history.specs.declared.entry.DemandKind.{DemandKind}
-use Rattle.so_history.specs.declared.entry.DemandKind.TheVariants.{Start, Finish, Event}
 use Rattle.so_history.specs.declared.entry.SkipWhy.{SkipWhy}
 use Rattle.so_ids.specs.declared.Opening.{Opening}
-use Rattle.so_history.specs.Turns.{Started, Course, vars, ends, running_at, running_on, lane_number, turn_at, move_of, answer_to, course}
+use Rattle.so_history.specs.Turns.{Started, ends, running_at, running_on, lane_number, turn_at}
 use Rattle.so_history.specs.Coops.{aborted, standing}
-use Rattle.so_history.specs.Finishing.{asks_finish, is_finish, is_finishing}
-use Rattle.so_history.specs.Safety.{is_safe}
-use Rattle.so_history.specs.Demands.{message_of, event_of}
-use Rattle.so_history.specs.Order.{runs_safe, pick, opening_for, opening_of, skipped, taking_as, taking}
-use Rattle.so_history.specs.Steps.{finished, answer_of, Legal}
-use Rattle.so_history.specs.Chain.{registering, registration, tidying, turn_on, turn_entry, lane_entry, first}
-use Rattle.so_history.proofs.TurnLaws.{running_at-begun, running_at-same, running_at-ended, alone, turn_found, turn-begun, turn-spared, turn_of, turn_looked_up, turn_agent, lanes_free}
-use Rattle.so_history.proofs.CourseLaws.{acts_for, course-spared, course-acted, course-begun, has_course}
-use Rattle.so_history.proofs.ChainLaws.{registered, tidied, IsTidying, first-turn, lane_entry-turn, lane_entry-free, has_move}
+use Rattle.so_history.specs.Order.{pick, opening_of, skipped, taking_as, taking}
+use Rattle.so_history.specs.Steps.{answer_of, Legal}
+use Rattle.so_history.specs.Chain.{registering, registration, tidying, turn_on, turn_entry, lane_entry, first_entry, first}
+use Rattle.so_ledger.proofs.GateLaws.{gated_first}
+use Rattle.so_history.proofs.TurnLaws.{running_at-begun, running_at-same, running_at-ended, alone, turn_found, turn-spared, lanes_free}
+use Rattle.so_history.proofs.CourseLaws.{acts_for, course-spared}
+use Rattle.so_history.proofs.ChainLaws.{answered_named, registered, tidied, IsTidying, first-turn, lane_entry-turn, lane_entry-free, has_move}
 use Rattle.so_kernel.specs.declared.answers.Turn.{Turn}
-use Rattle.so_kernel.specs.declared.answers.Refused.{Refused}
-use Rattle.so_kernel.specs.declared.answers.Refused.TheVariants.{Nothing, Full, Over}
+use Rattle.so_ledger.specs.declared.gate.Refused.{Refused}
+use Rattle.so_ledger.specs.declared.gate.Refused.TheVariants.{Nothing, Full, Over}
 use Rattle.so_kernel.specs.declared.answers.Acted.TheVariants as acted_answer
 use Rattle.so_kernel.specs.declared.answers.Stepped.TheVariants as stepped_answer
-use Rattle.so_kernel.specs.declared.answers.Ended.TheVariants as ended_answer
 use Rattle.so_kernel.specs.declared.answers.Begun.TheVariants as begun_answer
-use Rattle.so_kernel.specs.Shapes.{Core}
-use Rattle.so_kernel.specs.Gates.{is_skip, IsHeld, HasMoved, IsBegun, gated, gated_entry, core_after, begin_by, answer_for, act_entry, end_entry, fail_entry, acted, ended, failed, added, stepped, turn_after}
-use Rattle.so_kernel.specs.Held.{IsLaneHeld, AreHeld, turn_move, Moves}
-use Rattle.so_kernel.proofs.KeptLaws.{gated_next}
-use Rattle.so_kernel.proofs.TableLaws.{begins_turn}
-
--- a turn begins as a finish turn where its demand asks so
-opens_finish : (s : SceneParts) (h : List Entry) (a : AgentId) (kind : DemandKind) → is_finishing (opening_for s h a kind) ≡ asks_finish kind
-opens_finish s h a Start = refl
-opens_finish s h a Finish = refl
-opens_finish s h a (Event mbox msg payload) = refl
-
--- the turn that a Begin hands out is held
-pub held_begun : (s : SceneParts) (h : List Entry) (e : Entry) (lane : LaneId) (d : Demand) → Legal s h → e.kind ≡ Begin lane (Some d.id) (opening_of s h d) d.agent →
-    IsHeld s (e ∷ h) (record { begun = record { 0 = length h }; by = e.by; lane = lane; agent = d.agent; safe = is_safe s d.agent (opening_of s h d); finishes = is_finish d; event = event_of s h (Some d.id); frame = begun (opening_of s h d) (vars s h d.agent) (message_of s h (Some d.id)) })
-held_begun s h e lane d legal is =
-    record {
-      turn = record { place = length h; by = e.by; lane = lane; agent = d.agent; opening = opening_of s h d };
-      runs = turn-begun s h e _ legal (λ x. rw is refl) (rw is refl) refl;
-      by = refl;
-      lane = refl;
-      finishes = opens_finish s h d.agent d.kind;
-      course = course-begun s h e _ (λ g. rw (is, eq-eqb (length h) (length h) refl) refl);
-    }
-
--- and so is the turn after its act
-pub held_acted : (k : Core) (t : Turn) (effect : Effect) → Legal k.scene k.history → HasMoved k.scene k.history t (Do effect) →
-    IsHeld k.scene (act_entry k t effect ∷ k.history) (record t { frame = answered (answer_for k t effect) t.frame })
-held_acted k t effect legal moved =
-    let c : Course = record { agent = t.agent; safe = t.safe; event = t.event; frame = moved.before } in
-    let frame : (move_of k.scene c).1 ≡ t.frame = ap (λ (p : Move × Frame). p.1) moved.moves in
-    let after_it : answer_to k.scene (answer_for k t effect) c ≡ record { agent = t.agent; safe = t.safe; event = t.event; frame = answered (answer_for k t effect) t.frame } =
-    ap (λ (f : Frame). record { agent = t.agent; safe = t.safe; event = t.event; frame = answered (answer_for k t effect) f }) frame in
-    record {
-      turn = moved.held.turn;
-      runs = turn-spared k.scene k.history (act_entry k t effect) t.begun.0 moved.held.turn legal refl moved.held.runs;
-      by = moved.held.by;
-      lane = moved.held.lane;
-      finishes = moved.held.finishes;
-      course = course-acted k.scene k.history t.by t.begun.0 effect (answer_for k t effect) c moved.held.course ∙ ap Some after_it;
-    }
+use Rattle.so_ledger.specs.Shapes.{Core}
+use Rattle.so_kernel.specs.Hands.{is_skip, IsHeld, HasMoved, IsBegun, act_entry, end_entry, fail_entry, turn_after}
+use Rattle.so_ledger.specs.Gates.{gated, core_after, begin_by}
+use Rattle.so_kernel.specs.Answers.{acted, ended, failed, added, stepped}
+use Rattle.so_kernel.specs.Held.{IsLaneHeld, AreHeld, HasStepped, Moves, turn_move, stepped_by_act, stepped_by_end, turn_kept, handed_back}
+use Rattle.so_kernel.proofs.ActLaws.{moved_named}
+use Rattle.so_ledger.proofs.GateLaws.{gated_next, nothing_gated, ok_going, same_over}
+use Rattle.so_kernel.proofs.HandLaws.{begins_turn, looked_up}
 
 -- an entry has nothing to do with a lane's turn
 abbrev pub Spares : List Entry → EntryKind → ℕ → Type 0
@@ -184,16 +143,6 @@ lane_held k ts lane t in_range held =
 pub lane_moved : (k : Core) (ts : List (Option Turn)) (lane : ℕ) (t : Turn) (before : Frame) (move : Move) → lane < lanes k.scene → AreHeld k (slice_set ts lane (Some (record t { frame = before }))) → Moves k t before move → HasMoved k.scene k.history t move
 lane_moved k ts lane t before move in_range held moves = record { before = before; held = (lane_held k ts lane (record t { frame = before }) in_range held).0; moves = moves }
 
--- what the gate lets through follows no abort
-going_cond : (k : Core) (a : Option Entry) (e : Entry) (done over full : Bool) → cond (done || over) (Err Over) (cond full (Err Full) (gated_entry k a)) ≡ Ok e → over ≡ false
-going_cond k a e true over full h = cc
-going_cond k a e false true full h = cc
-going_cond k a e false false full h = refl
-
-pub ok_going : (k : Core) (a : Option Entry) (e : Entry) → gated k a ≡ Ok e → aborted k.history ≡ false
-unfolding gated
-ok_going k a e h = going_cond k a e (finished k.scene k.history) (aborted k.history) k.full h
-
 -- an entry of main has nothing to do with a lane
 main_spared : (k : Core) (g : Result Entry Refused) (ts : List (Option Turn)) → Legal k.scene k.history → ((e : Entry) → g ≡ Ok e → aborted k.history ≡ false) → ((e : Entry) → g ≡ Ok e → (j : ℕ) → Spares k.history e.kind j) → AreHeld k ts → AreHeld (core_after k g) ts
 main_spared k (Ok e) ts legal going spares held = held_spared k e ts legal (going e refl) (spares e refl) held
@@ -277,127 +226,123 @@ held_failed_on k ts lane t v kind legal going in_range none held =
     subst P (set-set ts lane (Some v) None ∙ (ap (slice_set ts lane) (sym none) ∙ set-get_or ts lane None))
     (held_set k (fail_entry t kind) (slice_set ts lane (Some v)) lane None legal going in_range (λ j other. tt) (λ e. absurd cc) held)
 
--- an act that went was let through
-ok_if_went : (g : Result Entry Refused) → acted_answer.Went ≡ acted g → (e : Entry) × (g ≡ Ok e)
-ok_if_went (Ok e) h = (e, refl)
-ok_if_went (Err Nothing) h = cc
-ok_if_went (Err Full) h = cc
-ok_if_went (Err Over) h = cc
+-- ---- a step of a turn in hand
 
-went : (k : Core) (e : Entry) → acted_answer.Went ≡ acted (gated k (Some e)) → gated k (Some e) ≡ Ok e
-went k e h = let g = ok_if_went (gated k (Some e)) h in g.1 ∙ ap Ok (sym (same_Some e g.0 (gated_next k (Some e) g.0 g.1)))
+-- the turns where its entry was added, and where it wasn't
+abbrev if_ok : Result Entry Refused → List (Option Turn) → List (Option Turn) → List (Option Turn)
+if_ok (Ok e) ts back = ts
+if_ok (Err why) ts back = back
 
-ok_if_done : (g : Result Entry Refused) (t : Turn) → ended_answer.Done ≡ ended g t → (e : Entry) × (g ≡ Ok e)
-ok_if_done (Ok e) t h = (e, refl)
-ok_if_done (Err Nothing) t h = cc
-ok_if_done (Err Full) t h = cc
-ok_if_done (Err Over) t h = cc
+gated_held : (k l : Core) (e : Entry) (ts back : List (Option Turn)) (g : Result Entry Refused) → gated k (Some e) ≡ g → l ≡ core_after k g → AreHeld k back → (gated k (Some e) ≡ Ok e → AreHeld (record k { history = e ∷ k.history }) ts) → AreHeld l (if_ok g ts back)
+gated_held k l e ts back (Ok x) is after held added =
+    let same : x ≡ e = sym (same_Some e x (gated_next k (Some e) x is)) in
+    let l_is : l ≡ record k { history = e ∷ k.history } = after ∙ ap (λ (y : Entry). record k { history = y ∷ k.history }) same in
+    let Q : Core → Type 0 = λ y. AreHeld y ts in
+    subst Q (sym l_is) (added (is ∙ ap Ok same))
+gated_held k l e ts back (Err Nothing) is after held added = let Q : Core → Type 0 = λ y. AreHeld y back in subst Q (sym after) held
+gated_held k l e ts back (Err Full) is after held added = let Q : Core → Type 0 = λ y. AreHeld y back in subst Q (sym after) record { size = held.size; each = held.each }
+gated_held k l e ts back (Err Over) is after held added = let Q : Core → Type 0 = λ y. AreHeld y back in subst Q (sym after) held
 
-done : (k : Core) (e : Entry) (t : Turn) → ended_answer.Done ≡ ended (gated k (Some e)) t → gated k (Some e) ≡ Ok e
-done k e t h = let g = ok_if_done (gated k (Some e)) t h in g.1 ∙ ap Ok (sym (same_Some e g.0 (gated_next k (Some e) g.0 g.1)))
+-- what it answers
+module _ (k : Core) (e : Entry) where
+  answer_added : (x : Entry) → gated k (Some e) ≡ Ok x → added e.kind ≡ stepped (gated k (Some e))
+  answer_added x is = ap (λ (y : Entry). added y.kind) (same_Some e x (gated_next k (Some e) x is)) ∙ ap stepped (sym is)
 
-pub held_went : (k l : Core) (ts : List (Option Turn)) (lane : ℕ) (t u : Turn) (before : Frame) (effect : Effect) → Legal k.scene k.history → lane < lanes k.scene → AreHeld k (slice_set ts lane (Some (record t { frame = before }))) →
-    acted_answer.Went ≡ acted (gated k (Some (act_entry k t effect))) → l ≡ core_after k (gated k (Some (act_entry k t effect))) → u ≡ turn_after k (gated k (Some (act_entry k t effect))) t effect → IsHeld l.scene l.history u →
-    AreHeld l (slice_set ts lane (Some u))
-held_went k l ts lane t u before effect legal in_range held h after next uheld =
-    let ok = went k (act_entry k t effect) h in
-    let l_is : l ≡ record k { history = act_entry k t effect ∷ k.history } = after ∙ ap (core_after k) ok in
-    let u_is : u ≡ turn_after k (Ok (act_entry k t effect)) t effect = next ∙ ap (λ g. turn_after k g t effect) ok in
-    let on : u.lane.0 ≡ lane = ap (λ (x : Turn). x.lane.0) u_is ∙ (lane_held k ts lane (record t { frame = before }) in_range held).1 in
-    let P : Core → Type 0 = λ x. IsHeld x.scene x.history u in
-    let Q : Core → Type 0 = λ x. AreHeld x (slice_set ts lane (Some u)) in
-    subst Q (sym l_is) (held_acted_on k ts lane t u (record t { frame = before }) effect legal (ok_going k (Some (act_entry k t effect)) (act_entry k t effect) ok) in_range refl held (subst P l_is uheld) on)
+  answered_acted : (g : Result Entry Refused) → gated k (Some e) ≡ g → stepped_answer.Added ≡ added e.kind → stepped_by_act (acted g) ≡ stepped (gated k (Some e))
+  answered_acted (Ok x) is adds = adds ∙ answer_added x is
+  answered_acted (Err Nothing) is adds = let none : Some e ≡ None = nothing_gated k (Some e) is in cc
+  answered_acted (Err Full) is adds = ap stepped (sym is)
+  answered_acted (Err Over) is adds = ap stepped (sym is)
 
-pub held_done : (k l : Core) (ts : List (Option Turn)) (lane : ℕ) (t : Turn) (before : Frame) → Legal k.scene k.history → lane < lanes k.scene → get_or ts lane None ≡ None → AreHeld k (slice_set ts lane (Some (record t { frame = before }))) →
-    ended_answer.Done ≡ ended (gated k (Some (end_entry t))) t → l ≡ core_after k (gated k (Some (end_entry t))) → AreHeld l ts
-held_done k l ts lane t before legal in_range none held h after =
-    let ok = done k (end_entry t) t h in
-    let l_is : l ≡ record k { history = end_entry t ∷ k.history } = after ∙ ap (core_after k) ok in
-    let Q : Core → Type 0 = λ x. AreHeld x ts in
-    subst Q (sym l_is) (held_ended_on k ts lane t (record t { frame = before }) legal (ok_going k (Some (end_entry t)) (end_entry t) ok) in_range refl none held)
+  answered_ended : (t : Turn) (g : Result Entry Refused) → gated k (Some e) ≡ g → stepped_answer.Added ≡ added e.kind → stepped_by_end (ended g t) ≡ stepped (gated k (Some e))
+  answered_ended t (Ok x) is adds = adds ∙ answer_added x is
+  answered_ended t (Err Nothing) is adds = let none : Some e ≡ None = nothing_gated k (Some e) is in cc
+  answered_ended t (Err Full) is adds = ap stepped (sym is)
+  answered_ended t (Err Over) is adds = ap stepped (sym is)
 
-ok_if_failed : (g : Result Entry Refused) (t : Turn) → ended_answer.Aborted ≡ failed g t → (e : Entry) × (g ≡ Ok e)
-ok_if_failed (Ok e) t h = (e, refl)
-ok_if_failed (Err Nothing) t h = cc
-ok_if_failed (Err Full) t h = cc
-ok_if_failed (Err Over) t h = cc
+  answered_failed : (t : Turn) (g : Result Entry Refused) → gated k (Some e) ≡ g → stepped_answer.Aborted ≡ added e.kind → stepped_by_end (failed g t) ≡ stepped (gated k (Some e))
+  answered_failed t (Ok x) is adds = adds ∙ answer_added x is
+  answered_failed t (Err Nothing) is adds = let none : Some e ≡ None = nothing_gated k (Some e) is in cc
+  answered_failed t (Err Full) is adds = ap stepped (sym is)
+  answered_failed t (Err Over) is adds = ap stepped (sym is)
 
-pub held_failed : (k l : Core) (ts : List (Option Turn)) (lane : ℕ) (t : Turn) (kind : FailKind) (before : Frame) → Legal k.scene k.history → lane < lanes k.scene → get_or ts lane None ≡ None → AreHeld k (slice_set ts lane (Some (record t { frame = before }))) →
-    ended_answer.Aborted ≡ failed (gated k (Some (fail_entry t kind))) t → l ≡ core_after k (gated k (Some (fail_entry t kind))) → AreHeld l ts
-held_failed k l ts lane t kind before legal in_range none held h after =
-    let g = ok_if_failed (gated k (Some (fail_entry t kind))) t h in
-    let ok : gated k (Some (fail_entry t kind)) ≡ Ok (fail_entry t kind) = g.1 ∙ ap Ok (sym (same_Some (fail_entry t kind) g.0 (gated_next k (Some (fail_entry t kind)) g.0 g.1))) in
-    let l_is : l ≡ record k { history = fail_entry t kind ∷ k.history } = after ∙ ap (core_after k) ok in
-    let Q : Core → Type 0 = λ x. AreHeld x ts in
-    subst Q (sym l_is) (held_failed_on k ts lane t (record t { frame = before }) kind legal (ok_going k (Some (fail_entry t kind)) (fail_entry t kind) ok) in_range none held)
+-- where the turn is put back
+back_ended : (g : Result Entry Refused) (t : Turn) (before : Frame) (ts : List (Option Turn)) (lane : ℕ) → handed_back lane before (ended g t) ts ≡ if_ok g ts (slice_set ts lane (Some (record t { frame = before })))
+back_ended (Ok e) t before ts lane = refl
+back_ended (Err Nothing) t before ts lane = refl
+back_ended (Err Full) t before ts lane = refl
+back_ended (Err Over) t before ts lane = refl
 
--- the answer where an entry was added
-pub act_added : (k : Core) (t : Turn) (effect : Effect) → acted (gated k (Some (act_entry k t effect))) ≡ acted_answer.Went → stepped_answer.Added ≡ stepped (gated k (Some (act_entry k t effect)))
-act_added k t effect h = sym (ap stepped (went k (act_entry k t effect) (sym h)))
+back_failed : (g : Result Entry Refused) (t : Turn) (before : Frame) (ts : List (Option Turn)) (lane : ℕ) → handed_back lane before (failed g t) ts ≡ if_ok g ts (slice_set ts lane (Some (record t { frame = before })))
+back_failed (Ok e) t before ts lane = refl
+back_failed (Err Nothing) t before ts lane = refl
+back_failed (Err Full) t before ts lane = refl
+back_failed (Err Over) t before ts lane = refl
 
-pub end_added : (k : Core) (t : Turn) → ended (gated k (Some (end_entry t))) t ≡ ended_answer.Done → stepped_answer.Added ≡ stepped (gated k (Some (end_entry t)))
-end_added k t h = sym (ap stepped (done k (end_entry t) t (sym h)))
+back_acted : (k : Core) (g : Result Entry Refused) (t u : Turn) (before : Frame) (effect : Effect) (ts : List (Option Turn)) (lane : ℕ) → u ≡ turn_after k g t effect → slice_set ts lane (Some (turn_kept (acted g) before u)) ≡ if_ok g (slice_set ts lane (Some u)) (slice_set ts lane (Some (record t { frame = before })))
+back_acted k (Ok e) t u before effect ts lane is = refl
+back_acted k (Err Nothing) t u before effect ts lane is = ap (λ (x : Turn). slice_set ts lane (Some (record x { frame = before }))) is
+back_acted k (Err Full) t u before effect ts lane is = ap (λ (x : Turn). slice_set ts lane (Some (record x { frame = before }))) is
+back_acted k (Err Over) t u before effect ts lane is = ap (λ (x : Turn). slice_set ts lane (Some (record x { frame = before }))) is
 
-failed_ok : (k : Core) (t : Turn) (kind : FailKind) → ended_answer.Aborted ≡ failed (gated k (Some (fail_entry t kind))) t → gated k (Some (fail_entry t kind)) ≡ Ok (fail_entry t kind)
-failed_ok k t kind h =
-    let g = ok_if_failed (gated k (Some (fail_entry t kind))) t h in
-    g.1 ∙ ap Ok (sym (same_Some (fail_entry t kind) g.0 (gated_next k (Some (fail_entry t kind)) g.0 g.1)))
-
-pub fail_added : (k : Core) (t : Turn) (kind : FailKind) → failed (gated k (Some (fail_entry t kind))) t ≡ ended_answer.Aborted → stepped_answer.Aborted ≡ stepped (gated k (Some (fail_entry t kind)))
-fail_added k t kind h = sym (ap stepped (failed_ok k t kind (sym h)))
-
--- the entry of a turn's move
-pub move_is_act : (k : Core) (t : Turn) (before : Frame) (effect : Effect) (a : Answer) → Moves k t before (Do effect) → answer_of k.scene k.history t.agent t.event effect ≡ Some a →
-    turn_move k.scene k.history (record t { frame = before }) ≡ Some (act_entry k t effect)
+-- its entry
+move_is_act : (k : Core) (t : Turn) (before : Frame) (effect : Effect) (a : Answer) → Moves k t before (Do effect) → answer_of k.scene k.history t.agent t.event effect ≡ Some a → Some (act_entry k t effect) ≡ turn_move k.scene k.history (record t { frame = before })
 move_is_act k t before effect a moves answers = rw (moves, answers) refl
 
--- a turn that did not go on is the one before it
-pub same_turn : (k : Core) (g : Result Entry Refused) (t u : Turn) (before : Frame) (effect : Effect) → (acted_answer.Went ≡ acted g → ⊥) → u ≡ turn_after k g t effect → record u { frame = before } ≡ record t { frame = before }
-same_turn k (Ok e) t u before effect other is = absurd (other refl)
-same_turn k (Err why) t u before effect other is = ap (λ (x : Turn). record x { frame = before }) is
+move_is_end : (k : Core) (t : Turn) (before : Frame) → Moves k t before Done → Some (end_entry t) ≡ turn_move k.scene k.history (record t { frame = before })
+move_is_end k t before moves = rw moves refl
 
-pub core_same : (k l : Core) (g : Result Entry Refused) (ts : List (Option Turn)) → ((e : Entry) → g ≡ Ok e → ⊥) → l ≡ core_after k g → AreHeld k ts → AreHeld l ts
-core_same k l (Ok e) ts other after held = absurd (other e refl)
-core_same k l (Err Nothing) ts other after held = let Q : Core → Type 0 = λ x. AreHeld x ts in subst Q (sym after) held
-core_same k l (Err Full) ts other after held = let Q : Core → Type 0 = λ x. AreHeld x ts in subst Q (sym after) record { size = held.size; each = held.each }
-core_same k l (Err Over) ts other after held = let Q : Core → Type 0 = λ x. AreHeld x ts in subst Q (sym after) held
+move_is_fail : (k : Core) (t : Turn) (before : Frame) (kind : FailKind) → Moves k t before (Fail kind) → Some (fail_entry t kind) ≡ turn_move k.scene k.history (record t { frame = before })
+move_is_fail k t before kind moves = rw moves refl
 
-pub not_went : (g : Result Entry Refused) → (acted_answer.Went ≡ acted g → ⊥) → (e : Entry) → g ≡ Ok e → ⊥
-not_went (Ok e) other x is = other refl
-not_went (Err why) other x is = cc
+-- the whole step
+module _ (k l : Core) (ts : List (Option Turn)) (lane : ℕ) (t : Turn) (before : Frame) (scene : IsScene k.scene) (legal : Legal k.scene k.history) (in_range : lane < lanes k.scene) (held : AreHeld k (slice_set ts lane (Some (record t { frame = before })))) where
+  pub act_stepped : (u : Turn) (effect : Effect) → Moves k t before (Do effect) → l ≡ core_after k (gated k (Some (act_entry k t effect))) → u ≡ turn_after k (gated k (Some (act_entry k t effect))) t effect → (acted (gated k (Some (act_entry k t effect))) ≡ acted_answer.Went → IsHeld l.scene l.history u) →
+      HasStepped k (turn_move k.scene k.history (record t { frame = before })) (stepped_by_act (acted (gated k (Some (act_entry k t effect))))) l (slice_set ts lane (Some (turn_kept (acted (gated k (Some (act_entry k t effect)))) before u)))
+  act_stepped u effect moves after next uheld =
+      let e : Entry = act_entry k t effect in
+      let g : Result Entry Refused = gated k (Some e) in
+      let moved = lane_moved k ts lane t before (Do effect) in_range held moves in
+      let answers = answered_named k.scene k.history t.agent t.event effect (moved_named k t effect scene legal moved) in
+      let P : Option Entry → Type 0 = λ x. HasStepped k x (stepped_by_act (acted g)) l (slice_set ts lane (Some (turn_kept (acted g) before u))) in
+      let Q : List (Option Turn) → Type 0 = λ x. AreHeld l x in
+      let went : gated k (Some e) ≡ Ok e → AreHeld (record k { history = e ∷ k.history }) (slice_set ts lane (Some u)) =
+      λ ok. let H : Core → Type 0 = λ x. IsHeld x.scene x.history u in
+      let on : u.lane.0 ≡ lane = ap (λ (x : Turn). x.lane.0) (next ∙ ap (λ y. turn_after k y t effect) ok) ∙ (lane_held k ts lane (record t { frame = before }) in_range held).1 in
+      held_acted_on k ts lane t u (record t { frame = before }) effect legal (ok_going k (Some e) e ok) in_range refl held (subst H (after ∙ ap (core_after k) ok) (uheld (ap acted ok))) on in
+      subst P (move_is_act k t before effect answers.0 moves answers.1) record {
+        answer = answered_acted k e g refl refl;
+        after = after;
+        held = subst Q (sym (back_acted k g t u before effect ts lane next)) (gated_held k l e (slice_set ts lane (Some u)) (slice_set ts lane (Some (record t { frame = before }))) g refl after held went);
+      }
 
-pub not_done : (g : Result Entry Refused) (t : Turn) → (ended_answer.Done ≡ ended g t → ⊥) → (e : Entry) → g ≡ Ok e → ⊥
-not_done (Ok e) t other x is = other refl
-not_done (Err why) t other x is = cc
+  pub end_stepped : get_or ts lane None ≡ None → Moves k t before Done → l ≡ core_after k (gated k (Some (end_entry t))) →
+      HasStepped k (turn_move k.scene k.history (record t { frame = before })) (stepped_by_end (ended (gated k (Some (end_entry t))) t)) l (handed_back lane before (ended (gated k (Some (end_entry t))) t) ts)
+  end_stepped none moves after =
+      let e : Entry = end_entry t in
+      let g : Result Entry Refused = gated k (Some e) in
+      let P : Option Entry → Type 0 = λ x. HasStepped k x (stepped_by_end (ended g t)) l (handed_back lane before (ended g t) ts) in
+      let Q : List (Option Turn) → Type 0 = λ x. AreHeld l x in
+      subst P (move_is_end k t before moves) record {
+        answer = answered_ended k e t g refl refl;
+        after = after;
+        held = subst Q (sym (back_ended g t before ts lane)) (gated_held k l e ts (slice_set ts lane (Some (record t { frame = before }))) g refl after held (λ ok. held_ended_on k ts lane t (record t { frame = before }) legal (ok_going k (Some e) e ok) in_range refl none held));
+      }
 
--- a turn that is handed back is the one that was given
-pub back_full : (g : Result Entry Refused) (t u : Turn) → ended g t ≡ ended_answer.Full u → u ≡ t
-back_full (Ok e) t u is = cc
-back_full (Err Nothing) t u is = cc
-back_full (Err Full) t u is = cc
-back_full (Err Over) t u is = cc
+  pub fail_stepped : (kind : FailKind) → get_or ts lane None ≡ None → Moves k t before (Fail kind) → l ≡ core_after k (gated k (Some (fail_entry t kind))) →
+      HasStepped k (turn_move k.scene k.history (record t { frame = before })) (stepped_by_end (failed (gated k (Some (fail_entry t kind))) t)) l (handed_back lane before (failed (gated k (Some (fail_entry t kind))) t) ts)
+  fail_stepped kind none moves after =
+      let e : Entry = fail_entry t kind in
+      let g : Result Entry Refused = gated k (Some e) in
+      let P : Option Entry → Type 0 = λ x. HasStepped k x (stepped_by_end (failed g t)) l (handed_back lane before (failed g t) ts) in
+      let Q : List (Option Turn) → Type 0 = λ x. AreHeld l x in
+      subst P (move_is_fail k t before kind moves) record {
+        answer = answered_failed k e t g refl refl;
+        after = after;
+        held = subst Q (sym (back_failed g t before ts lane)) (gated_held k l e ts (slice_set ts lane (Some (record t { frame = before }))) g refl after held (λ ok. held_failed_on k ts lane t (record t { frame = before }) kind legal (ok_going k (Some e) e ok) in_range none held));
+      }
 
-pub back_over : (g : Result Entry Refused) (t u : Turn) → ended g t ≡ ended_answer.Over u → u ≡ t
-back_over (Ok e) t u is = cc
-back_over (Err Nothing) t u is = cc
-back_over (Err Full) t u is = cc
-back_over (Err Over) t u is = cc
-
-pub not_failed : (g : Result Entry Refused) (t : Turn) → (ended_answer.Aborted ≡ failed g t → ⊥) → (e : Entry) → g ≡ Ok e → ⊥
-not_failed (Ok e) t other x is = other refl
-not_failed (Err why) t other x is = cc
-
-pub failed_full : (g : Result Entry Refused) (t u : Turn) → failed g t ≡ ended_answer.Full u → u ≡ t
-failed_full (Ok e) t u is = cc
-failed_full (Err Nothing) t u is = cc
-failed_full (Err Full) t u is = cc
-failed_full (Err Over) t u is = cc
-
-pub failed_over : (g : Result Entry Refused) (t u : Turn) → failed g t ≡ ended_answer.Over u → u ≡ t
-failed_over (Ok e) t u is = cc
-failed_over (Err Nothing) t u is = cc
-failed_over (Err Full) t u is = cc
-failed_over (Err Over) t u is = cc
+-- ---- a step that takes a demand
 
 -- a turn that begins
 begun_parts : (l : Core) (by : PartyId) (lane : LaneId) (g : Result Entry Refused) (t : Turn) → IsBegun l by lane g (begun_answer.Turn t) → (e : Entry) × (g ≡ Ok e) × IsHeld l.scene l.history t × (t.lane ≡ lane) × (is_skip e.kind ≡ false)
@@ -429,10 +374,6 @@ held_began k l ts by lane t legal in_range held b after =
     let P : Core → Type 0 = λ x. IsHeld x.scene x.history t in
     let Q : Core → Type 0 = λ x. AreHeld x (slice_set ts lane.0 (Some t)) in
     subst Q (sym l_is) (held_begun_on k ts lane p.0 d.0 t legal (ok_going k (begin_by k by lane) p.0 p.1) in_range (begins_entry k.scene k.history lane p.0 d.0 d.1 p.4) held (subst P l_is p.2) (ap (λ (x : LaneId). x.0) p.3))
-
--- the turn at a place, looked up by that place
-looked_up : (h : List Entry) (place : ℕ) (t : Started) → turn_at h place ≡ Some t → turn_of h t.place ≡ Some t
-looked_up h place t runs = ap (turn_of h) (turn_found h place t runs).0 ∙ turn_looked_up h place t runs
 
 -- the answer of a step that began a turn
 added_taking : (kind : EntryKind) (lane : LaneId) (d : Demand) (o : Opening) (w : Option SkipWhy) → kind ≡ taking_as lane d o w → stepped_answer.Added ≡ added kind
@@ -504,15 +445,6 @@ lane_move k t lane scene legal held on =
     lane_entry-turn k.scene k.history lane it.0 it.1 ∙ (sym it.1 ∙ turn_move_is k t lane legal held on)
 
 -- and of a lane that has none in hand
-over_cond : (k : Core) (a b : Option Entry) (done full : Bool) → cond (done || true) (Err Over) (cond full (Err Full) (gated_entry k a)) ≡ cond (done || true) (Err Over) (cond full (Err Full) (gated_entry k b))
-over_cond k a b true full = refl
-over_cond k a b false full = refl
-
--- after an abort all answers are Over
-pub same_over : (k : Core) (a b : Option Entry) → aborted k.history ≡ true → gated k a ≡ gated k b
-unfolding gated
-same_over k a b over = rw over (over_cond k a b (finished k.scene k.history) k.full)
-
 pub lane_free : (k : Core) (lane : LaneId) → IsLaneHeld k.scene k.history lane.0 None → gated k (lane_entry k.scene k.history lane) ≡ gated k (begin_by k (party_of lane) lane)
 lane_free k lane held =
     elim (cases_Bool (aborted k.history)) [
@@ -521,7 +453,7 @@ lane_free k lane held =
     ]
 
 first_case : (k : Core) (lane : LaneId) (x : Option Turn) → IsScene k.scene → Legal k.scene k.history → lane.0 < lanes k.scene → IsLaneHeld k.scene k.history lane.0 x → is_some x ≡ true → ((l : ℕ) → l < lane.0 → running_at lane_number k.history l ≡ []) →
-    first k.scene k.history ≡ lane_entry k.scene k.history lane
+    first_entry k.scene k.history ≡ lane_entry k.scene k.history lane
 first_case k lane None scene legal in_range held some free = cc
 first_case k lane (Some t) scene legal in_range held some free =
     let it = lane_turn_entry k t lane scene legal held.0 held.1 in
@@ -532,7 +464,8 @@ first_case k lane (Some t) scene legal in_range held some free =
 pub first_of_turns : (k : Core) (ts : List (Option Turn)) (lane : LaneId) → IsScene k.scene → Legal k.scene k.history → AreHeld k ts → lane.0 < lanes k.scene → is_some (get_or ts lane.0 None) ≡ true → ((l : ℕ) → l < lane.0 → get_or ts l None ≡ None) →
     gated k (first k.scene k.history) ≡ gated k (lane_entry k.scene k.history lane)
 first_of_turns k ts lane scene legal held in_range some before =
-    elim (cases_Bool (aborted k.history)) [
+    gated_first k
+    ∙ elim (cases_Bool (aborted k.history)) [
       | inl y ↦ same_over k _ _ y
       | inr f ↦
           ap (gated k)
@@ -543,24 +476,3 @@ first_of_turns k ts lane scene legal held in_range some before =
 -- no turn runs where none is in hand and none was aborted
 pub none_running : (k : Core) (ts : List (Option Turn)) → AreHeld k ts → ((l : ℕ) → l < lanes k.scene → get_or ts l None ≡ None) → aborted k.history ≡ false → (l : ℕ) → l < lanes k.scene → running_at lane_number k.history l ≡ []
 none_running k ts held none going l in_range = let P : Option Turn → Type 0 = λ x. IsLaneHeld k.scene k.history l x in subst P (none l in_range) (held.each l in_range) going
-
--- the agent of a held turn is the one that began, and one of the scene's, and it is thread-safe as it began
-held_course : (s : SceneParts) (h : List Entry) (t : Turn) (held : IsHeld s h t) → (held.turn.agent ≡ t.agent) × (runs_safe s held.turn ≡ t.safe)
-held_course s h t held =
-    let it = has_course s h held.turn (looked_up h t.begun.0 held.turn held.runs) in
-    let place : held.turn.place ≡ t.begun.0 = (turn_found h t.begun.0 held.turn held.runs).0 in
-    let same : Some it.reached ≡ Some (record { agent = t.agent; safe = t.safe; event = t.event; frame = t.frame }) = sym it.has ∙ (ap (course s h) place ∙ held.course) in
-    let one : it.reached ≡ record { agent = t.agent; safe = t.safe; event = t.event; frame = t.frame } = same_Some it.reached _ same in
-    (sym it.whose ∙ ap (λ (c : Course). c.agent) one, sym it.safe ∙ ap (λ (c : Course). c.safe) one)
-
-pub held_whose : (s : SceneParts) (h : List Entry) (t : Turn) (held : IsHeld s h t) → held.turn.agent ≡ t.agent
-held_whose s h t held = (held_course s h t held).0
-
-pub held_safe : (s : SceneParts) (h : List Entry) (t : Turn) (held : IsHeld s h t) → runs_safe s held.turn ≡ t.safe
-held_safe s h t held = (held_course s h t held).1
-
-pub held_agent : (s : SceneParts) (h : List Entry) (t : Turn) → IsScene s → Legal s h → IsHeld s h t → t.agent.0 < length s.agents
-held_agent s h t scene legal held =
-    let known : held.turn.agent.0 < length s.agents = turn_agent s h t.begun.0 held.turn scene legal held.runs in
-    let same : held.turn.agent.0 ≡ t.agent.0 = ap (λ (a : AgentId). a.0) (held_whose s h t held) in
-    omega arith

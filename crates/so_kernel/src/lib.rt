@@ -1,29 +1,13 @@
-//! The core of a run: one legal step at a time, over tables that stand for the history.
-//!
-//! A step reads the tables and decides on an entry, a gate lets it through or says why not, and the
-//! tables take it in.
+//! The steps of a run: those of main, those of a turn in hand, and those by picks, which are every interleaving of them.
 #![tactic(auto)]
 
 mod answers;
-mod attempts;
-mod classes;
-mod decide;
-mod delivery;
+mod hands;
 mod kernel;
-mod slots;
-mod states;
 mod steps;
-mod tables;
-mod take_in;
 mod turns;
-mod variables;
 
-pub use answers::{Acted, Begun, Ended, Refused, RunState, Stepped, Turn};
-pub use attempts::Attempts;
+pub use answers::{Acted, Begun, Ended, RunState, Stepped, Turn};
 pub use kernel::Kernel;
-pub use slots::Slots;
-pub use states::{Standing, States};
 pub use steps::{play, step};
-pub use tables::{Marks, Tables};
 pub use turns::Turns;
-pub use variables::Variables;

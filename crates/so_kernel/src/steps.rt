@@ -1,13 +1,14 @@
 //! The step of a pick, and a row of picks: every interleaving of lanes and main.
 
-ghost use Rattle.std.specs.Prelude.{◌≡◌, ◌<◌, ◌+◌, ◌^◌, length, Some, None, slice_index_or, slice_set};
+ghost use Rattle.std.specs.Prelude.{◌≡◌, ◌<◌, ◌+◌, length, Some, None, slice_index_or, slice_set};
 ghost use Rattle.std.specs.List.{All};
 ghost use Rattle.so_ids.specs.Ids.{party_of};
 ghost use Rattle.so_code.specs.declared.effect.Move.TheVariants.{Do, Done, Fail};
 ghost use Rattle.so_scene.specs.Lanes.{lanes};
-ghost use Rattle.so_history.specs.Chain.{of};
-ghost use Rattle.so_kernel.specs.Gates.{gated, core_after, stepped, begin_by};
-ghost use Rattle.so_kernel.specs.Held.{AreHeld, IsPickInRange, turn_move, played, Moves};
+ghost use Rattle.so_history.specs.Chain.{IsPickInRange, lane_entry, step_of};
+ghost use Rattle.so_ledger.specs.Gates.{gated, core_after, begin_by};
+ghost use Rattle.so_kernel.specs.Answers.{stepped};
+ghost use Rattle.so_kernel.specs.Held.{AreHeld, Moves, HasStepped, turn_move, played, stepped_by_act, stepped_by_end, turn_kept, handed_back};
 
 use crate::answers::{Acted, Begun, Ended, Stepped, Turn};
 use crate::kernel::Kernel;
@@ -20,8 +21,8 @@ use so_ids::LaneId;
 pub fn step(kernel: &mut Kernel, turns: &mut Turns, pick: Pick) -> Stepped
     requires lane { IsPickInRange kernel.old.scene pick }
     requires held { AreHeld kernel.old turns.old }
-    ensures answer { result ≡ stepped (gated kernel.old (of kernel.old.scene kernel.old.history pick)) }
-    ensures after { kernel.new ≡ core_after kernel.old (gated kernel.old (of kernel.old.scene kernel.old.history pick)) }
+    ensures answer { result ≡ stepped (gated kernel.old (step_of kernel.old.scene kernel.old.history pick)) }
+    ensures after { kernel.new ≡ core_after kernel.old (gated kernel.old (step_of kernel.old.scene kernel.old.history pick)) }
     ensures held { AreHeld kernel.new turns.new }
 {
     let _scene = kernel.scene();
@@ -36,8 +37,8 @@ pub fn step(kernel: &mut Kernel, turns: &mut Turns, pick: Pick) -> Stepped
 fn step_lane(kernel: &mut Kernel, turns: &mut Turns, lane: LaneId) -> Stepped
     requires lane { lane.0 < lanes kernel.old.scene }
     requires held { AreHeld kernel.old turns.old }
-    ensures answer { result ≡ stepped (gated kernel.old (of kernel.old.scene kernel.old.history (Pick.Lane lane))) }
-    ensures after { kernel.new ≡ core_after kernel.old (gated kernel.old (of kernel.old.scene kernel.old.history (Pick.Lane lane))) }
+    ensures answer { result ≡ stepped (gated kernel.old (lane_entry kernel.old.scene kernel.old.history lane)) }
+    ensures after { kernel.new ≡ core_after kernel.old (gated kernel.old (lane_entry kernel.old.scene kernel.old.history lane)) }
     ensures held { AreHeld kernel.new turns.new }
 {
     let _scene = kernel.scene();
@@ -52,9 +53,7 @@ fn step_turn(kernel: &mut Kernel, turns: &mut Turns, lane: LaneId, mut turn: Tur
     requires lane { lane.0 < lanes kernel.old.scene }
     requires none { slice_index_or turns.old lane.0 None ≡ None }
     requires held { AreHeld kernel.old (slice_set turns.old lane.0 (Some turn)) }
-    ensures answer { result ≡ stepped (gated kernel.old (turn_move kernel.old.scene kernel.old.history turn)) }
-    ensures after { kernel.new ≡ core_after kernel.old (gated kernel.old (turn_move kernel.old.scene kernel.old.history turn)) }
-    ensures held { AreHeld kernel.new turns.new }
+    ensures { HasStepped kernel.old (turn_move kernel.old.scene kernel.old.history turn) result kernel.new turns.new }
 {
     let before = turn.frame;
     let scene = kernel.scene();
@@ -66,7 +65,7 @@ fn step_turn(kernel: &mut Kernel, turns: &mut Turns, lane: LaneId, mut turn: Tur
     }
 }
 
-/// An act of a turn, which is put back: with the answer where it went, and as it was before its move where it didn't.
+/// An act of a turn.
 fn step_act(
     kernel: &mut Kernel,
     turns: &mut Turns,
@@ -79,12 +78,27 @@ fn step_act(
     requires none { slice_index_or turns.old lane.0 None ≡ None }
     requires held { AreHeld kernel.old (slice_set turns.old lane.0 (Some (record turn { frame = before }))) }
     requires moves { Moves kernel.old turn before (Do effect) }
-    ensures answer { result ≡ stepped (gated kernel.old (turn_move kernel.old.scene kernel.old.history (record turn { frame = before }))) }
-    ensures after { kernel.new ≡ core_after kernel.old (gated kernel.old (turn_move kernel.old.scene kernel.old.history (record turn { frame = before }))) }
-    ensures held { AreHeld kernel.new turns.new }
+    ensures { HasStepped kernel.old (turn_move kernel.old.scene kernel.old.history (record turn { frame = before })) result kernel.new turns.new }
 {
     let _scene = kernel.scene();
-    match kernel.act(&mut turn, effect) {
+    let acted = kernel.act(&mut turn, effect);
+    put_after(turns, lane, turn, before, acted)
+}
+
+/// Puts a turn back after its act: with the answer where it went, and as it was before its move where it didn't.
+fn put_after(
+    turns: &mut Turns,
+    lane: LaneId,
+    mut turn: Turn,
+    before: Frame,
+    acted: Acted,
+) -> Stepped
+    requires lane { lane.0 < length turns.old }
+    requires none { slice_index_or turns.old lane.0 None ≡ None }
+    ensures answer { result ≡ stepped_by_act acted }
+    ensures turns { turns.new ≡ slice_set turns.old lane.0 (Some (turn_kept acted before turn)) }
+{
+    match acted {
         Acted::Went => {
             turns.put(lane, turn);
             Stepped::Added
@@ -102,7 +116,7 @@ fn step_act(
     }
 }
 
-/// The end of a turn, which is put back as it was before its move where it goes on.
+/// The end of a turn.
 fn step_end(
     kernel: &mut Kernel,
     turns: &mut Turns,
@@ -114,28 +128,14 @@ fn step_end(
     requires none { slice_index_or turns.old lane.0 None ≡ None }
     requires held { AreHeld kernel.old (slice_set turns.old lane.0 (Some (record turn { frame = before }))) }
     requires moves { Moves kernel.old turn before Done }
-    ensures answer { result ≡ stepped (gated kernel.old (turn_move kernel.old.scene kernel.old.history (record turn { frame = before }))) }
-    ensures after { kernel.new ≡ core_after kernel.old (gated kernel.old (turn_move kernel.old.scene kernel.old.history (record turn { frame = before }))) }
-    ensures held { AreHeld kernel.new turns.new }
+    ensures { HasStepped kernel.old (turn_move kernel.old.scene kernel.old.history (record turn { frame = before })) result kernel.new turns.new }
 {
     let _scene = kernel.scene();
-    match kernel.end(turn) {
-        Ended::Done => Stepped::Added,
-        Ended::Aborted => Stepped::Aborted,
-        Ended::Full(mut turn) => {
-            turn.frame = before;
-            turns.put(lane, turn);
-            Stepped::Full
-        }
-        Ended::Over(mut turn) => {
-            turn.frame = before;
-            turns.put(lane, turn);
-            Stepped::Over
-        }
-    }
+    let ended = kernel.end(turn);
+    put_back(turns, lane, before, ended)
 }
 
-/// The exception of a turn, which is put back as it was before its move where it goes on.
+/// The exception of a turn.
 fn step_fail(
     kernel: &mut Kernel,
     turns: &mut Turns,
@@ -148,12 +148,21 @@ fn step_fail(
     requires none { slice_index_or turns.old lane.0 None ≡ None }
     requires held { AreHeld kernel.old (slice_set turns.old lane.0 (Some (record turn { frame = before }))) }
     requires moves { Moves kernel.old turn before (Fail kind) }
-    ensures answer { result ≡ stepped (gated kernel.old (turn_move kernel.old.scene kernel.old.history (record turn { frame = before }))) }
-    ensures after { kernel.new ≡ core_after kernel.old (gated kernel.old (turn_move kernel.old.scene kernel.old.history (record turn { frame = before }))) }
-    ensures held { AreHeld kernel.new turns.new }
+    ensures { HasStepped kernel.old (turn_move kernel.old.scene kernel.old.history (record turn { frame = before })) result kernel.new turns.new }
 {
     let _scene = kernel.scene();
-    match kernel.fail(turn, kind) {
+    let ended = kernel.fail(turn, kind);
+    put_back(turns, lane, before, ended)
+}
+
+/// Puts a turn back that is handed back, as it was before its move.
+fn put_back(turns: &mut Turns, lane: LaneId, before: Frame, ended: Ended) -> Stepped
+    requires lane { lane.0 < length turns.old }
+    requires none { slice_index_or turns.old lane.0 None ≡ None }
+    ensures answer { result ≡ stepped_by_end ended }
+    ensures turns { turns.new ≡ handed_back lane.0 before ended turns.old }
+{
+    match ended {
         Ended::Done => Stepped::Added,
         Ended::Aborted => Stepped::Aborted,
         Ended::Full(mut turn) => {
@@ -192,19 +201,18 @@ fn step_begin(kernel: &mut Kernel, turns: &mut Turns, lane: LaneId) -> Stepped
     }
 }
 
-/// Makes the step of each pick in order, and says how many added an entry.
-#[tactic(auto, using(crate::proofs::GateLaws::counted))]
+/// Makes the step of each pick in order, and says how many entries were added.
+#[tactic(auto, using(crate::proofs::AnswerLaws::counted))]
 pub fn play(kernel: &mut Kernel, turns: &mut Turns, picks: &[Pick]) -> u32
-    requires few { length picks.now < 2 ^ 32 }
     requires lanes { All (IsPickInRange kernel.old.scene) picks.now }
     requires held { AreHeld kernel.old turns.old }
     ensures after { kernel.new ≡ played kernel.old picks.now }
     ensures count { length kernel.new.history ≡ length kernel.old.history + result }
     ensures held { AreHeld kernel.new turns.new }
 {
-    let mut added = 0;
+    let before = kernel.history().len();
     for pick in picks {
-        added += step(kernel, turns, *pick).entries();
+        let _did = step(kernel, turns, *pick);
     }
-    added
+    kernel.history().len() - before
 }

@@ -8,7 +8,7 @@ use std::alloc::Global;
 use std::marker::Model;
 
 /// A turn, or none, for each lane.
-#[derive(Debug, Drop)]
+#[derive(Drop)]
 pub struct Turns {
     held: Vec<Option<Turn>>,
 }

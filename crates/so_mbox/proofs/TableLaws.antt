@@ -24,7 +24,7 @@ use Rattle.so_mbox.specs.Table.{Subscriptions, IsTable, IsAgentOf, same_agent, i
 
 -- ---- nobody is registered twice
 
-agents-laws : IsEquivalence same_agent
+pub agents-laws : IsEquivalence same_agent
 agents-laws = record {
   refl = λ a. nat_eq_equiv.refl a.0;
   symm = λ a b. nat_eq_equiv.symm a.0 b.0;

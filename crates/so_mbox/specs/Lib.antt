@@ -1,2 +1,3 @@
 pub mod Answers
+pub mod Boards
 pub mod Table

@@ -7,6 +7,7 @@ use Rattle.so_ids.specs.declared.FilterId.{FilterId}
 use Rattle.so_ids.specs.declared.MboxId.{MboxId}
 use Rattle.so_ids.specs.declared.MsgId.{MsgId}
 use Rattle.so_ids.specs.declared.Payload.{Payload}
+use Rattle.so_state.specs.Choice.{is_for}
 use Rattle.so_state.specs.declared.choice.Row.{Row}
 use Rattle.so_scene.specs.declared.parts.AgentDef.{AgentDef}
 use Rattle.so_scene.specs.declared.parts.SceneParts.{SceneParts}
@@ -87,6 +88,11 @@ abbrev pub departed : List AgentId → Subscriptions → Subscriptions
 departed [] t = t
 departed (a ∷ agents) t = departed agents (after_leave a t)
 
+-- no flag of these agents is set
+abbrev pub cleared : List AgentId → List (List Bool) → List (List Bool)
+cleared [] lists = lists
+cleared (a ∷ agents) lists = cleared agents (slice_set lists a.0 (replicate (length (slice_index_or lists a.0 [])) false))
+
 -- the agent is none of these
 abbrev pub is_none_of : List AgentId → AgentId → Bool
 is_none_of agents a = not (list_any (same_agent a) agents)
@@ -110,6 +116,14 @@ is_row_active t a row = slice_index_or (active_rows t a) row.0 false
 
 abbrev pub is_filter_active : Subscriptions → AgentId → FilterId → Bool
 is_filter_active t a f = slice_index_or (active_filters t a) f.0 false
+
+-- the agent has a row, active or not, for messages of the type from the mbox
+abbrev pub has_row : SceneParts → MboxId → MsgId → AgentId → Bool
+has_row s mbox msg a = list_any (is_for mbox msg) (rows_of s a)
+
+-- the registered agents that have one, in order of registration
+abbrev pub candidates : Subscriptions → MboxId → MsgId → List AgentId
+candidates t mbox msg = filter (has_row t.scene mbox msg) t.order
 
 -- who receives messages of the type from the mbox, in order of registration
 abbrev pub receivers : Subscriptions → MboxId → MsgId → List AgentId

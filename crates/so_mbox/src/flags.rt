@@ -12,7 +12,7 @@ use std::alloc::Global;
 use std::marker::Model;
 
 /// A flag for each row, or each filter, of an agent: whether it is active.
-#[derive(Debug, Drop)]
+#[derive(Drop)]
 pub(crate) struct Flags {
     flags: Vec<bool>,
 }
@@ -30,10 +30,9 @@ impl Flags {
     pub(crate) fn with(alloc: Global, count: usize) -> Result<Flags, NoMemory>
         ensures { IfOk result (λ all. all ≡ replicate count false) }
     {
-        let Ok(flags) = Vec::from_elem(alloc, false, count) else {
-            return Err(NoMemory);
-        };
-        Ok(Flags { flags })
+        Ok(Flags {
+            flags: Vec::from_elem(alloc, false, count)?,
+        })
     }
 
     /// All of them.
@@ -163,68 +162,4 @@ fn stays_beside(new: &FilterDef, other: &FilterDef, active: bool) -> bool
     ensures { result ≡ stays_beside new.now (other.now, active) }
 {
     active && !is_for_same(new, other)
-}
-
-#[cfg(test)]
-mod tests {
-    use super::*;
-    use so_code::Cmp;
-    use so_ids::{MboxId, MsgId, StateId};
-    use so_state::RowKind;
-    use std::process::Abort;
-
-    fn filter(mbox: u32, msg: u32, active: bool) -> FilterDef {
-        FilterDef {
-            id: None,
-            mbox: MboxId(mbox),
-            msg: MsgId(msg),
-            field: 0,
-            cmp: Cmp::Eq,
-            value: 0,
-            active,
-        }
-    }
-
-    fn row(active: bool) -> Row {
-        Row {
-            mbox: MboxId(0),
-            msg: MsgId(0),
-            state: StateId(0),
-            kind: RowKind::Run,
-            safe: false,
-            active,
-        }
-    }
-
-    #[test]
-    fn a_newer_filter_replaces_the_one_of_its_mbox_and_type(rt: HostRuntime) {
-        let filters = [
-            filter(3, 0, true),
-            filter(3, 0, true),
-            filter(3, 2, true),
-            filter(4, 0, false),
-        ];
-        let mut flags = [false; 4];
-        put_filters_first(&mut flags, &filters);
-        assert_eq!(rt; flags, [false, true, true, false]);
-        let cases = [
-            (0, [true, false, true, false]),
-            (3, [true, false, true, true]),
-            (2, [true, false, true, true]),
-            (1, [false, true, true, true]),
-        ];
-        for (k, after) in cases {
-            assert!(rt; k < filters.len());
-            set_filter(&mut flags, &filters, k);
-            assert_eq!(rt; flags, after, "{k}");
-        }
-    }
-
-    #[test]
-    fn a_registration_sets_the_rows_back(rt: HostRuntime) {
-        let rows = [row(true), row(false), row(true)];
-        let mut flags = [false, true, true];
-        put_rows_first(&mut flags, &rows);
-        assert_eq!(rt; flags, [true, false, true]);
-    }
 }

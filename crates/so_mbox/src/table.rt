@@ -1,14 +1,15 @@
 //! Who is registered, and which of their rows and filters are active.
 
-ghost use Rattle.std.specs.Prelude.{◌≡◌, ◌<◌, ◌≤◌, length, slice_get, vec_capacity, map, zip, false, IfOk, OnOk, OnErr};
+ghost use Rattle.std.specs.Prelude.{◌≡◌, ◌<◌, ◌≤◌, ◌+◌, ◌^◌, length, slice_get, vec_capacity, map, zip, false, IfOk, OnOk, OnErr};
 ghost use Rattle.std.specs.List.{All, filter, list_any};
-ghost use Rattle.so_scene.specs.Parts.{rows_of, filters_of};
+ghost use Rattle.so_scene.specs.Parts.{rows_of, filters_of, mboxes, agents_from};
 ghost use Rattle.so_scene.specs.Definition.{filter_fault_of};
 ghost use Rattle.so_scene.specs.Delivery.{is_subscribed, refuses, field_of, lets_through};
 ghost use Rattle.so_scene.specs.Subscriptions.{filter_of};
-ghost use Rattle.so_mbox.specs.Table.{nobody, is_entered, is_other, IsAgentOf, active_rows, active_filters, is_row_active, is_filter_active, all_none, all_filters_first, with_row, after_enter, after_leave, after_subscribe, after_unsubscribe, after_set_filter, after_drop_filter, receivers, passes};
+ghost use Rattle.so_mbox.specs.Table.{nobody, is_entered, IsAgentOf, candidates, active_rows, active_filters, is_row_active, is_filter_active, all_none, all_filters_first, with_row, after_enter, after_leave, departed, cleared, after_subscribe, after_unsubscribe, after_set_filter, after_drop_filter, receivers, passes};
 ghost use Rattle.so_mbox.specs.Answers.{subscribe_answer, broken_by};
 
+use crate::boards::{Boards, leave_out, rows_of};
 use crate::flags::Flags;
 use so_ids::{AgentId, FilterId, MboxId, MsgId, NoMemory, Payload, RowId};
 use so_scene::{AgentDef, FilterDef, Scene, is_twice};
@@ -17,7 +18,7 @@ use std::alloc::Global;
 use std::marker::Model;
 
 /// Why a subscription is refused.
-#[derive(Clone, Copy, Debug, PartialEq, Eq)]
+#[derive(Clone, Copy, PartialEq, Eq)]
 pub enum SubFault {
     /// The row names another agent's direct mbox.
     NotOwner,
@@ -26,7 +27,7 @@ pub enum SubFault {
 }
 
 /// Why a filter is refused.
-#[derive(Clone, Copy, Debug, PartialEq, Eq)]
+#[derive(Clone, Copy, PartialEq, Eq)]
 pub enum FilterFault {
     /// It is on a direct mbox.
     DirectMbox,
@@ -36,24 +37,27 @@ pub enum FilterFault {
 
 /// The subscriptions of the agents of a scene: who is registered, in order of registration, and which rows
 /// and filters of each agent are active. Nothing after its making takes memory.
-#[derive(Debug, Drop)]
+#[derive(Drop)]
 pub struct Table<'a> {
     scene: &'a Scene,
     order: Vec<AgentId>,
     rows: Vec<Flags>,
     filters: Vec<Flags>,
+    boards: Boards,
 }
 
 impl<'a> Model for Table<'a> {
     ghost use Rattle.std.specs.Prelude.{◌≤◌, length, vec_capacity};
     ghost use Rattle.so_mbox.specs.Table.{Subscriptions, IsTable};
+    ghost use Rattle.so_mbox.specs.Boards.{AreListed};
 
     ghost Value = { Subscriptions };
 
     ghost view = { λ t. record { scene = t.scene.now; order = t.order.items; rows = t.rows.items; filters = t.filters.items } };
 
     ghost invariant = { λ t. IsTable (record { scene = t.scene.now; order = t.order.items; rows = t.rows.items; filters = t.filters.items })
-        × (length t.scene.now.agents ≤ vec_capacity t.order) };
+        × (length t.scene.now.agents ≤ vec_capacity t.order)
+        × AreListed (record { scene = t.scene.now; order = t.order.items; rows = t.rows.items; filters = t.filters.items }) t.boards };
 }
 
 impl<'a> Table<'a> {
@@ -62,14 +66,12 @@ impl<'a> Table<'a> {
         ensures { IfOk result (λ t. t ≡ nobody shapes.now) }
     {
         let agents = shapes.parts().agents.as_slice();
-        let Ok(order) = Vec::with_capacity(alloc, agents.len()) else {
-            return Err(NoMemory);
-        };
         Ok(Table {
             scene: shapes,
-            order,
+            order: Vec::with_capacity(alloc, agents.len())?,
             rows: no_rows(alloc, agents)?,
             filters: first_filters(alloc, agents)?,
+            boards: Boards::with(alloc, shapes)?,
         })
     }
 
@@ -100,6 +102,7 @@ impl<'a> Table<'a> {
         rows.put_rows_first(def.rows.as_slice());
         let filters = &mut self.filters[agent.0 as usize];
         filters.put_filters_first(def.filters.as_slice());
+        self.boards.enter(agent, rows_of(self.scene, agent));
     }
 
     /// Takes an agent out, if it is registered. None of its rows is active then, and its filters stay as they are.
@@ -107,9 +110,18 @@ impl<'a> Table<'a> {
         requires { IsAgentOf self.old.scene agent }
         ensures { self.new ≡ after_leave agent self.old }
     {
-        leave_out(&mut self.order, agent);
-        let rows = &mut self.rows[agent.0 as usize];
-        rows.clear();
+        self.leave_all(agent, 1);
+    }
+
+    /// Takes so many agents out, from the first on, as they would leave one after the other.
+    pub fn leave_all(&mut self, first: AgentId, count: u32)
+        requires { first.0 + count ≤ length self.old.scene.agents }
+        ensures { self.new ≡ departed (agents_from first count) self.old }
+    {
+        let _parts = self.scene.parts();
+        leave_out(&mut self.order, first, count);
+        clear_each(&mut self.rows, first, count);
+        self.boards.leave(self.scene, first, count);
     }
 
     /// Makes a row active. Refused, in this order, where the row names another agent's direct mbox, and where it
@@ -190,6 +202,17 @@ impl<'a> Table<'a> {
         self.order.as_slice()
     }
 
+    /// The registered agents that have a row, active or not, for messages of the type from the mbox, in order of
+    /// registration. All that receive them are among these.
+    pub fn candidates(&self, mbox: MboxId, msg: MsgId) -> &[AgentId]
+        requires { mbox.0 < mboxes self.now.scene }
+        ensures value { result.now ≡ candidates self.now mbox msg }
+        ensures agents { All (IsAgentOf self.now.scene) (candidates self.now mbox msg) }
+        ensures few { length (candidates self.now mbox msg) ≤ length self.now.scene.agents }
+    {
+        self.boards.listed(mbox, msg)
+    }
+
     /// The agent at this position among those that receive messages of the type from the mbox, in order of
     /// registration. `None` exactly past the last.
     pub fn receivers(&self, mbox: MboxId, msg: MsgId, at: u32) -> Option<AgentId>
@@ -263,9 +286,7 @@ impl<'a> Table<'a> {
 fn no_rows(alloc: Global, agents: &[AgentDef]) -> Result<Vec<Flags>, NoMemory>
     ensures { IfOk result (λ rows. rows.items ≡ map all_none agents.now) }
 {
-    let Ok(mut rows) = Vec::with_capacity(alloc, agents.len()) else {
-        return Err(NoMemory);
-    };
+    let mut rows = Vec::with_capacity(alloc, agents.len())?;
     for agent in agents {
         rows.push_reserved(Flags::with(alloc, agent.rows.len())?);
     }
@@ -276,9 +297,7 @@ fn no_rows(alloc: Global, agents: &[AgentDef]) -> Result<Vec<Flags>, NoMemory>
 fn first_filters(alloc: Global, agents: &[AgentDef]) -> Result<Vec<Flags>, NoMemory>
     ensures { IfOk result (λ filters. filters.items ≡ map all_filters_first agents.now) }
 {
-    let Ok(mut filters) = Vec::with_capacity(alloc, agents.len()) else {
-        return Err(NoMemory);
-    };
+    let mut filters = Vec::with_capacity(alloc, agents.len())?;
     for agent in agents {
         filters.push_reserved(filters_first(alloc, agent)?);
     }
@@ -293,17 +312,14 @@ fn filters_first(alloc: Global, agent: &AgentDef) -> Result<Flags, NoMemory>
     Ok(flags)
 }
 
-/// Takes an agent out of a list.
-fn leave_out(order: &mut Vec<AgentId>, agent: AgentId)
-    ensures items { order.new.items ≡ filter (is_other agent) order.old.items }
-    ensures capacity { vec_capacity order.new ≡ vec_capacity order.old }
+/// Makes no row of so many agents active, from the first on.
+fn clear_each(rows: &mut Vec<Flags>, first: AgentId, count: u32)
+    requires within { first.0 + count ≤ length rows.old.items }
+    requires range { first.0 + count < 2 ^ 32 }
+    ensures { rows.new.items ≡ cleared (agents_from first count) rows.old.items }
 {
-    let mut at = order.len();
-    while at > 0 {
-        at -= 1;
-        if order[at] == agent {
-            order.remove(at);
-        }
+    for k in 0..count {
+        rows[(first.0 + k) as usize].clear();
     }
 }
 

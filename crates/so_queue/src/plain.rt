@@ -13,7 +13,7 @@ use std::alloc::Global;
 use std::marker::Model;
 
 /// A waiting demand, and which key's and priority's it is: 8 * key + priority.
-#[derive(Clone, Copy, Debug)]
+#[derive(Clone, Copy)]
 pub(crate) struct Waiting {
     pub slot: usize,
     pub demand: DemandId,

@@ -2,12 +2,15 @@
 
 ghost use Rattle.std.specs.Prelude.{◌≡◌, option_map};
 ghost use Rattle.so_scene.specs.Faults.{fault_word, fault_place, tree_word};
+ghost use Rattle.so_scene.specs.declared.fault.SceneRefusal.TheVariants as refusal;
 
 use crate::place::ScenePlace;
+use so_ids::NoMemory;
 use so_state::TreeFault;
+use std::alloc::AllocError;
 
 /// The first fault of a scene's bytes, with its place.
-#[derive(Debug, Drop)]
+#[derive(Drop)]
 pub enum SceneFault {
     /// The bytes have no JSON reading.
     NotJson,
@@ -31,10 +34,26 @@ pub enum SceneFault {
 }
 
 /// Why there is no scene.
-#[derive(Debug, Drop)]
+#[derive(Drop)]
 pub enum SceneRefusal {
     Fault(SceneFault),
     NoMemory,
+}
+
+impl From<NoMemory> for SceneRefusal {
+    ghost from_gives = { λ _ e. e ≡ refusal.NoMemory };
+
+    fn from(_refused: NoMemory) -> SceneRefusal {
+        SceneRefusal::NoMemory
+    }
+}
+
+impl From<AllocError> for SceneRefusal {
+    ghost from_gives = { λ _ e. e ≡ refusal.NoMemory };
+
+    fn from(_refused: AllocError) -> SceneRefusal {
+        SceneRefusal::NoMemory
+    }
 }
 
 impl SceneFault {

@@ -12,7 +12,7 @@ use so_ids::{AgentId, CoopId, DispId, KeyId, LaneId, NoMemory};
 use std::alloc::Global;
 
 /// With which of its dispatcher's agents an agent shares its queue.
-#[derive(Clone, Copy, Debug, PartialEq, Eq)]
+#[derive(Clone, Copy, PartialEq, Eq)]
 pub enum Part {
     /// With all.
     Whole,
@@ -27,14 +27,14 @@ pub enum Part {
 }
 
 /// An event queue: a dispatcher, and the part of its agents whose events stand in the queue.
-#[derive(Clone, Copy, Debug, PartialEq, Eq)]
+#[derive(Clone, Copy, PartialEq, Eq)]
 pub struct Queue {
     pub disp: DispId,
     pub part: Part,
 }
 
 /// A lane, which is a thread of its dispatcher.
-#[derive(Clone, Copy, Debug, PartialEq, Eq)]
+#[derive(Clone, Copy, PartialEq, Eq)]
 pub struct Lane {
     pub disp: DispId,
     /// The one part whose queue it serves, `None` where it serves all queues of the dispatcher.
@@ -110,7 +110,7 @@ fn part_in_pool(fifo: Fifo, agent: AgentId, coop: CoopId) -> Part
 }
 
 /// The queues and lanes of a scene by number.
-#[derive(Debug, Drop)]
+#[derive(Drop)]
 pub(crate) struct Layout {
     /// The queue of each agent.
     pub(crate) queues: Vec<Queue>,

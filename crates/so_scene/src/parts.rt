@@ -7,14 +7,14 @@ use so_ids::{AgentId, CoopId, DispId, MboxId, MsgId, Priority, Vars};
 use so_state::{Row, Tree};
 
 /// A type of messages. A signal carries no values.
-#[derive(Debug, Drop)]
+#[derive(Drop)]
 pub struct MessageDef {
     pub name: Name,
     pub signal: bool,
 }
 
 /// On which threads a dispatcher runs its agents, and which of them share a queue.
-#[derive(Clone, Copy, Debug, PartialEq, Eq)]
+#[derive(Clone, Copy, PartialEq, Eq)]
 pub enum DispKind {
     /// All on one thread (SObjectizer's one_thread).
     OneThread,
@@ -35,7 +35,7 @@ pub enum DispKind {
 }
 
 /// Which agents of a pool share a queue (SObjectizer's FIFO parameter).
-#[derive(Clone, Copy, Debug, PartialEq, Eq)]
+#[derive(Clone, Copy, PartialEq, Eq)]
 pub enum Fifo {
     /// Those of a cooperation.
     Cooperation,
@@ -44,7 +44,7 @@ pub enum Fifo {
 }
 
 /// A dispatcher.
-#[derive(Debug, Drop)]
+#[derive(Drop)]
 pub struct DispDef {
     pub name: Name,
     pub kind: DispKind,
@@ -59,7 +59,7 @@ pub struct DispDef {
 }
 
 /// A cooperation: its agents are `count` agents from `first` on.
-#[derive(Debug, Drop)]
+#[derive(Drop)]
 pub struct CoopDef {
     pub name: Name,
     /// The cooperation that it is a child of. Without one it is a child of the root.
@@ -72,7 +72,7 @@ pub struct CoopDef {
 
 /// A delivery filter (SObjectizer's `set_delivery_filter`): a message of the type from the mbox passes where
 /// its field compares so with the value.
-#[derive(Debug, Drop)]
+#[derive(Drop)]
 pub struct FilterDef {
     /// The name by which acts name it.
     pub id: Option<Name>,
@@ -89,7 +89,7 @@ pub struct FilterDef {
 /// An agent: its cooperation, its dispatcher, the variables with which it begins, its states, its subscriptions,
 /// its filters and the code of its handlers. A row with a handler, of number k, runs the body `Row(k)` of the
 /// code.
-#[derive(Debug, Drop)]
+#[derive(Drop)]
 pub struct AgentDef {
     pub name: Name,
     pub coop: CoopId,
@@ -109,7 +109,7 @@ pub struct AgentDef {
 }
 
 /// All parts.
-#[derive(Debug, Drop)]
+#[derive(Drop)]
 pub struct SceneParts {
     pub messages: Items<MessageDef>,
     /// The mboxes that have a name of their own. Their numbers follow those of the direct mboxes.

@@ -6,7 +6,7 @@ use arrayvec::ArrayVec;
 use std::marker::Model;
 
 /// The names of fields, in the order in which the objects of a scene have them.
-#[derive(Clone, Copy, Debug, PartialEq, Eq)]
+#[derive(Clone, Copy, PartialEq, Eq)]
 pub enum Field {
     Version,
     Autoshutdown,
@@ -70,7 +70,7 @@ pub enum Field {
 }
 
 /// A step from a value to one inside it.
-#[derive(Clone, Copy, Debug, PartialEq, Eq)]
+#[derive(Clone, Copy, PartialEq, Eq)]
 pub enum PlaceStep {
     /// To the value of a field.
     Key(Field),
@@ -88,7 +88,7 @@ impl Default for PlaceStep {
 }
 
 /// A path of at most 16 steps from the root of the file, as the list of its steps.
-#[derive(Debug, Drop)]
+#[derive(Drop)]
 pub struct ScenePlace {
     steps: ArrayVec<PlaceStep, 16>,
 }

@@ -7,7 +7,7 @@ use so_ids::Priority;
 
 /// The round of a quoted_round_robin dispatcher. Its events are taken priority by priority: of each, where it has
 /// some, so many as its quote, and then of the next lower one that has some, with p7 after p0.
-#[derive(Clone, Copy, Debug, PartialEq, Eq)]
+#[derive(Clone, Copy, PartialEq, Eq)]
 pub struct Round {
     /// The priority whose turn it is.
     pub priority: Priority,

@@ -13,7 +13,7 @@ use std::alloc::Global;
 use std::marker::Model;
 
 /// A scene: cooperations of agents, the mboxes by which they talk, and the texts that they log.
-#[derive(Debug, Drop)]
+#[derive(Drop)]
 pub struct Scene {
     parts: SceneParts,
     pub(crate) layout: Layout,

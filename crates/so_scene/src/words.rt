@@ -8,7 +8,7 @@ use arrayvec::ArrayVec;
 use std::marker::Model;
 
 /// A name: 1 to 32 letters, digits and underscores.
-#[derive(Debug, Drop)]
+#[derive(Drop)]
 pub struct Name {
     held: ArrayVec<u8, 32>,
 }
@@ -70,7 +70,7 @@ impl Name {
 }
 
 /// A text that a log act prints: up to 64 bytes from space to tilde.
-#[derive(Debug, Drop)]
+#[derive(Drop)]
 pub struct Text {
     held: ArrayVec<u8, 64>,
 }

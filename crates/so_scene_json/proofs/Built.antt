@@ -1,11 +1,11 @@
 -- What the four passes leave is what a scene keeps.
-use Rattle.std.proofs.Common.{◌≡◌, ℕ, zero, suc, ◌+◌, ◌-◌, ◌<◌, ◌≤◌, ◌^◌, get_or, List, [], ◌∷◌, ◌++◌, length, map, Bool, true, false, not, ◌&&◌, ◌||◌, Option, Some, None, option_and_then, Result, Ok, Err, refl, sym, ap, ◌∙◌, subst, arith, codes, if◌then◌else◌, nat_le, nat_lt, is_some, length-append, append_assoc, bytes_eq}
+use Rattle.std.proofs.Common.{◌≡◌, ℕ, suc, ◌+◌, ◌-◌, ◌<◌, ◌≤◌, ◌^◌, get_or, List, [], ◌∷◌, ◌++◌, length, map, Bool, true, false, not, ◌&&◌, Option, Some, None, option_and_then, Result, Ok, Err, refl, sym, ap, ◌∙◌, subst, arith, codes, if◌then◌else◌, nat_le, nat_lt, is_some, length-append, append_assoc, bytes_eq}
 use Rattle.std.proofs.Math.Nat.{min-le_left}
-use Rattle.std.proofs.lemmas.Bool.{true≢false, leb-true, ltb-false}
+use Rattle.std.proofs.lemmas.Bool.{true≢false, leb-true, ltb-false, or_parts}
 use Rattle.std.proofs.lemmas.List.{map_push}
 use Rattle.std.proofs.lemmas.List.Quantifiers.{position-Some}
 use Rattle.std.specs.Prelude.{slice_index_or, ◌==◌}
-use Rattle.std.specs.List.{range_with_len, All, AllByRecursion, IsDistinct, list_any, filter}
+use Rattle.std.specs.List.{range_with_len, All, AllByRecursion, IsDistinct, list_any}
 use Rattle.serde_json.specs.Data.{Data, Items, no_items, item}
 use Rattle.serde_json.specs.Events.{items_len}
 use Rattle.serde_json.specs.Find.{get, get_item, as_str}
@@ -14,11 +14,9 @@ use Rattle.so_ids.specs.declared.DispId.{DispId}
 use Rattle.so_ids.specs.declared.MboxId.{MboxId}
 use Rattle.so_code.specs.Shape.{agent_bodies}
 use Rattle.so_lists.specs.Lists.{is_empty, head, given_after, AreNumbered}
-use Rattle.so_lists.proofs.EachBelow.{length-each_below, get_or-each_below}
-use Rattle.so_lists.proofs.Filters.{each-append, each-weaker, filter-short, filter_map-short}
-use Rattle.so_lists.proofs.Given.{given-append, given-few}
-use Rattle.so_scene.specs.Checked.{IsAgent, IsParent, IsDisp, IsGroup, AreGroups, IsScene, IsKind, HasNoLimit, has_handler, handlers_from, row_number, given, filter_ids, filter_id, is_pool, has_quotes, IsQuote, text_uses}
-use Rattle.so_scene.specs.Lanes.{AreBound, agent_number, lanes}
+use Rattle.so_lists.proofs.Filters.{each-append, each-weaker}
+use Rattle.so_lists.proofs.Given.{given-append}
+use Rattle.so_scene.specs.Checked.{IsParent, IsDisp, IsGroup, IsKind, HasNoLimit, has_handler, handlers_from, row_number, given, filter_ids, filter_id, is_pool, has_quotes, IsQuote, text_uses}
 use Rattle.so_code.specs.declared.instr.Instr.{Instr}
 use Rattle.so_ids.specs.declared.RowId.{RowId}
 use Rattle.so_ids.specs.declared.StateId.{StateId}
@@ -28,7 +26,7 @@ use Rattle.so_state.specs.declared.states.State.{State}
 use Rattle.so_state.specs.Fault.{tree_fault}
 use Rattle.so_state.specs.States.{default_state}
 use Rattle.so_scene.specs.Names.{has_name, number_in}
-use Rattle.so_scene.specs.Parts.{message_name, agent_name, coop_name, disp_name, default_disp, no_agent, groups_of as scene_groups}
+use Rattle.so_scene.specs.Parts.{message_name, agent_name, coop_name, disp_name, default_disp}
 use Rattle.so_scene.specs.Words.{is_name, is_text}
 use Rattle.so_scene.specs.Written.{IsNumber, HasParent, IsWrittenAmong, is_state_name, AreSafe}
 use Rattle.so_scene.proofs.DispLaws.{default_is_disp}
@@ -42,40 +40,40 @@ use Rattle.so_scene.specs.declared.parts.DispKind.{DispKind}
 use Rattle.so_scene.specs.declared.parts.DispKind.TheVariants.{OneThread, ActiveGroup}
 use Rattle.so_scene.specs.declared.parts.Fifo.TheVariants.{Cooperation}
 use Rattle.so_scene.specs.declared.parts.MessageDef.{MessageDef}
-use Rattle.so_scene.specs.declared.parts.SceneParts.{SceneParts}
-use Rattle.so_scene_json.specs.declared.build.Build.{Build}
-use Rattle.so_scene_json.specs.declared.groups.Group.{Group}
-use Rattle.so_scene_json.specs.declared.declare.Declared.{Declared}
-use Rattle.so_scene_json.specs.declared.known.Known.{Known}
-use Rattle.so_scene_json.specs.declared.scope.Scope.{Scope}
-use Rattle.so_scene_json.specs.declared.shape.Shape.{Shape}
-use Rattle.so_scene_json.specs.declared.table.Form.{Form}
-use Rattle.so_scene_json.specs.declared.table.Form.TheVariants as form
-use Rattle.so_scene_json.specs.declared.table.ObjectKind.TheVariants as object
-use Rattle.so_scene_json.specs.declared.table.Space.TheVariants as space
-use Rattle.so_scene_json.specs.declared.values.Trouble.{Trouble}
-use Rattle.so_scene_json.specs.declared.values.Trouble.TheVariants.{WrongShape, OutOfRange}
-use Rattle.so_scene_json.specs.Values.{name_in, name_of, string_in, id_in, group_in, disp_kind_in, fifo_of, quote_of, integer_of, natural_up_to, from_low, number_of, checked, flag_of, read_or, ◌then◌, ◌else◌}
-use Rattle.so_scene_json.specs.Visits.{Visit, enters, tries, leaves, Place, run, ◌>>=◌, narrow, listed, list_of}
-use Rattle.so_scene_json.specs.Shape.{shape_step}
-use Rattle.so_scene_json.specs.Scope.{ids_of, state_items, row_items, filter_items, scope_of, state_number}
-use Rattle.so_scene_json.specs.Numbers.{HasNumbers, HaveNumbers}
-use Rattle.so_scene_json.specs.Twice.{is_signal, twice_step, disp_number, kinds_in, no_names, names_in, with_name, entering, declared_name, with_mbox_read, with_mboxes, with_field}
-use Rattle.so_scene_json.specs.Known.{known_step, knows, kind_at}
-use Rattle.so_scene_json.specs.Groups.{names_for, names_at, with_group, group_number, group_lists}
-use Rattle.so_scene_json.specs.Defs.{var_at, vars_of, message_of, disp_of, disp_in, coop_of, slots_in, threads_in, quote_at, quotes_in, state_named, state_in, state_of, states_of, row_of, rows_of, mbox_in, handler_kind, kind_of, number_named, narrow_or_zero, filter_of, filters_of, field_in}
-use Rattle.so_scene_json.specs.Build.{build_step, no_parts, agent_added, with_message, with_scene, with_disp, with_coop, last_coop, is_long, is_misplaced, unless_broken, with_tree, with_code, with_agent, agent_with, agent_of, agent_written, fresh, written}
-use Rattle.so_scene_json.specs.Scene.{fields, no_state, exceeds, parts_of}
-use Rattle.so_scene_json.specs.Kept.{IsBuiltCoop, IsBuiltRow, IsBuiltFilter, IsBuiltAgent, AreCounted, AreBuiltGroups, disp_kind, agent_group, is_on, uses_on, texts_of, named_among, IsBuilt, IsChecked}
-use Rattle.so_scene_json.proofs.Grouped.{AreNames, NamedIfGiven, few_more, names_more, number_below, numbered_more, group_names_more, no_group_names, no_group_uses}
-use Rattle.so_scene_json.proofs.Codes.{HasFewIds, Grows, IsWritten, allows, names_grow, state_below, one_number, handled, is_short, agent_is_written, agent_grows, agent_numbers, agent_scope, agent_texts, OnOk, read_fine, then_fine, natural_fine}
-use Rattle.so_scene_json.proofs.Ends.{all_of, length_map, length_listed}
-use Rattle.so_scene_json.proofs.Marked.{agent_safe}
-use Rattle.so_scene_json.proofs.Uses.{texts-push, all_texts, all_uses}
-use Rattle.so_scene_json.proofs.Numbers.{get_numbers, item_numbers, list_numbers, number_read, visits_numbers}
-use Rattle.so_scene_json.proofs.Said.{AreMessages, AreSaid, message_signal, agent_said, said_short}
-use Rattle.so_scene_json.proofs.Passed.{ok, ok_same, swapped, HasState, HasRow, HasFilter, HasGroup, HasDisp, HasCoop, IsFineDisp, IsFineAgent, EntersFine, passed_all, scene_fine, total, is_message, is_dispatcher, is_coop, mboxes_in_field, mboxes_named, few_messages, few_mboxes, few_dispatchers, few_coops}
-use Rattle.so_scene_json.proofs.Counted.{length_more, names_same, each_counted, member_at, member_there, none_counted, coop_counted, agent_counted}
+use Rattle.so_scene_build.specs.declared.build.Build.{Build}
+use Rattle.so_scene_build.specs.declared.groups.Group.{Group}
+use Rattle.so_scene_passes.specs.declared.declare.Declared.{Declared}
+use Rattle.so_scene_passes.specs.declared.known.Known.{Known}
+use Rattle.so_scene_passes.specs.declared.scope.Scope.{Scope}
+use Rattle.so_scene_passes.specs.declared.shape.Shape.{Shape}
+use Rattle.so_scene_fields.specs.declared.table.Form.{Form}
+use Rattle.so_scene_fields.specs.declared.table.Form.TheVariants as form
+use Rattle.so_scene_fields.specs.declared.table.ObjectKind.TheVariants as object
+use Rattle.so_scene_fields.specs.declared.table.Space.TheVariants as space
+use Rattle.so_scene_fields.specs.declared.values.Trouble.{Trouble}
+use Rattle.so_scene_fields.specs.declared.values.Trouble.TheVariants.{WrongShape, OutOfRange}
+use Rattle.so_scene_fields.specs.Values.{name_in, name_of, string_in, id_in, group_in, disp_kind_in, fifo_of, quote_of, integer_of, natural_up_to, from_low, number_of, checked, flag_of, read_or, ◌then◌, ◌else◌}
+use Rattle.so_scene_fields.specs.Visits.{Visit, enters, tries, leaves, Place, run, ◌>>=◌, narrow, listed, list_of}
+use Rattle.so_scene_passes.specs.Shape.{shape_step}
+use Rattle.so_scene_passes.specs.Scope.{ids_of, state_items, row_items, filter_items, scope_of, state_number}
+use Rattle.so_scene_fields.specs.Numbers.{HasNumbers, HaveNumbers}
+use Rattle.so_scene_passes.specs.Twice.{is_signal, twice_step, disp_number, kinds_in, no_names, names_in, with_name, entering, declared_name, with_mbox_read, with_mboxes, with_field}
+use Rattle.so_scene_passes.specs.Known.{known_step, knows, kind_at}
+use Rattle.so_scene_build.specs.Groups.{names_for, with_group, group_number}
+use Rattle.so_scene_build.specs.Defs.{var_at, vars_of, message_of, disp_of, disp_in, coop_of, slots_in, threads_in, quote_at, quotes_in, state_named, state_in, state_of, states_of, row_of, rows_of, mbox_in, handler_kind, kind_of, number_named, narrow_or_zero, filter_of, filters_of, field_in}
+use Rattle.so_scene_build.specs.Build.{build_step, no_parts, agent_added, with_message, with_scene, with_disp, with_coop, last_coop, is_long, is_misplaced, unless_broken, with_tree, with_code, with_agent, agent_with, agent_of, agent_written, fresh, written}
+use Rattle.so_scene_fields.specs.Visits.{fields}
+use Rattle.so_scene_json.specs.Scene.{no_state}
+use Rattle.so_scene_build.specs.Kept.{IsBuiltCoop, IsBuiltRow, IsBuiltFilter, IsBuiltAgent, AreCounted, disp_kind, uses_on, texts_of, named_among, IsBuilt}
+use Rattle.so_scene_build.proofs.Grouped.{AreNames, NamedIfGiven, few_more, names_more, number_below, numbered_more, group_names_more, no_group_names, no_group_uses}
+use Rattle.so_scene_build.proofs.Codes.{HasFewIds, Grows, IsWritten, allows, names_grow, state_below, one_number, handled, is_short, agent_is_written, agent_grows, agent_numbers, agent_scope, agent_texts, OnOk, read_fine, then_fine, natural_fine}
+use Rattle.so_scene_fields.proofs.Ends.{all_of, length_map, length_listed}
+use Rattle.so_scene_build.proofs.Marked.{agent_safe}
+use Rattle.so_scene_build.proofs.Uses.{texts-push}
+use Rattle.so_scene_fields.proofs.Numbers.{get_numbers, item_numbers, list_numbers, number_read, visits_numbers}
+use Rattle.so_scene_build.proofs.Said.{AreMessages, AreSaid, message_signal, agent_said, said_short}
+use Rattle.so_scene_passes.proofs.Passed.{ok, ok_same, swapped, HasState, HasRow, HasFilter, HasGroup, HasDisp, HasCoop, IsFineDisp, IsFineAgent, EntersFine, passed_all, scene_fine, total, is_message, is_dispatcher, is_coop, mboxes_in_field, mboxes_named, few_messages, few_mboxes, few_dispatchers, few_coops}
+use Rattle.so_scene_build.proofs.Counted.{length_more, names_same, each_counted, none_counted, coop_counted, agent_counted}
 
 -- ---- what each step keeps, the whole run keeps
 
@@ -107,21 +105,13 @@ run_both step other K h s u t w (v ∷ vs) k e d = bind_both K (step s v) (other
 
 -- ---- names are declared once
 
-and_yes : (a b : Bool) → (a && b) ≡ true → (a ≡ true) × (b ≡ true)
-and_yes true b e = (refl, e)
-and_yes false b e = absurd (true≢false (sym e))
-
-or_no : (a b : Bool) → (a || b) ≡ false → (a ≡ false) × (b ≡ false)
-or_no true b e = absurd (true≢false e)
-or_no false b e = (refl, e)
-
 if_ok : {S : Type 0} (b : Bool) (x : SceneFault) (s t : S) → (if b then Err x else ok s) ≡ Ok t → (b ≡ false) × (s ≡ t)
 if_ok true x s t e = absurd cc
 if_ok false x s t e = (refl, ok_same s t e)
 
 none_is : (name : List ℕ) (ys : List (List ℕ)) → list_any (bytes_eq name) ys ≡ false → AllByRecursion (λ y. bytes_eq name y ≡ false) ys
 none_is name [] e = tt
-none_is name (y ∷ ys) e = let p = or_no (bytes_eq name y) (list_any (bytes_eq name) ys) e in (p.0, none_is name ys p.1)
+none_is name (y ∷ ys) e = let p = or_parts (bytes_eq name y) (list_any (bytes_eq name) ys) e in (p.0, none_is name ys p.1)
 
 insert_each : {X : Type 0} (P : X → Type 0) (xs ys : List X) (x : X) → AllByRecursion P (xs ++ ys) → P x → AllByRecursion P ((xs ++ x ∷ []) ++ ys)
 insert_each P [] ys x a p = (p, a)
@@ -132,7 +122,7 @@ insert_distinct : (xs ys : List (List ℕ)) (name : List ℕ) → IsDistinct byt
 unfolding IsDistinct
 insert_distinct [] ys name d e = (none_is name ys e, d)
 insert_distinct (x ∷ xs) ys name d e =
-    let p = or_no (bytes_eq name x) (list_any (bytes_eq name) (xs ++ ys)) e in (
+    let p = or_parts (bytes_eq name x) (list_any (bytes_eq name) (xs ++ ys)) e in (
       insert_each (λ y. bytes_eq x y ≡ false) xs ys name d.0 (swapped x name (bytes_eq x name) refl p.0),
       insert_distinct xs ys name d.1 p.1,
     )
@@ -286,7 +276,7 @@ tree_ok place s t d (Some x) short housed f e = absurd cc
 placed_ok : (place : Place) (s t : Build) (d : Data) (b : Bool) → is_misplaced s d ≡ b → (if b then Err (fault.OutOfRange place) else with_tree place s d) ≡ Ok t → IsAdded d s t
 unfolding tree_in
 placed_ok place s t d true l e = absurd cc
-placed_ok place s t d false l e = let p = or_no (is_long d) (is_empty s.coops) l in tree_ok place s t d (tree_fault (tree_in d)) p.0 p.1 refl e
+placed_ok place s t d false l e = let p = or_parts (is_long d) (is_empty s.coops) l in tree_ok place s t d (tree_fault (tree_in d)) p.0 p.1 refl e
 
 agent_ok : (place : Place) (s t : Build) (d : Data) → with_agent place s d ≡ Ok t → IsAdded d s t
 agent_ok place s t d e = placed_ok place s t d (is_misplaced s d) refl e
@@ -371,7 +361,6 @@ names_step s u b c (enters object.Row place d) k e f =
 names_step s u b c (enters object.Filter place d) k e f =
     let q = filter_names place (id_in d) s u e in
     subst (λ y. HaveNames u y) (ok_same b c f) (have_same s u b (agents_same s u q) k)
-names_step s u b c (enters other place d) k e f = subst (λ y. HaveNames u y) (ok_same b c f) (subst (λ x. HaveNames x b) (ok_same s u e) k)
 names_step s u b c (tries rule place d found) k e f =
     let q = field_agents rule.form found s in
     subst (λ y. HaveNames u y) (ok_same b c f) (subst (λ x. HaveNames x b) (ok_same (with_field rule.form found s) u e) (have_same s (with_field rule.form found s) b q k))
@@ -1096,147 +1085,3 @@ is_built d shape names known s numbers e f g h =
     } in
     let kept : AreKept names s.messages s = run_keeps build_step (EntersFine names) (AreKept names s.messages) (kept_step names s.messages messages disps) (no_parts names) s (fields d) fine (nothing_kept names s.messages) build in
     built_from names s kept named have distinct housed disps few (omega (arith, mboxes, few_mboxes names d passed.1)) (omega (arith, coops, few_coops names d passed.1))
-
--- ---- the scene of the parts
-
-kind_there : (ds : List DispDef) (n : ℕ) → slice_index_or (map disp_kind ds) n OneThread ≡ (slice_index_or ds n default_disp).kind
-kind_there [] zero = refl
-kind_there [] (suc n) = refl
-kind_there (d ∷ ds) zero = refl
-kind_there (d ∷ ds) (suc n) = kind_there ds n
-
-groups_there : (b : Build) (d : DispId) → d.0 < length b.dispatchers → scene_groups (parts_of b) d ≡ names_for d b.groups
-groups_there b d l = get_or-each_below (names_at b.groups) (length b.dispatchers) d.0 [] l
-
-is_agent : (b : Build) (a : AgentDef) → a.coop.0 < length b.coops → IsBuiltAgent (length b.agents + length b.names.mboxes) b.messages (length b.texts) (length b.coops) (map disp_kind b.dispatchers) b.groups a → IsAgent (parts_of b) a
-is_agent b a there h =
-    let on : a.disp.0 < length b.dispatchers = omega (arith, h.disp, length_map disp_kind b.dispatchers) in
-    record {
-      named = h.named;
-      coop = there;
-      disp = on;
-      group = subst (λ k. IsGroup k (length (scene_groups (parts_of b) a.disp)) a.group) (kind_there b.dispatchers a.disp.0)
-          (subst (λ names. IsGroup (slice_index_or (map disp_kind b.dispatchers) a.disp.0 OneThread) (length names) a.group) (sym (groups_there b a.disp on)) h.group);
-      vars = h.vars;
-      numbers = h.numbers;
-      tree = h.tree;
-      no_limits = h.no_limits;
-      state_names = h.state_names;
-      states_named = h.states_named;
-      initial = h.initial;
-      each_state_once = h.each_state_once;
-      few_rows = h.few_rows;
-      rows = λ i d l. let row = h.rows i d l in record { mbox = row.mbox; msg = row.msg; state = row.state; kind = row.kind; safe = row.safe };
-      row_ids = h.row_ids;
-      rows_named = h.rows_named;
-      each_row_id_once = h.each_row_id_once;
-      few_filters = h.few_filters;
-      filters = λ i d l. let filter = h.filters i d l in record { mbox = filter.mbox; msg = filter.msg; field = filter.field; value = filter.value };
-      filters_named = h.filters_named;
-      each_filter_id_once = h.each_filter_id_once;
-      code = h.code;
-      bodies = h.bodies;
-      parts = h.parts;
-      written = h.written;
-      short = h.short;
-      safe = h.safe;
-    }
-
--- ---- agents by number and agents in a list
-
--- ---- groups, lanes and cooperations
-
-are_groups : (b : Build) (d : DispId) → d.0 < length b.dispatchers → AreBuiltGroups b d → AreGroups (parts_of b) d
-are_groups b d l h =
-    let same : scene_groups (parts_of b) d ≡ names_for d b.groups = groups_there b d l in
-    record {
-      named = subst (All (λ name. is_name name ≡ true)) (sym same) h.named;
-      each_once = subst (IsDistinct bytes_eq) (sym same) h.each_once;
-      numbered = ap (given_after 0) (all_uses (parts_of b) d) ∙ (h.numbered ∙ ap (λ names. Some (length names)) (sym same));
-    }
-
-few_uses : (d : DispId) (agents : List AgentDef) → length (uses_on d agents) ≤ length agents
-few_uses d agents = omega (arith, filter_map-short agent_group (filter (is_on d) agents), filter-short (is_on d) agents)
-
-few_groups : (b : Build) (d : DispId) → d.0 < length b.dispatchers → length b.agents ≤ 4096 → AreBuiltGroups b d → length (scene_groups (parts_of b) d) ≤ 4096
-few_groups b d l few h =
-    omega (arith, ap length (groups_there b d l), given-few 0 (length (names_for d b.groups)) (uses_on d b.agents) h.numbered, few_uses d b.agents, few)
-
-is_bound : (b : Build) → IsBuilt b → length b.agents ≤ 4096 → AreBound (parts_of b)
-is_bound b built few = record {
-  few = few;
-  few_dispatchers = built.few_dispatchers;
-  groups = length-each_below (names_at b.groups) (length b.dispatchers);
-  few_groups = λ d l. few_groups b d l few (built.groups few d);
-  agents = λ a l. omega (arith, (built.agents a.0 no_agent l).disp, length_map disp_kind b.dispatchers);
-}
-
-scene_of_parts : (b : Build) → IsBuilt b → IsDistinct bytes_eq b.texts → exceeds (parts_of b) ≡ false → IsScene (parts_of b)
-scene_of_parts b built distinct few =
-    let first = or_no (nat_lt 4096 (length b.agents)) (nat_lt 4096 (length b.texts) || nat_lt 256 (lanes (parts_of b))) few in
-    let second = or_no (nat_lt 4096 (length b.texts)) (nat_lt 256 (lanes (parts_of b))) first.1 in
-    let agents : length b.agents ≤ 4096 = ltb-false 4096 (length b.agents) first.0 in
-    let texts : length b.texts ≤ 4096 = ltb-false 4096 (length b.texts) second.0 in
-    let counted : AreCounted b.coops b.agents = built.counted agents in
-    record {
-      few_messages = built.few_messages;
-      messages_named = built.messages_named;
-      message_names = built.message_names;
-      few_mboxes = built.few_mboxes;
-      mboxes_named = built.mboxes;
-      default = built.default;
-      few_dispatchers = built.few_dispatchers;
-      dispatchers = built.dispatchers;
-      dispatcher_names = built.dispatcher_names;
-      all_groups = length-each_below (names_at b.groups) (length b.dispatchers);
-      groups = λ d l. are_groups b d l (built.groups agents d);
-      few_lanes = ltb-false 256 (lanes (parts_of b)) second.1;
-      few_coops = built.few_coops;
-      coops = λ i d l. let coop = built.coops i d l in record { named = coop.named; parent = coop.parent };
-      coop_names = built.coop_names;
-      consecutive = counted.consecutive;
-      members = λ a l. member_at b.coops 0 a.0 b.agents a.0 no_agent (omega arith) l counted.members;
-      few_agents = agents;
-      agents = λ i d l. is_agent b (get_or b.agents i d) (member_there b.coops (get_or b.agents i d).coop.0 (agent_number i) (member_at b.coops 0 i b.agents i d (omega arith) l counted.members)) (built.agents i d l);
-      names = built.names;
-      few_texts = texts;
-      texts = built.texts;
-      texts_numbered = ap (given_after 0) (all_texts (parts_of b)) ∙ built.texts_numbered texts;
-      each_text_once = distinct;
-    }
-
-checked_parts : (b : Build) → IsBuilt b → IsDistinct bytes_eq b.texts → IsChecked (parts_of b)
-checked_parts b built distinct = record {
-  bound = λ few. is_bound b built few;
-  scene = λ few. scene_of_parts b built distinct few;
-}
-
--- the parts as they are put together
-abbrev pub made_of : Build → List (List ℕ) → List (List (List ℕ)) → List (List ℕ) → SceneParts
-made_of b mboxes groups texts = record { messages = b.messages; mboxes = mboxes; dispatchers = b.dispatchers; groups = groups; coops = b.coops; agents = b.agents; texts = texts; autoshutdown = b.autoshutdown }
-
-pub is_parts : (b : Build) (mboxes texts : List (List ℕ)) (groups : List (List (List ℕ)))
-    → b.names.mboxes ≡ mboxes → b.texts ≡ texts → group_lists b.groups (length b.dispatchers) ≡ groups → parts_of b ≡ made_of b mboxes groups texts
-is_parts b mboxes texts groups e f g =
-    ap (λ x. made_of b x (group_lists b.groups (length b.dispatchers)) b.texts) e
-    ∙ (ap (λ x. made_of b mboxes (group_lists b.groups (length b.dispatchers)) x) f
-    ∙ ap (λ x. made_of b mboxes x texts) g)
-
-pub is_checked : (b : Build) (s : SceneParts) → IsBuilt b → IsDistinct bytes_eq b.texts → parts_of b ≡ s → IsChecked s
-is_checked b s built distinct same = subst IsChecked same (checked_parts b built distinct)
-
--- ---- the totals
-
-pub first_or : (a b : Bool) → a ≡ true → (a || b) ≡ true
-first_or true b e = refl
-first_or false b e = absurd (true≢false (sym e))
-
-pub second_or : (a b c : Bool) → a ≡ false → b ≡ true → (a || (b || c)) ≡ true
-second_or true b c e f = refl
-second_or false true c e f = refl
-second_or false false c e f = absurd (true≢false (sym f))
-
-pub third_or : (a b c : Bool) → a ≡ false → b ≡ false → (a || (b || c)) ≡ c
-third_or true b c e f = absurd (true≢false e)
-third_or false true c e f = absurd (true≢false f)
-third_or false false c e f = refl

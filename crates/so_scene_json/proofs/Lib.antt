@@ -1,14 +1,3 @@
 pub mod Built
-pub mod Codes
-pub mod Counted
-pub mod Ends
-pub mod Grouped
-pub mod Joined
-pub mod Marked
-pub mod Numbers
-pub mod Passed
-pub mod Runs
-pub mod Said
-pub mod Shapes
-pub mod Uses
-pub mod Written
+pub mod Finished
+pub mod Reading

@@ -8,24 +8,18 @@ use Rattle.so_scene.specs.declared.fault.SceneFault.{SceneFault}
 use Rattle.so_scene.specs.declared.fault.SceneFault.TheVariants as fault
 use Rattle.so_scene.specs.declared.parts.SceneParts.{SceneParts}
 use Rattle.so_scene.specs.Lanes.{lanes}
-use Rattle.so_scene_json.specs.Groups.{group_lists}
-use Rattle.so_scene_json.specs.declared.build.Build.{Build}
-use Rattle.so_scene_json.specs.declared.shape.Shape.{Shape}
-use Rattle.so_scene_json.specs.declared.table.ObjectKind.TheVariants as object
-use Rattle.so_scene_json.specs.Visits.{Visit, visits, run, ◌>>=◌}
-use Rattle.so_scene_json.specs.Shape.{shape_step}
-use Rattle.so_scene_json.specs.Twice.{twice_step, no_names}
-use Rattle.so_scene_json.specs.Known.{known_step, knows}
-use Rattle.so_scene_json.specs.Build.{build_step, no_parts}
+use Rattle.so_scene_build.specs.Groups.{group_lists}
+use Rattle.so_scene_build.specs.declared.build.Build.{Build}
+use Rattle.so_scene_passes.specs.declared.shape.Shape.{Shape}
+use Rattle.so_scene_fields.specs.Visits.{fields, run, ◌>>=◌}
+use Rattle.so_scene_passes.specs.Shape.{shape_step}
+use Rattle.so_scene_passes.specs.Twice.{twice_step, no_names}
+use Rattle.so_scene_passes.specs.Known.{known_step, knows}
+use Rattle.so_scene_build.specs.Build.{build_step, no_parts}
 
 -- bytes that are no UTF-8 have no reading
 abbrev pub reading : List ℕ → Option Data
 reading bytes = if is_utf8 bytes then read bytes else None
-
--- the visits of a scene: objects stand in it in four levels, the scene, its cooperations,
--- their agents, and the states, filters and rows of these
-abbrev pub fields : Data → List Visit
-fields d = visits 4 object.Scene [] d
 
 -- ---- after the fourth pass
 

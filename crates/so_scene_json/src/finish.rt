@@ -3,16 +3,18 @@
 ghost use Rattle.std.specs.Prelude.{◌≡◌, ◌≤◌, map, string_bytes, length, bytes_eq, nat_lt, true, IfOk};
 ghost use Rattle.std.specs.List.{All, IsDistinct};
 ghost use Rattle.so_scene.specs.Words.{is_name, is_text};
-ghost use Rattle.so_scene_json.specs.Kept.{IsBuilt, IsChecked, AreLists, parts_with};
-ghost use Rattle.so_scene_json.specs.Groups.{group_lists};
-ghost use Rattle.so_scene_json.specs.Reads.{Reads, Returns};
+ghost use Rattle.so_scene_build.specs.Kept.{IsBuilt};
+ghost use Rattle.so_scene_json.specs.Finish.{IsChecked, AreLists, parts_with};
+ghost use Rattle.so_scene_build.specs.Groups.{group_lists};
+ghost use Rattle.so_scene_fields.specs.Reads.{Reads, Returns};
 ghost use Rattle.so_scene.specs.Lanes.{AreBound, lanes};
 ghost use Rattle.so_scene_json.specs.Scene.{exceeds, parts_of, checked, finished};
 
-use crate::build::Build;
-use crate::groups::group_lists;
 use so_ids::NoMemory;
+use so_ids::limits::{MOST_AGENTS, MOST_LANES, MOST_TEXTS};
 use so_scene::{Items, Name, Names, Scene, SceneFault, SceneParts, ScenePlace, SceneRefusal, Text};
+use so_scene_build::build::Build;
+use so_scene_build::groups::group_lists;
 use std::alloc::Global;
 
 fn text_list(alloc: Global, names: &[String]) -> Result<Items<Text>, SceneRefusal>
@@ -22,10 +24,7 @@ fn text_list(alloc: Global, names: &[String]) -> Result<Items<Text>, SceneRefusa
     let mut texts = Items::new(alloc);
     for name in names {
         match Text::of(name.as_str()) {
-            Some(text) => match texts.push(text) {
-                Ok(()) => {}
-                Err(_) => return Err(SceneRefusal::NoMemory),
-            },
+            Some(text) => texts.push(text)?,
             None => unreachable!(),
         }
     }
@@ -48,10 +47,7 @@ fn mbox_list(alloc: Global, names: &[String]) -> Result<Items<Name>, SceneRefusa
     let mut mboxes = Items::new(alloc);
     for name in names {
         match Name::of(name.as_str()) {
-            Some(name) => match mboxes.push(name) {
-                Ok(()) => {}
-                Err(_) => return Err(SceneRefusal::NoMemory),
-            },
+            Some(name) => mboxes.push(name)?,
             None => unreachable!(),
         }
     }
@@ -150,14 +146,14 @@ fn parts_of(build: Build) -> Result<SceneParts, SceneRefusal>
 fn has_many_agents(parts: &SceneParts) -> bool
     ensures { result ≡ nat_lt 4096 (length parts.now.agents) }
 {
-    parts.agents.len() > 4096
+    parts.agents.len() > MOST_AGENTS
 }
 
 /// Tells whether there are too many texts.
 fn has_many_texts(parts: &SceneParts) -> bool
     ensures { result ≡ nat_lt 4096 (length parts.now.texts) }
 {
-    parts.texts.len() > 4096
+    parts.texts.len() > MOST_TEXTS
 }
 
 /// Tells whether there are too many lanes.
@@ -165,10 +161,8 @@ fn has_many_lanes(alloc: Global, parts: &SceneParts) -> Result<bool, SceneRefusa
     requires { AreBound parts.now }
     ensures { Returns (nat_lt 256 (lanes parts.now)) result }
 {
-    match parts.lanes(alloc) {
-        Ok(lanes) => Ok(lanes > 256),
-        Err(_) => Err(SceneRefusal::NoMemory),
-    }
+    let lanes = parts.lanes(alloc)?;
+    Ok(lanes > MOST_LANES as usize)
 }
 
 /// Tells whether there are too many agents, texts or lanes.
@@ -192,10 +186,7 @@ fn checked(alloc: Global, parts: SceneParts) -> Result<Scene, SceneRefusal>
     if exceeds(alloc, &parts)? {
         return Err(SceneRefusal::Fault(SceneFault::OutOfRange(ScenePlace::root())));
     }
-    match Scene::new(alloc, parts) {
-        Ok(scene) => Ok(scene),
-        Err(_) => Err(SceneRefusal::NoMemory),
-    }
+    Ok(Scene::new(alloc, parts)?)
 }
 
 /// The scene of the parts, or what is wrong with them as a whole.

@@ -2,24 +2,25 @@
 
 ghost use Rattle.std.specs.Prelude.{◌≡◌, Some, None, IfOk};
 ghost use Rattle.serde_json.specs.View.{view};
-ghost use Rattle.so_scene_json.specs.Scene.{scene_of, reading, of_data, passes, finished, fields, no_state};
-ghost use Rattle.so_scene_json.specs.Numbers.{HasNumbers};
-ghost use Rattle.so_scene_json.specs.Visits.{run};
-ghost use Rattle.so_scene_json.specs.Shape.{shape_step};
-ghost use Rattle.so_scene_json.specs.Twice.{twice_step, no_names};
-ghost use Rattle.so_scene_json.specs.Known.{known_step, knows};
-ghost use Rattle.so_scene_json.specs.Build.{build_step, no_parts};
-ghost use Rattle.so_scene_json.specs.Reads.{Reads, ReadsValue};
+ghost use Rattle.so_scene_json.specs.Scene.{scene_of, reading, of_data, passes, finished, no_state};
+ghost use Rattle.so_scene_fields.specs.Visits.{fields};
+ghost use Rattle.so_scene_fields.specs.Numbers.{HasNumbers};
+ghost use Rattle.so_scene_fields.specs.Visits.{run};
+ghost use Rattle.so_scene_passes.specs.Shape.{shape_step};
+ghost use Rattle.so_scene_passes.specs.Twice.{twice_step, no_names};
+ghost use Rattle.so_scene_passes.specs.Known.{known_step, knows};
+ghost use Rattle.so_scene_build.specs.Build.{build_step, no_parts};
+ghost use Rattle.so_scene_fields.specs.Reads.{Reads, ReadsValue};
 
-use crate::build::Build;
-use crate::declare::Declared;
 use crate::finish::finish;
-use crate::known::Known;
-use crate::shape::Shape;
-use crate::table::ObjectKind;
-use crate::walk::object;
 use serde_json::Value;
 use so_scene::{Scene, SceneFault, ScenePlace, SceneRefusal};
+use so_scene_build::build::Build;
+use so_scene_fields::table::ObjectKind;
+use so_scene_fields::walk::object;
+use so_scene_passes::declare::Declared;
+use so_scene_passes::known::Known;
+use so_scene_passes::shape::Shape;
 use std::alloc::Global;
 
 /// The value of the bytes, whose numbers have 64 bits.

@@ -29,28 +29,28 @@ use Rattle.so_scene.specs.Names.{number_in}
 use Rattle.so_scene.specs.declared.parts.DispKind.TheVariants.{OneThread}
 use Rattle.so_scene.specs.Parts.{message_of, message_name, agent_name, coop_name, disp_name, mbox_names, mboxes, mbox_name, no_coop, no_message, text_of}
 use Rattle.so_scene.specs.Words.{is_name, is_text}
-use Rattle.so_scene_json.specs.declared.act_table.Allowed.{Allowed}
-use Rattle.so_scene_json.specs.declared.act_table.Allowed.TheVariants.{AnyAct, NoSwitch, Safe}
-use Rattle.so_scene_json.specs.declared.act_table.Arg.{Arg}
-use Rattle.so_scene_json.specs.declared.act_table.Arg.TheVariants as arg
-use Rattle.so_scene_json.specs.declared.act_table.Word.{Word}
-use Rattle.so_scene_json.specs.declared.act_table.Word.TheVariants as word
-use Rattle.so_scene_json.specs.declared.declare.Declared.{Declared}
-use Rattle.so_scene_json.specs.declared.known.Known.{Known}
-use Rattle.so_scene_json.specs.declared.scope.Scope.{Scope}
-use Rattle.so_scene_json.specs.declared.table.Space.TheVariants as space
-use Rattle.so_scene_json.specs.declared.values.Trouble.{Trouble}
-use Rattle.so_scene_json.specs.declared.write.Writer.{Writer}
-use Rattle.so_scene_json.specs.ActTable.{is_allowed, is_safe_act, is_to_temporary, args_of, needed_of, four_operands}
-use Rattle.so_scene_json.specs.Acts.{act_trouble, args_trouble, parts_trouble}
-use Rattle.so_scene_json.specs.Kept.{disp_kind}
-use Rattle.so_scene_json.specs.Known.{act_unknown, absent_from, has_signal, signal_trouble}
-use Rattle.so_scene_json.specs.Scope.{state_number, number_with}
-use Rattle.so_scene_json.specs.Twice.{names_in}
-use Rattle.so_scene_json.specs.Values.{name_of, ok_or, text_of as text_read}
-use Rattle.so_scene_json.specs.Visits.{narrow}
-use Rattle.so_scene_json.proofs.Codes.{switches, restrains}
-use Rattle.so_scene_json.specs.Writer.{act_written, with_instr, or_idle, state_id}
+use Rattle.so_scene_fields.specs.declared.act_table.Allowed.{Allowed}
+use Rattle.so_scene_fields.specs.declared.act_table.Allowed.TheVariants.{AnyAct, NoSwitch, Safe}
+use Rattle.so_scene_fields.specs.declared.act_table.Arg.{Arg}
+use Rattle.so_scene_fields.specs.declared.act_table.Arg.TheVariants as arg
+use Rattle.so_scene_fields.specs.declared.act_table.Word.{Word}
+use Rattle.so_scene_fields.specs.declared.act_table.Word.TheVariants as word
+use Rattle.so_scene_passes.specs.declared.declare.Declared.{Declared}
+use Rattle.so_scene_passes.specs.declared.known.Known.{Known}
+use Rattle.so_scene_passes.specs.declared.scope.Scope.{Scope}
+use Rattle.so_scene_fields.specs.declared.table.Space.TheVariants as space
+use Rattle.so_scene_fields.specs.declared.values.Trouble.{Trouble}
+use Rattle.so_scene_build.specs.declared.code_writer.CodeWriter.{CodeWriter}
+use Rattle.so_scene_fields.specs.ActTable.{is_allowed, is_safe_act, is_to_temporary, args_of, needed_of, four_operands}
+use Rattle.so_scene_fields.specs.Acts.{act_trouble, args_trouble, parts_trouble}
+use Rattle.so_scene_build.specs.Kept.{disp_kind}
+use Rattle.so_scene_passes.specs.Known.{act_unknown, absent_from, has_signal, signal_trouble}
+use Rattle.so_scene_passes.specs.Scope.{state_number, number_with}
+use Rattle.so_scene_passes.specs.Twice.{names_in}
+use Rattle.so_scene_fields.specs.Values.{name_of, ok_or, text_of as text_read}
+use Rattle.so_scene_fields.specs.Visits.{narrow}
+use Rattle.so_scene_build.proofs.Codes.{switches, restrains}
+use Rattle.so_scene_build.specs.CodeWriter.{act_written, with_instr, or_idle, state_id}
 use Rattle.so_scene_writer.specs.ActData.{text_data, message_text, coop_text, state_text, id_text, act_data, act_of, act_one, args_data, operand_data, dest_data, cmp_data, count_data}
 use Rattle.so_scene.specs.Written.{AreOperands, ArePadded, may_be_safe, to_temporary}
 use Rattle.so_scene_writer.proofs.Writable.{IsName, IsText, IsStateName, IsWritable, IsWritableAgent, IsWrittenInstr, next_text, IsNumbered}
@@ -341,11 +341,11 @@ act_known s a names allowed rest (instr.End x1) c n t = absurd (true≢false (sy
 
 -- ---- the instruction that is read
 
-abbrev writer : List (List ℕ) → List Instr → Scope → Writer
+abbrev writer : List (List ℕ) → List Instr → Scope → CodeWriter
 writer texts code scope = record { texts = texts; code = code; scope = scope }
 
 -- a writer of this agent with so many texts
-abbrev pub at : SceneParts → AgentDef → ℕ → List Instr → Writer
+abbrev pub at : SceneParts → AgentDef → ℕ → List Instr → CodeWriter
 at s a n code = record { texts = take n s.texts; code = code; scope = scope_for a }
 
 pub taken_len : {X : Type 0} (xs : List X) (n : ℕ) → n ≤ length xs → length (take n xs) ≡ n
@@ -416,13 +416,13 @@ log_at s a names allowed rest n code text args false c l m k h g e =
     let other : (text.0 ≡ n) → ⊥ = λ q. true≢false (sym (eq-eqb text.0 n q) ∙ e) in
     log_old s a names allowed rest n code text args c (less text.0 n m other) k h g
 
-send_at_again : (names : Declared) (allowed : Allowed) (rest : ℕ) (w : Writer) (x y : List ℕ) (i j : ℕ) (args : Args) → is_utf8 x ≡ true → is_utf8 y ≡ true → number_in (names_in space.Mboxes names) x ≡ Some i → number_in names.messages y ≡ Some j
+send_at_again : (names : Declared) (allowed : Allowed) (rest : ℕ) (w : CodeWriter) (x y : List ℕ) (i j : ℕ) (args : Args) → is_utf8 x ≡ true → is_utf8 y ≡ true → number_in (names_in space.Mboxes names) x ≡ Some i → number_in names.messages y ≡ Some j
     → i < 2 ^ 32 → j < 2 ^ 32 → AreArgs args → AreOperands args
     → act_written names allowed rest w (act_of (codes "send") (item (text_data x) (item (text_data y) (args_data args)))) ≡ with_instr (instr.Send (Mbox (record { 0 = i })) (record { 0 = j }) args) w
 send_at_again names allowed rest w x y i j args e f p q k l h g =
     rw (may allowed word.Send (item (text_data x) (item (text_data y) (args_data args))) refl (λ r. refl), e, f, p, q, narrow_small i k, narrow_small j l) (ap (λ (z : Args). with_instr (instr.Send (Mbox (record { 0 = i })) (record { 0 = j }) z) w) (args_two (string x) (string y) args h g))
 
-switch_with : (o : Option ℕ) (w : Writer) (to : StateId) → o ≡ Some to.0 → narrow to.0 ≡ to.0 → with_instr (or_idle instr.Switch (option_map state_id o)) w ≡ with_instr (instr.Switch to) w
+switch_with : (o : Option ℕ) (w : CodeWriter) (to : StateId) → o ≡ Some to.0 → narrow to.0 ≡ to.0 → with_instr (or_idle instr.Switch (option_map state_id o)) w ≡ with_instr (instr.Switch to) w
 switch_with o w to e f = rw (e, f)
 
 pub act_again : (s : SceneParts) (a : AgentDef) (names : Declared) (allowed : Allowed) (rest : ℕ) (n : ℕ) (code : List Instr) (i : Instr) → Told s a → Stands s names → IsTold s a allowed rest i → rest < 2 ^ 32 → IsNumbered n i → n ≤ length s.texts

@@ -32,30 +32,30 @@ use Rattle.so_scene.specs.Checked.{given, filter_id, filter_ids, IsGroup, IsScen
 use Rattle.so_scene.specs.Names.{number_in}
 use Rattle.so_scene.specs.Parts.{disp_of as scene_disp, groups_of}
 use Rattle.so_scene.specs.Words.{is_name}
-use Rattle.so_scene_json.specs.declared.act_table.Allowed.TheVariants.{AnyAct}
-use Rattle.so_scene_json.specs.declared.build.Build.{Build}
-use Rattle.so_scene_json.specs.declared.declare.Declared.{Declared}
-use Rattle.so_scene_json.specs.declared.groups.Group.{Group}
-use Rattle.so_scene_json.specs.declared.known.Known.{Known}
-use Rattle.so_scene_json.specs.declared.scope.Scope.{Scope}
-use Rattle.so_scene_json.specs.declared.shape.Shape.{Shape}
-use Rattle.so_scene_json.specs.declared.table.Form.TheVariants as form
-use Rattle.so_scene_json.specs.declared.table.ObjectKind.{ObjectKind}
-use Rattle.so_scene_json.specs.declared.table.ObjectKind.TheVariants as object
-use Rattle.so_scene_json.specs.declared.table.Rule.{Rule}
-use Rattle.so_scene_json.specs.declared.table.Space.TheVariants as space
-use Rattle.so_scene_json.specs.declared.values.Trouble.{Trouble}
-use Rattle.so_scene_json.specs.declared.write.Writer.{Writer}
-use Rattle.so_scene_json.specs.Table.{required, optional, later}
-use Rattle.so_scene_json.specs.Build.{build_step, agent_added, agent_written, agent_with, with_agent, with_code, tree_of, is_long, last_coop, one_more, written, fresh}
-use Rattle.so_scene_json.specs.Defs.{disp_in, level_in, priority_in, narrow_or_zero, state_of, row_of, filter_of, states_of as states_read, rows_of as rows_read, filters_of as filters_read, vars_in, var_at}
-use Rattle.so_scene_json.specs.Groups.{with_group, group_number}
-use Rattle.so_scene_json.specs.Known.{known_step, group_fault, group_unfit, kind_at}
-use Rattle.so_scene_json.specs.Scope.{scope_of, names_of, ids_of, state_items, row_items, filter_items}
-use Rattle.so_scene_json.specs.Shape.{shape_step, has_unknown, is_known, list_trouble, number_trouble, object_trouble, trouble_at, unless_faulty}
-use Rattle.so_scene_json.specs.Twice.{twice_step, disp_number, disp_number_in, names_in}
-use Rattle.so_scene_json.specs.Values.{name_in, number_of, id_in, group_in, ok_or, read_or, checked, text_or_empty}
-use Rattle.so_scene_json.specs.Visits.{Visit, enters, tries, leaves, list_of, narrow, at_key, Place, visits, fields_of, field_visits, items_from, run, at_item, ◌>>=◌}
+use Rattle.so_scene_fields.specs.declared.act_table.Allowed.TheVariants.{AnyAct}
+use Rattle.so_scene_build.specs.declared.build.Build.{Build}
+use Rattle.so_scene_passes.specs.declared.declare.Declared.{Declared}
+use Rattle.so_scene_build.specs.declared.groups.Group.{Group}
+use Rattle.so_scene_passes.specs.declared.known.Known.{Known}
+use Rattle.so_scene_passes.specs.declared.scope.Scope.{Scope}
+use Rattle.so_scene_passes.specs.declared.shape.Shape.{Shape}
+use Rattle.so_scene_fields.specs.declared.table.Form.TheVariants as form
+use Rattle.so_scene_fields.specs.declared.table.ObjectKind.{ObjectKind}
+use Rattle.so_scene_fields.specs.declared.table.ObjectKind.TheVariants as object
+use Rattle.so_scene_fields.specs.declared.table.Rule.{Rule}
+use Rattle.so_scene_fields.specs.declared.table.Space.TheVariants as space
+use Rattle.so_scene_fields.specs.declared.values.Trouble.{Trouble}
+use Rattle.so_scene_build.specs.declared.code_writer.CodeWriter.{CodeWriter}
+use Rattle.so_scene_fields.specs.Table.{required, optional, later}
+use Rattle.so_scene_build.specs.Build.{build_step, agent_added, agent_written, agent_with, with_agent, with_code, tree_of, is_long, last_coop, one_more, written, fresh}
+use Rattle.so_scene_build.specs.Defs.{disp_in, level_in, priority_in, narrow_or_zero, state_of, row_of, filter_of, states_of as states_read, rows_of as rows_read, filters_of as filters_read, vars_in, var_at}
+use Rattle.so_scene_build.specs.Groups.{with_group, group_number}
+use Rattle.so_scene_passes.specs.Known.{known_step, group_fault, group_unfit, kind_at}
+use Rattle.so_scene_passes.specs.Scope.{scope_of, names_of, ids_of, state_items, row_items, filter_items}
+use Rattle.so_scene_passes.specs.Shape.{shape_step, has_unknown, is_known, list_trouble, number_trouble, object_trouble, trouble_at, unless_faulty}
+use Rattle.so_scene_passes.specs.Twice.{twice_step, disp_number, disp_number_in, names_in}
+use Rattle.so_scene_fields.specs.Values.{name_in, number_of, id_in, group_in, ok_or, read_or, checked, text_or_empty}
+use Rattle.so_scene_fields.specs.Visits.{Visit, enters, tries, leaves, list_of, narrow, at_key, Place, visits, fields_of, field_visits, items_from, run, at_item, ◌>>=◌}
 use Rattle.so_scene_writer.specs.Sources.{behind, StateSource, RowSource, states_of, rows_of, behind_states, start_acts, finish_acts}
 use Rattle.so_scene_writer.specs.ActData.{text_data, count_data, acts_data, disp_text, group_at, group_text}
 use Rattle.so_scene_writer.specs.Canonical.{given as given_field, agent_data, state_data, row_data, filter_data, number_data, list_data}
@@ -474,7 +474,7 @@ agent_read k s a names groups coop c st o g =
     (ap (λ (d : DispId). group_number d (group_in (agent_data s a)) groups) (disp_in_again s names a c st) ∙ (ap (λ (o : Option (List ℕ)). group_number a.disp o groups) (group_in_again s a c) ∙ g))
     (priority_read s a) (vars_found s a c) (rows_again k s a names c st) (filters_again s a names c st)
 
-abbrev fresh_at : List (List ℕ) → Scope → Writer
+abbrev fresh_at : List (List ℕ) → Scope → CodeWriter
 fresh_at texts scope = record { texts = texts; code = []; scope = scope }
 
 written_again : (s : SceneParts) (a : AgentDef) (names : Declared) (n : ℕ) → Told s a → Stands s names → AreNumbered n a.code → n ≤ length s.texts
@@ -522,7 +522,7 @@ agent_opens s names coops agents n groups a place c st m l o g =
     (ap (λ (x : Scope). tree_of place (states_read x (state_items d)) >>= λ tree. with_code place b d tree (written b d)) (scope_again s a c)
     ∙ (ap (λ (x : List State). tree_of place x >>= λ tree. with_code place b d tree (written b d)) (states_again s a c)
     ∙ (ap (λ r. r >>= λ tree. with_code place b d tree (written b d)) (tree_sound place a.tree c.agent.tree.sound)
-    ∙ (ap (λ (w : Writer). with_code place b d a.tree w) (written_again s a names n c st m l)
+    ∙ (ap (λ (w : CodeWriter). with_code place b d a.tree w) (written_again s a names n c st m l)
     ∙ rw (le-ltb 1024 (length a.code) few) (ap ok (agent_added_again s names coops agents n groups a c st o g))))))
 
 state_build : (b : Build) (n : ℕ) (d : Data) (place : Place) → run build_step b (visits (suc n) object.State place d) ≡ Ok b

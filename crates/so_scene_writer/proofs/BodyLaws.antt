@@ -23,15 +23,15 @@ use Rattle.so_state.specs.declared.states.State.{State}
 use Rattle.so_scene.specs.declared.parts.AgentDef.{AgentDef}
 use Rattle.so_scene.specs.declared.parts.SceneParts.{SceneParts}
 use Rattle.so_scene.specs.Checked.{NamesParts, has_handler, handlers, handlers_from, row_number}
-use Rattle.so_scene_json.specs.declared.declare.Declared.{Declared}
-use Rattle.so_scene_json.specs.declared.write.Writer.{Writer}
-use Rattle.so_scene_json.proofs.Codes.{switches, restrains}
-use Rattle.so_scene_json.specs.declared.act_table.Allowed.{Allowed}
-use Rattle.so_scene_json.specs.declared.act_table.Allowed.TheVariants.{AnyAct, NoSwitch, Safe}
-use Rattle.so_scene_json.specs.ActTable.{handler_acts}
-use Rattle.so_scene_json.specs.Values.{is_safe}
-use Rattle.so_scene_json.specs.Build.{body_written, state_written, states_written, row_body, handler_written, rows_written, agent_written}
-use Rattle.so_scene_json.specs.Writer.{with_instr, act_written, acts_written}
+use Rattle.so_scene_passes.specs.declared.declare.Declared.{Declared}
+use Rattle.so_scene_build.specs.declared.code_writer.CodeWriter.{CodeWriter}
+use Rattle.so_scene_build.proofs.Codes.{switches, restrains}
+use Rattle.so_scene_fields.specs.declared.act_table.Allowed.{Allowed}
+use Rattle.so_scene_fields.specs.declared.act_table.Allowed.TheVariants.{AnyAct, NoSwitch, Safe}
+use Rattle.so_scene_fields.specs.ActTable.{handler_acts}
+use Rattle.so_scene_fields.specs.Values.{is_safe}
+use Rattle.so_scene_build.specs.Build.{body_written, state_written, states_written, row_body, handler_written, rows_written, agent_written}
+use Rattle.so_scene_build.specs.CodeWriter.{with_instr, act_written, acts_written}
 use Rattle.so_scene_writer.specs.Sources.{acts_in, behind, RowSource, state_source, row_source, states_in, behind_states, behind_row, rows_in}
 use Rattle.so_scene_writer.specs.ActData.{act_data, acts_data}
 use Rattle.so_scene_writer.specs.Canonical.{state_data, row_data, do_data, agent_data}
@@ -209,7 +209,7 @@ agent_laid s a t =
 
 -- ---- what the reader has written when so much is left
 
-pub record Wrote (s : SceneParts) (a : AgentDef) (last : ℕ) (total left : List Instr) (w : Writer) : Type 0 where
+pub record Wrote (s : SceneParts) (a : AgentDef) (last : ℕ) (total left : List Instr) (w : CodeWriter) : Type 0 where
   pub done : List Instr
   pub texts : ℕ
   pub same : w ≡ at s a texts done
@@ -235,7 +235,7 @@ acts_again : (s : SceneParts) (a : AgentDef) (names : Declared) (allowed : Allow
 unfolding acts_written
 acts_again s a names allowed n done [] c st t m h l = ap (at s a n) (sym (append-nil done))
 acts_again s a names allowed n done (i ∷ acts) c st t m h l =
-    ap (λ (w : Writer). acts_written names allowed w (items_of (map (act_data s a) acts)))
+    ap (λ (w : CodeWriter). acts_written names allowed w (items_of (map (act_data s a) acts)))
     (ap (λ (r : ℕ). act_written names allowed r (at s a n done) (act_data s a i)) (shown_len (act_data s a) acts) ∙ act_again s a names allowed (length acts) n done i c st t.0 (omega arith) m.0 h)
     ∙ (acts_again s a names allowed (next_text n i) (done ++ i ∷ []) acts c st t.1 m.1 (next_few s a allowed (length acts) n i t.0 h) (omega arith)
     ∙ ap (at s a (texts_behind (next_text n i) acts)) (append_assoc done (i ∷ []) acts))
@@ -248,7 +248,7 @@ texts_front : (n : ℕ) (acts rest : List Instr) (b : Body) → texts_behind n (
 texts_front n [] rest b = refl
 texts_front n (i ∷ acts) rest b = texts_front (next_text n i) acts rest b
 
-pub body_step : (s : SceneParts) (a : AgentDef) (names : Declared) (last : ℕ) (total left : List Instr) (b : Body) (w : Writer) → Told s a → Stands s names → IsLaid s a b left → Wrote s a last total left w
+pub body_step : (s : SceneParts) (a : AgentDef) (names : Declared) (last : ℕ) (total left : List Instr) (b : Body) (w : CodeWriter) → Told s a → Stands s names → IsLaid s a b left → Wrote s a last total left w
     → Wrote s a last total (behind left) (body_written names (allowed_in a b) b w (Some (acts_data s a (acts_in left))))
 body_step s a names last total left b w c st l h =
     let numbered = numbered_front h.texts (acts_in left) (behind left) b (subst (λ (x : List Instr). AreNumbered h.texts x) l.same h.numbered) in
@@ -256,7 +256,7 @@ body_step s a names last total left b w c st l h =
     record {
       done = (h.done ++ acts_in left) ++ instr.End b ∷ [];
       texts = texts_behind h.texts (acts_in left);
-      same = ap (λ (v : Writer). body_written names (allowed_in a b) b v (Some (acts_data s a (acts_in left)))) h.same
+      same = ap (λ (v : CodeWriter). body_written names (allowed_in a b) b v (Some (acts_data s a (acts_in left)))) h.same
           ∙ ap (with_instr (instr.End b)) (acts_again s a names (allowed_in a b) h.texts h.done (acts_in left) c st l.acts numbered.0 h.few (omega arith));
       joined = append_assoc (h.done ++ acts_in left) (instr.End b ∷ []) (behind left) ∙ (append_assoc h.done (acts_in left) (instr.End b ∷ behind left) ∙ (ap (λ (x : List Instr). h.done ++ x) (sym l.same) ∙ h.joined));
       numbered = numbered.1;
@@ -267,7 +267,7 @@ body_step s a names last total left b w c st l h =
 -- ---- states
 
 -- the bodies of a state
-state_step : (s : SceneParts) (a : AgentDef) (names : Declared) (last : ℕ) (total left : List Instr) (k : ℕ) (bodies : List Body) (name : List ℕ) (state : State) (w : Writer) → Told s a → Stands s names → k < 2 ^ 32
+state_step : (s : SceneParts) (a : AgentDef) (names : Declared) (last : ℕ) (total left : List Instr) (k : ℕ) (bodies : List Body) (name : List ℕ) (state : State) (w : CodeWriter) → Told s a → Stands s names → k < 2 ^ 32
     → AreLaid s a (body.Enter (record { 0 = k }) ∷ body.Exit (record { 0 = k }) ∷ bodies) left → Wrote s a last total left w
     → Wrote s a last total (behind (behind left)) (state_written names k w (state_data s a (state_source name state left)))
 state_step s a names last total left k bodies name state w c st l h g =
@@ -275,11 +275,11 @@ state_step s a names last total left k bodies name state w c st l h g =
     (body_step s a names last total (behind left) (body.Exit (record { 0 = k })) (body_written names NoSwitch (body.Enter (record { 0 = k })) w (Some (acts_data s a (acts_in left)))) c st h.1.0
     (body_step s a names last total left (body.Enter (record { 0 = k })) w c st h.0 g))
 
-pub record WroteStates (s : SceneParts) (a : AgentDef) (last : ℕ) (total left : List Instr) (bodies : List Body) (w : Writer) : Type 0 where
+pub record WroteStates (s : SceneParts) (a : AgentDef) (last : ℕ) (total left : List Instr) (bodies : List Body) (w : CodeWriter) : Type 0 where
   pub wrote : Wrote s a last total left w
   pub laid : AreLaid s a bodies left
 
-states_step : (s : SceneParts) (a : AgentDef) (names : Declared) (last : ℕ) (total : List Instr) (k : ℕ) (ns : List (List ℕ)) (states : List State) (left : List Instr) (bodies : List Body) (w : Writer) → Told s a → Stands s names → length ns ≡ length states → k + length states < 2 ^ 32
+states_step : (s : SceneParts) (a : AgentDef) (names : Declared) (last : ℕ) (total : List Instr) (k : ℕ) (ns : List (List ℕ)) (states : List State) (left : List Instr) (bodies : List Body) (w : CodeWriter) → Told s a → Stands s names → length ns ≡ length states → k + length states < 2 ^ 32
     → AreLaid s a (state_bodies (length states) k ++ bodies) left → Wrote s a last total left w
     → WroteStates s a last total (behind_states (length states) left) bodies (states_written names k w (items_of (map (state_data s a) (states_in ns states left))))
 unfolding states_written states_in behind_states
@@ -353,12 +353,12 @@ row_allowed a i row here = ap (λ (o : Option Row). handler_of (is_safe_row o)) 
 handler_found : (s : SceneParts) (a : AgentDef) (x : RowSource) (i : ℕ) → slice_get a.rows i ≡ Some x.row → handler_acts (row_data s a x) ≡ allowed_in a (body.Row (record { 0 = i }))
 handler_found s a x i here = ap handler_of (safe_found s a x) ∙ sym (row_allowed a i x.row here)
 
-handled : (s : SceneParts) (a : AgentDef) (names : Declared) (last : ℕ) (total : List Instr) (i : ℕ) (left : List Instr) (more : List RowId) (w : Writer) → Told s a → Stands s names
+handled : (s : SceneParts) (a : AgentDef) (names : Declared) (last : ℕ) (total : List Instr) (i : ℕ) (left : List Instr) (more : List RowId) (w : CodeWriter) → Told s a → Stands s names
     → AreLaid s a (map body.Row (row_number i ∷ more)) left → Wrote s a last total left w
     → WroteStates s a last total (behind left) (map body.Row more) (body_written names (allowed_in a (body.Row (record { 0 = i }))) (body.Row (record { 0 = i })) w (Some (acts_data s a (acts_in left))))
 handled s a names last total i left more w c st h g = record { wrote = body_step s a names last total left (body.Row (record { 0 = i })) w c st h.0 g; laid = h.1 }
 
-row_step_at : (s : SceneParts) (a : AgentDef) (names : Declared) (last : ℕ) (total : List Instr) (i : ℕ) (left : List Instr) (more : List RowId) (kind : RowKind) (w : Writer) → Told s a → Stands s names → i < 2 ^ 32
+row_step_at : (s : SceneParts) (a : AgentDef) (names : Declared) (last : ℕ) (total : List Instr) (i : ℕ) (left : List Instr) (more : List RowId) (kind : RowKind) (w : CodeWriter) → Told s a → Stands s names → i < 2 ^ 32
     → AreLaid s a (map body.Row (if has_handler kind then row_number i ∷ more else more)) left → Wrote s a last total left w
     → WroteStates s a last total (if has_handler kind then behind left else left) (map body.Row more) (handler_written names (allowed_in a (body.Row (record { 0 = i }))) (row_body i) w (do_data s a (if has_handler kind then acts_in left else []) kind))
 row_step_at s a names last total i left more Run w c st l h g = rw (narrow_small i l) (handled s a names last total i left more w c st h g)
@@ -368,7 +368,7 @@ row_step_at s a names last total i left more (Transfer to) w c st l h g = record
 row_step_at s a names last total i left more Suppress w c st l h g = record { wrote = g; laid = h }
 
 -- the body of a row, if it has one
-row_step : (s : SceneParts) (a : AgentDef) (names : Declared) (last : ℕ) (total : List Instr) (i : ℕ) (left : List Instr) (more : List RowId) (id : Option (List ℕ)) (row : Row) (w : Writer) → Told s a → Stands s names → i < 2 ^ 32 → slice_get a.rows i ≡ Some row
+row_step : (s : SceneParts) (a : AgentDef) (names : Declared) (last : ℕ) (total : List Instr) (i : ℕ) (left : List Instr) (more : List RowId) (id : Option (List ℕ)) (row : Row) (w : CodeWriter) → Told s a → Stands s names → i < 2 ^ 32 → slice_get a.rows i ≡ Some row
     → AreLaid s a (map body.Row (if has_handler row.kind then row_number i ∷ more else more)) left → Wrote s a last total left w
     → WroteStates s a last total (behind_row row left) (map body.Row more) (handler_written names (handler_acts (row_data s a (row_source id row left))) (row_body i) w (get (codes "do") (row_data s a (row_source id row left))))
 row_step s a names last total i left more id row w c st l here h g =
@@ -378,7 +378,7 @@ row_step s a names last total i left more id row w c st l here h g =
     (subst (λ (o : Option Data). WroteStates s a last total (behind_row row left) (map body.Row more) (handler_written names allowed (row_body i) w o)) (sym (do_found s a x))
     (row_step_at s a names last total i left more row.kind w c st l h g))
 
-rows_step : (s : SceneParts) (a : AgentDef) (names : Declared) (last : ℕ) (total : List Instr) (i : ℕ) (ids : List (Option (List ℕ))) (rows : List Row) (left : List Instr) (w : Writer) → Told s a → Stands s names → length ids ≡ length rows → i + length rows < 2 ^ 32 → AreFrom i rows a.rows
+rows_step : (s : SceneParts) (a : AgentDef) (names : Declared) (last : ℕ) (total : List Instr) (i : ℕ) (ids : List (Option (List ℕ))) (rows : List Row) (left : List Instr) (w : CodeWriter) → Told s a → Stands s names → length ids ≡ length rows → i + length rows < 2 ^ 32 → AreFrom i rows a.rows
     → AreLaid s a (map body.Row (handlers_from i rows)) left → Wrote s a last total left w
     → Wrote s a last total [] (rows_written names i w (items_of (map (row_data s a) (rows_in ids rows left))))
 unfolding rows_written rows_in
@@ -395,7 +395,7 @@ ap2_at : (s : SceneParts) (a : AgentDef) (m n : ℕ) (x y : List Instr) → m �
 ap2_at s a m n x y e f = rw (e, f)
 
 -- the group isn't looked at
-plain_written : (s : SceneParts) (a : AgentDef) (names : Declared) (w : Writer) → agent_written names w (agent_data s a) ≡ agent_written names w (agent_plain s a)
+plain_written : (s : SceneParts) (a : AgentDef) (names : Declared) (w : CodeWriter) → agent_written names w (agent_data s a) ≡ agent_written names w (agent_plain s a)
 plain_written s a names w = rw (got s a (codes "start") (λ x y. refl), got s a (codes "finish") (λ x y. refl), got s a (codes "states") (λ x y. refl), got s a (codes "on") (λ x y. refl)) refl
 
 plain_again : (s : SceneParts) (a : AgentDef) (names : Declared) (texts : ℕ) → Told s a → Stands s names → AreNumbered texts a.code → texts ≤ length s.texts

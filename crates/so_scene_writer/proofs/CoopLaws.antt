@@ -19,26 +19,26 @@ use Rattle.so_scene.specs.Checked.{IsScene, IsCoop, IsParent, NamesParts}
 use Rattle.so_scene.specs.Names.{number_in}
 use Rattle.so_scene.specs.Parts.{agent_name, coop_name}
 use Rattle.so_scene.specs.Words.{is_name}
-use Rattle.so_scene_json.specs.declared.build.Build.{Build}
-use Rattle.so_scene_json.specs.declared.declare.Declared.{Declared}
-use Rattle.so_scene_json.specs.declared.groups.Group.{Group}
-use Rattle.so_scene_json.specs.declared.known.Known.{Known}
-use Rattle.so_scene_json.specs.declared.scope.Scope.{Scope}
-use Rattle.so_scene_json.specs.declared.shape.Shape.{Shape}
-use Rattle.so_scene_json.specs.declared.table.Form.TheVariants as form
-use Rattle.so_scene_json.specs.declared.table.ObjectKind.{ObjectKind}
-use Rattle.so_scene_json.specs.declared.table.ObjectKind.TheVariants as object
-use Rattle.so_scene_json.specs.declared.table.Rule.{Rule}
-use Rattle.so_scene_json.specs.declared.table.Space.TheVariants as space
-use Rattle.so_scene_json.specs.declared.values.Trouble.{Trouble}
-use Rattle.so_scene_json.specs.Table.{required, optional, later}
-use Rattle.so_scene_json.specs.Build.{build_step, one_more}
-use Rattle.so_scene_json.specs.Defs.{coop_of as coop_read, narrow_or_zero}
-use Rattle.so_scene_json.specs.Known.{known_step}
-use Rattle.so_scene_json.specs.Shape.{shape_step, has_unknown, is_known, object_trouble, trouble_at, unless_faulty}
-use Rattle.so_scene_json.specs.Twice.{twice_step}
-use Rattle.so_scene_json.specs.Values.{text_or_empty}
-use Rattle.so_scene_json.specs.Visits.{Visit, enters, tries, leaves, at_key, Place, visits, items_from, run, at_item, narrow}
+use Rattle.so_scene_build.specs.declared.build.Build.{Build}
+use Rattle.so_scene_passes.specs.declared.declare.Declared.{Declared}
+use Rattle.so_scene_build.specs.declared.groups.Group.{Group}
+use Rattle.so_scene_passes.specs.declared.known.Known.{Known}
+use Rattle.so_scene_passes.specs.declared.scope.Scope.{Scope}
+use Rattle.so_scene_passes.specs.declared.shape.Shape.{Shape}
+use Rattle.so_scene_fields.specs.declared.table.Form.TheVariants as form
+use Rattle.so_scene_fields.specs.declared.table.ObjectKind.{ObjectKind}
+use Rattle.so_scene_fields.specs.declared.table.ObjectKind.TheVariants as object
+use Rattle.so_scene_fields.specs.declared.table.Rule.{Rule}
+use Rattle.so_scene_fields.specs.declared.table.Space.TheVariants as space
+use Rattle.so_scene_fields.specs.declared.values.Trouble.{Trouble}
+use Rattle.so_scene_fields.specs.Table.{required, optional, later}
+use Rattle.so_scene_build.specs.Build.{build_step, one_more}
+use Rattle.so_scene_build.specs.Defs.{coop_of as coop_read, narrow_or_zero}
+use Rattle.so_scene_passes.specs.Known.{known_step}
+use Rattle.so_scene_passes.specs.Shape.{shape_step, has_unknown, is_known, object_trouble, trouble_at, unless_faulty}
+use Rattle.so_scene_passes.specs.Twice.{twice_step}
+use Rattle.so_scene_fields.specs.Values.{text_or_empty}
+use Rattle.so_scene_fields.specs.Visits.{Visit, enters, tries, leaves, at_key, Place, visits, items_from, run, at_item, narrow}
 use Rattle.so_scene_writer.specs.ActData.{text_data, coop_text}
 use Rattle.so_scene_writer.specs.Canonical.{given, agents_of, agent_data, coop_data, list_data}
 use Rattle.so_scene_writer.proofs.Writable.{IsWritable, AreNumberedIn, texts_behind, texts_of_agents, next_text}

@@ -24,21 +24,21 @@ use Rattle.so_scene.specs.Checked.{is_pool, has_quotes, IsDisp, IsQuote, IsScene
 use Rattle.so_scene.specs.Names.{number_in}
 use Rattle.so_scene.specs.Parts.{disp_name, disp_of, default_disp}
 use Rattle.so_scene.specs.Words.{is_name}
-use Rattle.so_scene_json.specs.declared.build.Build.{Build}
-use Rattle.so_scene_json.specs.declared.declare.Declared.{Declared}
-use Rattle.so_scene_json.specs.declared.known.Known.{Known}
-use Rattle.so_scene_json.specs.declared.shape.Shape.{Shape}
-use Rattle.so_scene_json.specs.declared.table.ObjectKind.TheVariants as object
-use Rattle.so_scene_json.specs.declared.table.Space.TheVariants as space
-use Rattle.so_scene_json.specs.Build.{build_step}
-use Rattle.so_scene_json.specs.Defs.{disp_of as disp_read, quote_at, quotes_in}
-use Rattle.so_scene_json.specs.Kept.{disp_kind}
-use Rattle.so_scene_json.specs.Known.{known_step, kind_at}
-use Rattle.so_scene_json.specs.Shape.{shape_step, has_unknown, is_known, fixed_trouble, quote_trouble}
-use Rattle.so_scene_json.specs.Table.{key_of, rules_of}
-use Rattle.so_scene_json.specs.Twice.{twice_step, declared_name, entering, names_in, with_name}
-use Rattle.so_scene_json.specs.Values.{disp_kind_in, disp_kind_of, fifo_of, name_in, number_of, ok_or, quote_of, trouble}
-use Rattle.so_scene_json.specs.Visits.{enters, list_of, Place, visits, fields_of, field_visits, items_from, run, at_item}
+use Rattle.so_scene_build.specs.declared.build.Build.{Build}
+use Rattle.so_scene_passes.specs.declared.declare.Declared.{Declared}
+use Rattle.so_scene_passes.specs.declared.known.Known.{Known}
+use Rattle.so_scene_passes.specs.declared.shape.Shape.{Shape}
+use Rattle.so_scene_fields.specs.declared.table.ObjectKind.TheVariants as object
+use Rattle.so_scene_fields.specs.declared.table.Space.TheVariants as space
+use Rattle.so_scene_build.specs.Build.{build_step}
+use Rattle.so_scene_build.specs.Defs.{disp_of as disp_read, quote_at, quotes_in}
+use Rattle.so_scene_build.specs.Kept.{disp_kind}
+use Rattle.so_scene_passes.specs.Known.{known_step, kind_at}
+use Rattle.so_scene_passes.specs.Shape.{shape_step, has_unknown, is_known, fixed_trouble, quote_trouble}
+use Rattle.so_scene_fields.specs.Table.{key_of, rules_of}
+use Rattle.so_scene_passes.specs.Twice.{twice_step, declared_name, entering, names_in, with_name}
+use Rattle.so_scene_fields.specs.Values.{disp_kind_in, disp_kind_of, fifo_of, name_in, number_of, ok_or, quote_of, trouble}
+use Rattle.so_scene_fields.specs.Visits.{enters, list_of, Place, visits, fields_of, field_visits, items_from, run, at_item}
 use Rattle.so_scene_writer.specs.ActData.{count_data, disp_text}
 use Rattle.so_scene_writer.specs.Canonical.{given, declared, disp_data, disp_kind_word, fifo_word}
 use Rattle.so_scene_writer.proofs.Named.{each_of, name_utf8, next_distinct, next_new, number_at}

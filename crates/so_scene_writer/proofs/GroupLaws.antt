@@ -14,13 +14,13 @@ use Rattle.so_scene.specs.Checked.{IsScene}
 use Rattle.so_scene.specs.Names.{number_in}
 use Rattle.so_scene.specs.Parts.{groups_of}
 use Rattle.so_scene.proofs.LaneLaws.{few_groups}
-use Rattle.so_scene_json.specs.declared.groups.Group.{Group}
-use Rattle.so_scene_json.specs.Groups.{names_for, names_at, group_lists, with_group, number_for, group_number}
-use Rattle.so_scene_json.specs.Kept.{uses_on}
-use Rattle.so_scene_json.specs.Visits.{narrow}
-use Rattle.so_scene_json.specs.Writer.{number_or_next}
-use Rattle.so_scene_json.proofs.Grouped.{names_start, other_same, same_disp, same_with_old, more_with_new}
-use Rattle.so_scene_json.proofs.Uses.{all_uses}
+use Rattle.so_scene_build.specs.declared.groups.Group.{Group}
+use Rattle.so_scene_build.specs.Groups.{names_for, names_at, group_lists, with_group, number_for, group_number}
+use Rattle.so_scene_build.specs.Kept.{uses_on}
+use Rattle.so_scene_fields.specs.Visits.{narrow}
+use Rattle.so_scene_build.specs.CodeWriter.{number_or_next}
+use Rattle.so_scene_build.proofs.Grouped.{names_start, other_same, same_disp, same_with_old, more_with_new}
+use Rattle.so_scene_build.proofs.Uses.{all_uses}
 use Rattle.so_scene_writer.specs.ActData.{group_at, group_text}
 use Rattle.so_scene_writer.proofs.Named.{number_take, new_take}
 use Rattle.so_scene_writer.proofs.ActLaws.{taken_len, more_texts, narrow_small}

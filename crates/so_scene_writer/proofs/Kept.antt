@@ -19,8 +19,8 @@ use Rattle.so_scene.specs.declared.parts.AgentDef.{AgentDef}
 use Rattle.so_scene.specs.declared.parts.FilterDef.{FilterDef}
 use Rattle.so_scene.specs.declared.parts.SceneParts.{SceneParts}
 use Rattle.so_scene.specs.Checked.{has_handler, handlers, handlers_from, row_number, given, filter_id, IsFilter, IsRow, HasNoLimit}
-use Rattle.so_scene_json.specs.declared.act_table.Allowed.{Allowed}
-use Rattle.so_scene_json.specs.declared.act_table.Allowed.TheVariants.{AnyAct}
+use Rattle.so_scene_fields.specs.declared.act_table.Allowed.{Allowed}
+use Rattle.so_scene_fields.specs.declared.act_table.Allowed.TheVariants.{AnyAct}
 use Rattle.so_scene_writer.specs.Sources.{acts_in, behind, states_in, behind_states, behind_row, rows_in, states_of, rows_of}
 use Rattle.so_scene.specs.Written.{HasParent}
 use Rattle.so_scene_writer.proofs.Writable.{IsName, IsStateName, FitsValue}

@@ -11,10 +11,10 @@ use Rattle.std.proofs.lemmas.List.{take_all}
 use Rattle.so_lists.specs.Lists.{is_empty}
 use Rattle.so_scene.specs.Words.{is_name, is_text, is_between, is_name_byte, is_text_byte}
 use Rattle.so_scene.specs.Names.{number_in}
-use Rattle.so_scene_json.specs.Scope.{is_id, number_with}
-use Rattle.so_scene_json.specs.Values.{text_or_empty}
+use Rattle.so_scene_passes.specs.Scope.{is_id, number_with}
+use Rattle.so_scene_fields.specs.Values.{text_or_empty}
 use Rattle.so_scene.specs.Checked.{given}
-use Rattle.so_scene_json.proofs.Ends.{all_of}
+use Rattle.so_scene_fields.proofs.Ends.{all_of}
 use Rattle.so_scene_writer.specs.ActData.{shown}
 
 -- ---- lists

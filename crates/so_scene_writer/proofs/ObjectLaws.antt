@@ -27,24 +27,24 @@ use Rattle.so_scene.specs.Checked.{has_handler, IsKind, IsScene, IsFilter, IsRow
 use Rattle.so_scene.specs.Names.{number_in}
 use Rattle.so_scene.specs.Parts.{mbox_name, mboxes}
 use Rattle.so_scene.specs.Words.{is_name}
-use Rattle.so_scene_json.specs.declared.act_table.Allowed.{Allowed}
-use Rattle.so_scene_json.specs.declared.act_table.Allowed.TheVariants.{NoSwitch}
-use Rattle.so_scene_json.specs.declared.build.Build.{Build}
-use Rattle.so_scene_json.specs.declared.declare.Declared.{Declared}
-use Rattle.so_scene_json.specs.declared.known.Known.{Known}
-use Rattle.so_scene_json.specs.declared.scope.Scope.{Scope}
-use Rattle.so_scene_json.specs.declared.shape.Shape.{Shape}
-use Rattle.so_scene_json.specs.declared.table.ObjectKind.TheVariants as object
-use Rattle.so_scene_json.specs.declared.table.Space.TheVariants as space
-use Rattle.so_scene_json.specs.Build.{build_step}
-use Rattle.so_scene_json.specs.Defs.{message_of, state_of, row_of, filter_of}
-use Rattle.so_scene_json.specs.Acts.{act_trouble}
-use Rattle.so_scene_json.specs.Known.{known_step, act_unknown, absent_from}
-use Rattle.so_scene_json.specs.Scope.{all_states}
-use Rattle.so_scene_json.specs.Shape.{shape_step, has_unknown, is_known, acts_fault, acts_from}
-use Rattle.so_scene_json.specs.Twice.{twice_step, names_in}
-use Rattle.so_scene_json.specs.Values.{number_of, history_of, id_in, name_in}
-use Rattle.so_scene_json.specs.Visits.{Place, visits, fields_of, field_visits, run, narrow}
+use Rattle.so_scene_fields.specs.declared.act_table.Allowed.{Allowed}
+use Rattle.so_scene_fields.specs.declared.act_table.Allowed.TheVariants.{NoSwitch}
+use Rattle.so_scene_build.specs.declared.build.Build.{Build}
+use Rattle.so_scene_passes.specs.declared.declare.Declared.{Declared}
+use Rattle.so_scene_passes.specs.declared.known.Known.{Known}
+use Rattle.so_scene_passes.specs.declared.scope.Scope.{Scope}
+use Rattle.so_scene_passes.specs.declared.shape.Shape.{Shape}
+use Rattle.so_scene_fields.specs.declared.table.ObjectKind.TheVariants as object
+use Rattle.so_scene_fields.specs.declared.table.Space.TheVariants as space
+use Rattle.so_scene_build.specs.Build.{build_step}
+use Rattle.so_scene_build.specs.Defs.{message_of, state_of, row_of, filter_of}
+use Rattle.so_scene_fields.specs.Acts.{act_trouble}
+use Rattle.so_scene_passes.specs.Known.{known_step, act_unknown, absent_from}
+use Rattle.so_scene_passes.specs.Scope.{all_states}
+use Rattle.so_scene_passes.specs.Shape.{shape_step, has_unknown, is_known, acts_fault, acts_from}
+use Rattle.so_scene_passes.specs.Twice.{twice_step, names_in}
+use Rattle.so_scene_fields.specs.Values.{number_of, history_of, id_in, name_in}
+use Rattle.so_scene_fields.specs.Visits.{Place, visits, fields_of, field_visits, run, narrow}
 use Rattle.so_scene_writer.specs.Sources.{StateSource, RowSource}
 use Rattle.so_scene_writer.specs.ActData.{text_data, message_text, state_text, act_data, acts_data, cmp_data, count_data}
 use Rattle.so_scene_writer.specs.Canonical.{message_data, state_data, filter_data, row_data, given, number_data, history_word}

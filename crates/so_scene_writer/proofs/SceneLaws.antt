@@ -20,24 +20,25 @@ use Rattle.so_scene.specs.Lanes.{lanes}
 use Rattle.so_scene.specs.Names.{number_in}
 use Rattle.so_scene.specs.Parts.{message_name, agent_name, disp_name, default_disp}
 use Rattle.so_scene.specs.Words.{is_name}
-use Rattle.so_scene_json.specs.declared.build.Build.{Build}
-use Rattle.so_scene_json.specs.declared.declare.Declared.{Declared}
-use Rattle.so_scene_json.specs.declared.known.Known.{Known}
-use Rattle.so_scene_json.specs.declared.shape.Shape.{Shape}
-use Rattle.so_scene_json.specs.declared.table.Form.TheVariants as form
-use Rattle.so_scene_json.specs.declared.table.ObjectKind.{ObjectKind}
-use Rattle.so_scene_json.specs.declared.table.ObjectKind.TheVariants as object
-use Rattle.so_scene_json.specs.declared.table.Rule.{Rule}
-use Rattle.so_scene_json.specs.declared.values.Trouble.{Trouble}
-use Rattle.so_scene_json.specs.Table.{required, optional, later}
-use Rattle.so_scene_json.specs.Build.{build_step, no_parts}
-use Rattle.so_scene_json.specs.Kept.{disp_kind}
-use Rattle.so_scene_json.specs.Known.{known_step, knows}
-use Rattle.so_scene_json.specs.Scene.{fields, passes, of_data, finished, checked, exceeds, parts_of, no_state}
-use Rattle.so_scene_json.specs.Scope.{no_scope}
-use Rattle.so_scene_json.specs.Shape.{shape_step, has_unknown, is_known, name_trouble, object_trouble}
-use Rattle.so_scene_json.specs.Twice.{twice_step, no_names, with_mbox, with_mbox_read, with_mboxes}
-use Rattle.so_scene_json.specs.Visits.{Visit, enters, tries, leaves, at_key, Place, visits, items_from, run, at_item}
+use Rattle.so_scene_build.specs.declared.build.Build.{Build}
+use Rattle.so_scene_passes.specs.declared.declare.Declared.{Declared}
+use Rattle.so_scene_passes.specs.declared.known.Known.{Known}
+use Rattle.so_scene_passes.specs.declared.shape.Shape.{Shape}
+use Rattle.so_scene_fields.specs.declared.table.Form.TheVariants as form
+use Rattle.so_scene_fields.specs.declared.table.ObjectKind.{ObjectKind}
+use Rattle.so_scene_fields.specs.declared.table.ObjectKind.TheVariants as object
+use Rattle.so_scene_fields.specs.declared.table.Rule.{Rule}
+use Rattle.so_scene_fields.specs.declared.values.Trouble.{Trouble}
+use Rattle.so_scene_fields.specs.Table.{required, optional, later}
+use Rattle.so_scene_build.specs.Build.{build_step, no_parts}
+use Rattle.so_scene_build.specs.Kept.{disp_kind}
+use Rattle.so_scene_passes.specs.Known.{known_step, knows}
+use Rattle.so_scene_fields.specs.Visits.{fields}
+use Rattle.so_scene_json.specs.Scene.{passes, of_data, finished, checked, exceeds, parts_of, no_state}
+use Rattle.so_scene_passes.specs.Scope.{no_scope}
+use Rattle.so_scene_passes.specs.Shape.{shape_step, has_unknown, is_known, name_trouble, object_trouble}
+use Rattle.so_scene_passes.specs.Twice.{twice_step, no_names, with_mbox, with_mbox_read, with_mboxes}
+use Rattle.so_scene_fields.specs.Visits.{Visit, enters, tries, leaves, at_key, Place, visits, items_from, run, at_item}
 use Rattle.so_scene_writer.specs.ActData.{text_data, count_data}
 use Rattle.so_scene_writer.specs.Canonical.{scene_data, declared, disp_data, coop_data, message_data, list_data}
 use Rattle.so_scene_writer.proofs.Writable.{writable, IsName, IsWritable, IsWritableAgent, texts_of_agents}

@@ -14,8 +14,8 @@ use Rattle.so_code.specs.declared.instr.Operand.{Operand}
 use Rattle.so_code.specs.declared.instr.Operand.TheVariants as operand
 use Rattle.so_code.specs.Values.{fits}
 use Rattle.so_code.specs.Valid.{IsOperand, IsDest, AreArgs}
-use Rattle.so_scene_json.specs.Values.{integer_of, operand_of, dest_of, cmp_of, count_of, numbered, ok_or}
-use Rattle.so_scene_json.specs.Writer.{args_from, operand_at}
+use Rattle.so_scene_fields.specs.Values.{integer_of, operand_of, dest_of, cmp_of, count_of, numbered, ok_or}
+use Rattle.so_scene_build.specs.CodeWriter.{args_from, operand_at}
 use Rattle.so_scene_writer.specs.ActData.{operand_data, dest_data, cmp_data, count_data, args_data}
 use Rattle.so_scene_writer.specs.Canonical.{number_data}
 use Rattle.so_scene.specs.Written.{IsOperand as Fits, ArePadded, AreOperands, is_zero}

@@ -7,13 +7,13 @@ use Rattle.serde_json.specs.Find.{get}
 use Rattle.serde_json.specs.View.{items_of}
 use Rattle.so_scene.specs.Faults.{spelling}
 use Rattle.so_scene.specs.declared.fault.SceneFault.{SceneFault}
-use Rattle.so_scene_json.specs.declared.table.ObjectKind.{ObjectKind}
-use Rattle.so_scene_json.specs.declared.table.Rule.{Rule}
-use Rattle.so_scene_json.specs.declared.values.Trouble.{Trouble}
-use Rattle.so_scene_json.specs.Table.{rules_of, objects_of}
-use Rattle.so_scene_json.specs.Shape.{first_of, acts_from}
-use Rattle.so_scene_json.specs.Visits.{Visit, enters, tries, leaves, list_of, listed, at_key, Place, visits, fields_of, field_visits, items_from, run, at_item}
-use Rattle.so_scene_json.proofs.Runs.{goes_on, goes_on_at, run-one}
+use Rattle.so_scene_fields.specs.declared.table.ObjectKind.{ObjectKind}
+use Rattle.so_scene_fields.specs.declared.table.Rule.{Rule}
+use Rattle.so_scene_fields.specs.declared.values.Trouble.{Trouble}
+use Rattle.so_scene_fields.specs.Table.{rules_of, objects_of}
+use Rattle.so_scene_passes.specs.Shape.{first_of, acts_from}
+use Rattle.so_scene_fields.specs.Visits.{Visit, enters, tries, leaves, list_of, listed, at_key, Place, visits, fields_of, field_visits, items_from, run, at_item}
+use Rattle.so_scene_fields.proofs.Runs.{goes_on, goes_on_at, run-one}
 
 abbrev pub ok : {S : Type 0} → S → Result S SceneFault
 ok x = Ok x

@@ -15,8 +15,8 @@ use Rattle.so_scene.specs.Checked.{given, filter_ids, text_uses, IsAgent, IsCoop
 use Rattle.so_scene.specs.Parts.{message_name}
 use Rattle.so_scene.specs.Words.{is_name, is_text}
 use Rattle.so_scene.specs.Written.{HasParent, IsNumber, IsWritten, is_state_name, are_short}
-use Rattle.so_scene_json.specs.Kept.{texts_of}
-use Rattle.so_scene_json.proofs.Uses.{all_texts}
+use Rattle.so_scene_build.specs.Kept.{texts_of}
+use Rattle.so_scene_build.proofs.Uses.{all_texts}
 use Rattle.so_lists.proofs.Filters.{each-weaker}
 use Rattle.so_scene_writer.proofs.Named.{each_of, and_true}
 

@@ -23,7 +23,7 @@ use Rattle.so_scene.specs.declared.parts.AgentDef.{AgentDef}
 use Rattle.so_scene.specs.declared.parts.SceneParts.{SceneParts}
 use Rattle.so_scene.specs.Parts.{message_of, mbox_name, text_of, coop_of, disp_of, groups_of}
 use Rattle.so_scene.specs.Checked.{filter_ids}
-use Rattle.so_scene_json.specs.Values.{text_or_empty}
+use Rattle.so_scene_fields.specs.Values.{text_or_empty}
 
 -- ---- names
 

@@ -14,6 +14,3 @@ mod write;
 
 pub use laws::reads_again;
 pub use write::write_scene;
-
-#[cfg(test)]
-mod tests;

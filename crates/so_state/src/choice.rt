@@ -7,7 +7,7 @@ use crate::hierarchy::Tree;
 use so_ids::{Chosen, MboxId, MsgId, RowId, StateId};
 
 /// What a row does with its event.
-#[derive(Clone, Copy, Debug, PartialEq, Eq)]
+#[derive(Clone, Copy, PartialEq, Eq)]
 pub enum RowKind {
     /// It runs its handler.
     Run,
@@ -23,7 +23,7 @@ pub enum RowKind {
 
 /// A subscription of an agent: what it does with events of a type from a mbox, while the agent is in a
 /// state.
-#[derive(Clone, Copy, Debug, PartialEq, Eq)]
+#[derive(Clone, Copy, PartialEq, Eq)]
 pub struct Row {
     pub mbox: MboxId,
     pub msg: MsgId,

@@ -9,7 +9,7 @@ use crate::states::{State, is_composite, is_initial_of, parent_of, state_of};
 use so_ids::StateId;
 
 /// A rule of state trees, with the state that breaks it.
-#[derive(Clone, Copy, Debug, PartialEq, Eq)]
+#[derive(Clone, Copy, PartialEq, Eq)]
 pub enum TreeFault {
     /// Its parent isn't declared, or its time limit leads to a state that is neither declared nor
     /// `default`.

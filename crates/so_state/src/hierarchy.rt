@@ -11,7 +11,7 @@ use std::alloc::Global;
 use std::marker::Model;
 
 /// The declared states of an agent, at most 63, which break no rule of state trees.
-#[derive(Debug, Drop)]
+#[derive(Drop)]
 pub struct Tree {
     states: Vec<State>,
 }

@@ -13,8 +13,6 @@ mod leaves;
 mod list;
 mod states;
 mod switching;
-#[cfg(test)]
-mod tests;
 
 pub use choice::{Row, RowKind, choose};
 pub use faults::TreeFault;

@@ -7,7 +7,7 @@ use so_ids::StateId;
 
 /// Where a switch to a composite state leads once a state below it was entered (SObjectizer's
 /// `history_t`).
-#[derive(Clone, Copy, Debug, PartialEq, Eq)]
+#[derive(Clone, Copy, PartialEq, Eq)]
 pub enum History {
     /// To its initial substate.
     None,
@@ -18,7 +18,7 @@ pub enum History {
 }
 
 /// A declared state (SObjectizer's `state_t`).
-#[derive(Clone, Copy, Debug, PartialEq, Eq)]
+#[derive(Clone, Copy, PartialEq, Eq)]
 pub struct State {
     /// The state that it is a substate of.
     pub parent: Option<StateId>,

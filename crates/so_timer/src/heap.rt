@@ -9,7 +9,7 @@ ghost use Rattle.so_timer.specs.Timers.{lesser};
 use so_ids::TimerId;
 
 /// An armed timer, as the heap has it.
-#[derive(Clone, Copy, Debug, PartialEq, Eq)]
+#[derive(Clone, Copy, PartialEq, Eq)]
 pub(crate) struct Due {
     pub deadline: u64,
     pub timer: TimerId,

@@ -12,6 +12,3 @@ mod timers;
 pub use plain::PlainTimers;
 pub use timer::{Armed, TimerTask};
 pub use timers::Timers;
-
-#[cfg(test)]
-mod tests;

@@ -5,7 +5,7 @@ ghost use Rattle.so_timer.specs.Timers.{comes_first};
 use so_ids::{AgentId, MsgId, Payload, StateId, Target, TimerId};
 
 /// What a timer does when it fires.
-#[derive(Clone, Copy, Debug, PartialEq, Eq)]
+#[derive(Clone, Copy, PartialEq, Eq)]
 pub enum TimerTask {
     /// Sends a delayed or periodic message.
     Deliver(Target, MsgId, Payload),
@@ -15,7 +15,7 @@ pub enum TimerTask {
 
 /// An armed timer. Its deadline is in milliseconds, and so is its period, which is 0 for one that
 /// fires once.
-#[derive(Clone, Copy, Debug)]
+#[derive(Clone, Copy)]
 pub struct Armed {
     pub timer: TimerId,
     pub deadline: u64,
@@ -24,7 +24,7 @@ pub struct Armed {
 }
 
 /// What is kept of an armed timer under its number.
-#[derive(Clone, Copy, Debug)]
+#[derive(Clone, Copy)]
 pub(crate) struct Timer {
     pub deadline: u64,
     pub period: u32,

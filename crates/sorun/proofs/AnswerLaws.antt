@@ -6,7 +6,7 @@ use Rattle.so_scene.specs.declared.parts.SceneParts.{SceneParts}
 use Rattle.so_scene.specs.declared.fault.SceneFault.{SceneFault}
 use Rattle.so_env.specs.declared.outcome.Cause.TheVariants.{Scene, Memory}
 use Rattle.sorun.specs.Answers.{IsRefused, JobAnswers, SceneAnswers, FileAnswers, WordsAnswers, most_bytes, refusal_cause}
-use Rattle.so_scene_json.specs.Reads.{Reads}
+use Rattle.so_scene_fields.specs.Reads.{Reads}
 use Rattle.so_scene.specs.declared.fault.SceneRefusal.{SceneRefusal}
 use Rattle.so_scene.specs.declared.fault.SceneRefusal.TheVariants.{Fault, NoMemory}
 use Rattle.sorun.specs.Commands.{Command}

@@ -1,5 +1,5 @@
 -- The options at the front of words.
-use Rattle.std.proofs.Common.{◌≡◌, inl, inr, ℕ, ◌≤◌, List, [], ◌∷◌, ◌++◌, length, take, Bool, true, false, Option, Some, None, refl, sym, ◌∙◌, ap, subst, codes, IfSome, append_assoc}
+use Rattle.std.proofs.Common.{◌≡◌, inl, inr, ℕ, ◌+◌, ◌≤◌, List, [], ◌∷◌, ◌++◌, length, take, Bool, true, false, Option, Some, None, refl, sym, ◌∙◌, ap, subst, codes, IfSome, append_assoc, length-append, arith}
 use Rattle.std.specs.Str.{bytes_eq}
 use Rattle.std.proofs.lemmas.Bool.{cases_Bool}
 use Rattle.std.proofs.lemmas.List.{append-nil}
@@ -9,7 +9,7 @@ use Rattle.sorun.specs.Words.{is_file}
 use Rattle.so_history.specs.declared.lines.Mode.{Mode}
 use Rattle.so_history.specs.declared.lines.Mode.TheVariants.{Plain, Trace}
 use Rattle.sorun.specs.Options.{with_option, options_of, no_options, with_trace, with_limit, most_units, count_of, limit_of}
-use Rattle.sorun.specs.Sentences.{AreOptions, mode_words, limit_words, limit_word}
+use Rattle.sorun.specs.Sentences.{SetsLimit, AreLimitWords, AreOptions, mode_words}
 use Rattle.sorun.specs.declared.options.Options.{Options}
 use Rattle.sorun.proofs.LimitLaws.{limit_is, limit-word}
 
@@ -36,88 +36,88 @@ abbrev options : Mode → Option ℕ → Options
 options mode limit = record { mode = mode; limit = limit }
 
 pub no_front : AreOptions Plain None []
-no_front = record { within = tt; order = inl refl }
+no_front = record { within = tt; limit_words = []; sets = refl; order = inl refl }
 
 trace_adds : (limit : Option ℕ) → with_option (record { mode = Plain; limit = limit }) (codes "--trace") ≡ Some (record { mode = Trace; limit = limit })
 unfolding with_option
 trace_adds limit = refl
 
-limit_adds : (mode : Mode) (n : ℕ) → n ≤ most_units → with_option (record { mode = mode; limit = None }) (limit_word n) ≡ Some (record { mode = mode; limit = Some n })
+limit_adds : (mode : Mode) (n : ℕ) (word : List ℕ) → n ≤ most_units → SetsLimit n word → with_option (record { mode = mode; limit = None }) word ≡ Some (record { mode = mode; limit = Some n })
 unfolding with_option
-limit_adds mode n few = ap (with_limit (record { mode = mode; limit = None })) (limit-word n few)
+limit_adds mode n word few it =
+    let other : bytes_eq word (codes "--trace") ≡ false = ap (λ (v : List ℕ). bytes_eq v (codes "--trace")) it.is in
+    rw other (ap (with_limit (record { mode = mode; limit = None })) (limit-word word n few it))
 
 -- options given in either order are read
-trace_first : (mode : Mode) (limit : Option ℕ) (ws : List (List ℕ)) → IfSome limit (λ n. n ≤ most_units) → options_of no_options ((mode_words mode ++ limit_words limit) ++ ws) ≡ options_of (record { mode = mode; limit = limit }) ws
-trace_first Plain None ws few = refl
-trace_first Trace None ws few = options_go_on no_options (record { mode = Trace; limit = None }) (codes "--trace") ws (trace_adds None)
-trace_first Plain (Some n) ws few = options_go_on no_options (record { mode = Plain; limit = Some n }) (limit_word n) ws (limit_adds Plain n few)
-trace_first Trace (Some n) ws few =
-    options_go_on no_options (record { mode = Trace; limit = None }) (codes "--trace") (limit_word n ∷ ws) (trace_adds None) ∙
-    options_go_on (record { mode = Trace; limit = None }) (record { mode = Trace; limit = Some n }) (limit_word n) ws (limit_adds Trace n few)
+limit_alone : (mode : Mode) (limit : Option ℕ) (lw ws : List (List ℕ)) → IfSome limit (λ n. n ≤ most_units) → AreLimitWords limit lw → options_of (record { mode = mode; limit = None }) (lw ++ ws) ≡ options_of (record { mode = mode; limit = limit }) ws
+limit_alone mode None lw ws few sets = ap (λ (vs : List (List ℕ)). options_of (record { mode = mode; limit = None }) (vs ++ ws)) sets
+limit_alone mode (Some n) lw ws few sets =
+    ap (λ (vs : List (List ℕ)). options_of (record { mode = mode; limit = None }) (vs ++ ws)) sets.1
+    ∙ options_go_on (record { mode = mode; limit = None }) (record { mode = mode; limit = Some n }) sets.0 ws (limit_adds mode n sets.0 few sets.2)
 
-limit_first : (mode : Mode) (limit : Option ℕ) (ws : List (List ℕ)) → IfSome limit (λ n. n ≤ most_units) → options_of no_options ((limit_words limit ++ mode_words mode) ++ ws) ≡ options_of (record { mode = mode; limit = limit }) ws
-limit_first Plain None ws few = refl
-limit_first Trace None ws few = options_go_on no_options (record { mode = Trace; limit = None }) (codes "--trace") ws (trace_adds None)
-limit_first Plain (Some n) ws few = options_go_on no_options (record { mode = Plain; limit = Some n }) (limit_word n) ws (limit_adds Plain n few)
-limit_first Trace (Some n) ws few =
-    options_go_on no_options (record { mode = Plain; limit = Some n }) (limit_word n) (codes "--trace" ∷ ws) (limit_adds Plain n few) ∙
-    options_go_on (record { mode = Plain; limit = Some n }) (record { mode = Trace; limit = Some n }) (codes "--trace") ws (trace_adds (Some n))
+trace_alone : (mode : Mode) (limit : Option ℕ) (ws : List (List ℕ)) → options_of (record { mode = Plain; limit = limit }) (mode_words mode ++ ws) ≡ options_of (record { mode = mode; limit = limit }) ws
+trace_alone Plain limit ws = refl
+trace_alone Trace limit ws = options_go_on (record { mode = Plain; limit = limit }) (record { mode = Trace; limit = limit }) (codes "--trace") ws (trace_adds limit)
 
 pub options_read : (mode : Mode) (limit : Option ℕ) (front ws : List (List ℕ)) → AreOptions mode limit front → options_of no_options (front ++ ws) ≡ options_of (record { mode = mode; limit = limit }) ws
-options_read mode limit front ws are = elim are.order [
-  | inl is ↦ ap (λ (vs : List (List ℕ)). options_of no_options (vs ++ ws)) is ∙ trace_first mode limit ws are.within
-  | inr is ↦ ap (λ (vs : List (List ℕ)). options_of no_options (vs ++ ws)) is ∙ limit_first mode limit ws are.within
-]
+options_read mode limit front ws are =
+    let lw = are.limit_words in
+    elim are.order [
+      | inl is ↦
+          ap (λ (vs : List (List ℕ)). options_of no_options (vs ++ ws)) is
+          ∙ (ap (options_of no_options) (append_assoc (mode_words mode) lw ws) ∙ (trace_alone mode None (lw ++ ws) ∙ limit_alone mode limit lw ws are.within are.sets))
+      | inr is ↦
+          ap (λ (vs : List (List ℕ)). options_of no_options (vs ++ ws)) is
+          ∙ (ap (options_of no_options) (append_assoc lw (mode_words mode) ws) ∙ (limit_alone Plain limit lw (mode_words mode ++ ws) are.within are.sets ∙ trace_alone mode limit ws))
+    ]
 
 -- there are as many words as options
-trace_count : (mode : Mode) (limit : Option ℕ) → length (mode_words mode ++ limit_words limit) ≡ count_of (record { mode = mode; limit = limit })
-trace_count Plain None = refl
-trace_count Trace None = refl
-trace_count Plain (Some n) = refl
-trace_count Trace (Some n) = refl
-
-limit_count : (mode : Mode) (limit : Option ℕ) → length (limit_words limit ++ mode_words mode) ≡ count_of (record { mode = mode; limit = limit })
-limit_count Plain None = refl
-limit_count Trace None = refl
-limit_count Plain (Some n) = refl
-limit_count Trace (Some n) = refl
+limit_count : (mode : Mode) (limit : Option ℕ) (lw : List (List ℕ)) → AreLimitWords limit lw → length (mode_words mode) + length lw ≡ count_of (record { mode = mode; limit = limit })
+limit_count Plain None lw sets = omega (arith, ap length sets)
+limit_count Trace None lw sets = omega (arith, ap length sets)
+limit_count Plain (Some n) lw sets = omega (arith, ap length sets.1)
+limit_count Trace (Some n) lw sets = omega (arith, ap length sets.1)
 
 pub length-options : (mode : Mode) (limit : Option ℕ) (front : List (List ℕ)) → AreOptions mode limit front → length front ≡ count_of (record { mode = mode; limit = limit })
-length-options mode limit front are = elim are.order [
-  | inl is ↦ ap length is ∙ trace_count mode limit
-  | inr is ↦ ap length is ∙ limit_count mode limit
-]
+length-options mode limit front are =
+    let lw = are.limit_words in
+    let count = limit_count mode limit lw are.sets in
+    elim are.order [
+      | inl is ↦ ap length is ∙ (length-append (mode_words mode) lw ∙ count)
+      | inr is ↦ omega (arith, ap length is, length-append lw (mode_words mode), count)
+    ]
 
 -- the words before an option that may still come are the other's
-no_trace : (limit : Option ℕ) (front : List (List ℕ)) → AreOptions Plain limit front → front ≡ limit_words limit
+no_trace : (limit : Option ℕ) (front : List (List ℕ)) (are : AreOptions Plain limit front) → front ≡ are.limit_words
 no_trace limit front are = elim are.order [
   | inl is ↦ is
-  | inr is ↦ is ∙ append-nil (limit_words limit)
+  | inr is ↦ is ∙ append-nil are.limit_words
 ]
 
 no_limit : (mode : Mode) (front : List (List ℕ)) → AreOptions mode None front → front ≡ mode_words mode
 no_limit mode front are = elim are.order [
-  | inl is ↦ is ∙ append-nil (mode_words mode)
-  | inr is ↦ is
+  | inl is ↦ is ∙ (ap (λ (vs : List (List ℕ)). mode_words mode ++ vs) are.sets ∙ append-nil (mode_words mode))
+  | inr is ↦ is ∙ ap (λ (vs : List (List ℕ)). vs ++ mode_words mode) are.sets
 ]
 
 trace_more : (mode : Mode) (limit : Option ℕ) (more : Options) (front : List (List ℕ)) → AreOptions mode limit front → with_trace (record { mode = mode; limit = limit }) ≡ Some more → AreOptions more.mode more.limit (front ++ codes "--trace" ∷ [])
 trace_more Trace limit more front are is = absurd (none-some more is)
 trace_more Plain limit more front are is =
     subst (λ (o : Options). AreOptions o.mode o.limit (front ++ codes "--trace" ∷ [])) (same_Some (options Trace limit) more is)
-    record { within = are.within; order = inr (ap (λ (vs : List (List ℕ)). vs ++ codes "--trace" ∷ []) (no_trace limit front are)) }
+    record { within = are.within; limit_words = are.limit_words; sets = are.sets; order = inr (ap (λ (vs : List (List ℕ)). vs ++ codes "--trace" ∷ []) (no_trace limit front are)) }
 
-with_limit_word : (mode : Mode) (limit : Option ℕ) (more : Options) (front : List (List ℕ)) (n : ℕ) → n ≤ most_units → AreOptions mode limit front → with_limit (record { mode = mode; limit = limit }) (Some n) ≡ Some more → AreOptions more.mode more.limit (front ++ limit_word n ∷ [])
-with_limit_word mode (Some m) more front n few are is = absurd (none-some more is)
-with_limit_word mode None more front n few are is =
-    subst (λ (o : Options). AreOptions o.mode o.limit (front ++ limit_word n ∷ [])) (same_Some (options mode (Some n)) more is)
-    record { within = few; order = inl (ap (λ (vs : List (List ℕ)). vs ++ limit_word n ∷ []) (no_limit mode front are)) }
+with_limit_word : (mode : Mode) (limit : Option ℕ) (more : Options) (front : List (List ℕ)) (n : ℕ) (word : List ℕ) → n ≤ most_units → SetsLimit n word → AreOptions mode limit front → with_limit (record { mode = mode; limit = limit }) (Some n) ≡ Some more →
+    AreOptions more.mode more.limit (front ++ word ∷ [])
+with_limit_word mode (Some m) more front n word few sets are is = absurd (none-some more is)
+with_limit_word mode None more front n word few sets are is =
+    subst (λ (o : Options). AreOptions o.mode o.limit (front ++ word ∷ [])) (same_Some (options mode (Some n)) more is)
+    record { within = few; limit_words = word ∷ []; sets = (word, refl, sets); order = inl (ap (λ (vs : List (List ℕ)). vs ++ word ∷ []) (no_limit mode front are)) }
 
 with_given : (mode : Mode) (limit found : Option ℕ) (more : Options) (w : List ℕ) (front : List (List ℕ)) → limit_of w ≡ found → AreOptions mode limit front → with_limit (record { mode = mode; limit = limit }) found ≡ Some more → AreOptions more.mode more.limit (front ++ w ∷ [])
 with_given mode limit None more w front found are is = absurd (none-some more is)
 with_given mode limit (Some n) more w front found are is =
     let parts = limit_is w n found in
-    subst (λ (v : List ℕ). AreOptions more.mode more.limit (front ++ v ∷ [])) (sym parts.1) (with_limit_word mode limit more front n parts.0 are is)
+    with_limit_word mode limit more front n w parts.0 parts.1 are is
 
 options_more : (o more : Options) (w : List ℕ) (front : List (List ℕ)) → AreOptions o.mode o.limit front → with_option o w ≡ Some more → AreOptions more.mode more.limit (front ++ w ∷ [])
 unfolding with_option
@@ -189,6 +189,6 @@ file-no_option o file is =
     ] in
     let unlimited : limit_of file ≡ None = elim (limit_of file) as (λ v. limit_of file ≡ v → v ≡ None) [
       | None ↦ λ none. refl
-      | Some n ↦ λ one. absurd (both (is_file file) (ap is_file (limit_is file n one).1) is)
+      | Some n ↦ λ one. absurd (both (is_file file) (ap is_file (limit_is file n one).1.is) is)
     ] refl in
     rw other (ap (with_limit o) unlimited)

@@ -9,7 +9,7 @@ use Rattle.so_history.specs.Kept.{Kept}
 use Rattle.so_history.specs.Steps.{finished, is_over, Legal}
 use Rattle.so_history.specs.Coops.{aborted}
 use Rattle.so_history.specs.Chain.{IsChain}
-use Rattle.so_history.specs.Facts.{HasFacts}
+use Rattle.so_facts.specs.All.{HasAllFacts}
 use Rattle.so_history.specs.Text.{text}
 use Rattle.so_env.specs.declared.outcome.Cause.TheVariants.{Done, Usage, Limit, Aborted, Scene, Read, Long, Write, Memory}
 use Rattle.so_history.specs.Chain.{StopsAtLimit}
@@ -33,7 +33,7 @@ pub record IsRunWhole (mode : Mode) (units : ℕ) (s : SceneParts) (r : Report) 
   pub has : r.history ≡ Some kept
   pub chain : IsChain s units kept.entries
   pub legal : Legal s kept.entries
-  pub facts : HasFacts s kept.entries
+  pub facts : HasAllFacts s kept.entries
   pub printed : Appends a b (text s mode kept.entries)
   pub cause :
       ((r.cause ≡ Done) × (finished s kept.entries ≡ true))
@@ -68,9 +68,9 @@ pub record IsExact (words : Result Command ℕ) (told : List ℕ → Option (Lis
   pub check : (c : Command) → words ≡ Ok c → c.job ≡ Check → RunsNothing r
   pub file : (c : Command) (bytes : List ℕ) → words ≡ Ok c → told c.file ≡ Some bytes → IsFileExact c.job bytes r fx fy a b x y
 
--- the history of a scene's run has the six facts
+-- the history of a scene's run has all facts
 abbrev pub FactsOf : Option SceneParts → Option Kept → Type 0
-FactsOf (Some s) (Some h) = HasFacts s h.entries
+FactsOf (Some s) (Some h) = HasAllFacts s h.entries
 FactsOf _ _ = Unit {0}
 
 abbrev pub RunHasFacts : Report → Type 0

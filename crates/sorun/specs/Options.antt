@@ -1,6 +1,6 @@
 -- The options of a command, and which ones words give: `--trace` and `--limit=N`.
-use Rattle.std.specs.Prelude.{ℕ, ◌+◌, List, [], ◌∷◌, length, drop, ◌++◌, nat_le, ◌&&◌, Option, Some, None, is_some, unwrap_or, if◌then◌else◌, codes, decimal}
-use Rattle.std.specs.Str.{bytes_eq}
+use Rattle.std.specs.Prelude.{ℕ, ◌+◌, List, [], ◌∷◌, length, drop, ◌++◌, nat_le, Bool, ◌&&◌, Option, Some, None, is_some, unwrap_or, if◌then◌else◌, codes}
+use Rattle.std.specs.Str.{all_ascii_digits, bytes_eq}
 use Rattle.std.specs.Str.Parse.{digits_value}
 use Rattle.so_history.specs.declared.lines.Mode.TheVariants.{Plain, Trace}
 use Rattle.sorun.specs.declared.options.Options.{Options}
@@ -12,15 +12,23 @@ most_units = 1000000
 abbrev pub usual_units : ℕ
 usual_units = 100000
 
--- the number n of `most` or less, where the word is these bytes and then the decimal digits of n
-abbrev pub number_after : List ℕ → ℕ → List ℕ → Option ℕ
-number_after front most word =
-    let n = digits_value 10 (drop (length front) word) in
-    if nat_le n most && bytes_eq word (front ++ decimal n) then Some n else None
+-- the most digits of a limit
+abbrev pub most_digits : ℕ
+most_digits = 7
+
+-- a decimal digit or more, but no more than so many, whose value is `most` or less: leading zeros are digits
+abbrev pub is_number : ℕ → ℕ → List ℕ → Bool
+is_number longest most digits = nat_le 1 (length digits) && (nat_le (length digits) longest && (all_ascii_digits digits && nat_le (digits_value 10 digits) most))
+
+-- the value of such digits, where the word is these bytes and then the digits
+abbrev pub number_after : List ℕ → ℕ → ℕ → List ℕ → Option ℕ
+number_after front longest most word =
+    let digits = drop (length front) word in
+    if bytes_eq word (front ++ digits) && is_number longest most digits then Some (digits_value 10 digits) else None
 
 -- the limit that the word `--limit=N` gives
 unfoldable pub limit_of : List ℕ → Option ℕ
-limit_of word = number_after (codes "--limit=") most_units word
+limit_of word = number_after (codes "--limit=") most_digits most_units word
 
 abbrev pub no_options : Options
 no_options = record { mode = Plain; limit = None }

@@ -1,30 +1,41 @@
 -- The sentences of the command line, and where words leave them.
-use Rattle.std.specs.Prelude.{◌≡◌, ◌⊎◌, ◌↔◌, ℕ, ◌+◌, ◌<◌, ◌≤◌, List, [], ◌∷◌, ◌++◌, length, take, true, Option, Some, None, unwrap_or, Ok, Err, codes, decimal, IfSome}
+use Rattle.std.specs.Prelude.{◌≡◌, ◌⊎◌, ◌↔◌, ℕ, ◌+◌, ◌<◌, ◌≤◌, List, [], ◌∷◌, ◌++◌, length, take, true, Option, Some, None, unwrap_or, Ok, Err, codes, IfSome}
+use Rattle.std.specs.Str.Parse.{IsNumeral, digits_value}
 use Rattle.so_history.specs.declared.lines.Mode.{Mode}
 use Rattle.so_history.specs.declared.lines.Mode.TheVariants.{Plain, Trace}
 use Rattle.sorun.specs.Words.{is_file}
-use Rattle.sorun.specs.Options.{most_units, usual_units}
+use Rattle.sorun.specs.Options.{most_units, usual_units, most_digits}
 use Rattle.sorun.specs.Commands.{Command, command_of}
 use Rattle.sorun.specs.declared.commands.Job.{Job}
 use Rattle.sorun.specs.declared.commands.Job.TheVariants.{Check, Sim}
 
--- the option that sets a limit
-abbrev pub limit_word : ℕ → List ℕ
-limit_word n = codes "--limit=" ++ decimal n
+-- digits write a number: one decimal digit or more, but no more than so many. Leading zeros are digits
+pub record IsWritten (longest n : ℕ) (digits : List ℕ) : Type 0 where
+  pub numeral : IsNumeral 10 digits
+  pub few : length digits ≤ longest
+  pub value : digits_value 10 digits ≡ n
+
+-- a word sets a limit
+pub record SetsLimit (n : ℕ) (word : List ℕ) : Type 0 where
+  pub digits : List ℕ
+  pub written : IsWritten most_digits n digits
+  pub is : word ≡ codes "--limit=" ++ digits
 
 -- the words of each option, none where it isn't given
 abbrev pub mode_words : Mode → List (List ℕ)
 mode_words Trace = codes "--trace" ∷ []
 mode_words Plain = []
 
-abbrev pub limit_words : Option ℕ → List (List ℕ)
-limit_words (Some n) = limit_word n ∷ []
-limit_words None = []
+abbrev pub AreLimitWords : Option ℕ → List (List ℕ) → Type 0
+AreLimitWords (Some n) ws = (word : List ℕ) × (ws ≡ word ∷ []) × SetsLimit n word
+AreLimitWords None ws = ws ≡ []
 
 -- options, each at most once, in any order
 pub record AreOptions (mode : Mode) (limit : Option ℕ) (ws : List (List ℕ)) : Type 0 where
   pub within : IfSome limit (λ n. n ≤ most_units)
-  pub order : (ws ≡ mode_words mode ++ limit_words limit) ⊎ (ws ≡ limit_words limit ++ mode_words mode)
+  pub limit_words : List (List ℕ)
+  pub sets : AreLimitWords limit limit_words
+  pub order : (ws ≡ mode_words mode ++ limit_words) ⊎ (ws ≡ limit_words ++ mode_words mode)
 
 -- a command's name, options in any order, and a file; a limit that isn't given is the usual one
 pub record IsOptioned (name file : List ℕ) (mode : Mode) (units : ℕ) (ws : List (List ℕ)) : Type 0 where

@@ -10,7 +10,7 @@ use crate::options::{Options, options_of};
 use so_history::Mode;
 
 /// What is to be done with a scene.
-#[derive(Clone, Copy, Debug, PartialEq)]
+#[derive(Clone, Copy)]
 pub(crate) enum Job {
     /// To say how large it is.
     Check,
@@ -19,7 +19,7 @@ pub(crate) enum Job {
 }
 
 /// What the words ask for: a file by its name, and what is to be done with its scene.
-#[derive(Clone, Copy, Debug, PartialEq)]
+#[derive(Clone, Copy)]
 pub(crate) struct Command<'a> {
     pub(crate) file: &'a str,
     pub(crate) job: Job,
@@ -98,107 +98,5 @@ pub(crate) fn command_of(words: &[String]) -> Result<Command<'_>, u32>
             "sim" => sim_of(rest),
             _ => Err(0),
         },
-    }
-}
-
-#[cfg(test)]
-mod tests {
-    use super::*;
-    use crate::tests::words;
-    use std::test::Fail;
-
-    fn sim(file: &str, mode: Mode, units: u32) -> Result<Command<'_>, u32> {
-        let job = Job::Sim { mode, units };
-        Ok(Command { file, job })
-    }
-
-    fn check(file: &str) -> Result<Command<'_>, u32> {
-        let job = Job::Check;
-        Ok(Command { file, job })
-    }
-
-    /// Sentences, and what they ask for.
-    fn sentences() -> [(&'static [&'static str], Result<Command<'static>, u32>); 9] {
-        [
-            (&["check", "f"], check("f")),
-            (&["sim", "a-b"], sim("a-b", Mode::Plain, 100_000)),
-            (&["sim", "--trace", "f"], sim("f", Mode::Trace, 100_000)),
-            (&["sim", "--limit=0", "f"], sim("f", Mode::Plain, 0)),
-            (&["sim", "--limit=7", "f"], sim("f", Mode::Plain, 7)),
-            (
-                &["sim", "--limit=999999", "f"],
-                sim("f", Mode::Plain, 999_999),
-            ),
-            (
-                &["sim", "--limit=1000000", "f"],
-                sim("f", Mode::Plain, 1_000_000),
-            ),
-            (
-                &["sim", "--trace", "--limit=10", "f"],
-                sim("f", Mode::Trace, 10),
-            ),
-            (
-                &["sim", "--limit=10", "--trace", "f"],
-                sim("f", Mode::Trace, 10),
-            ),
-        ]
-    }
-
-    /// Words that are no sentence, by the place of their fault.
-    fn faults() -> [(&'static [&'static str], u32); 34] {
-        [
-            (&[], 0),
-            (&[""], 0),
-            (&["f"], 0),
-            (&["Check", "f"], 0),
-            (&["simulate", "f"], 0),
-            (&["run", "f"], 0),
-            (&["load", "1"], 0),
-            (&["--trace", "sim", "f"], 0),
-            (&["check"], 1),
-            (&["check", ""], 1),
-            (&["check", "-f"], 1),
-            (&["check", "--trace", "f"], 1),
-            (&["check", "--limit=7", "f"], 1),
-            (&["check", "a", "b"], 2),
-            (&["sim"], 1),
-            (&["sim", "", "f"], 1),
-            (&["sim", "-", "f"], 1),
-            (&["sim", "--traces", "f"], 1),
-            (&["sim", "--limit", "7", "f"], 1),
-            (&["sim", "--limit=", "f"], 1),
-            (&["sim", "--limit=01", "f"], 1),
-            (&["sim", "--limit=+1", "f"], 1),
-            (&["sim", "--limit=-1", "f"], 1),
-            (&["sim", "--limit=1x", "f"], 1),
-            (&["sim", "--limit=1000001", "f"], 1),
-            (&["sim", "--limit=12345678", "f"], 1),
-            (&["sim", "--limit=4294967297", "f"], 1),
-            (&["sim", "--trace"], 2),
-            (&["sim", "--trace", "--trace", "f"], 2),
-            (&["sim", "--limit=1", "--limit=1", "f"], 2),
-            (&["sim", "f", "--trace"], 2),
-            (&["sim", "f", "g"], 2),
-            (&["sim", "--limit=1", "--trace"], 3),
-            (&["sim", "--trace", "--limit=1", "--trace", "f"], 3),
-        ]
-    }
-
-    #[test]
-    fn a_sentence_asks_for_its_command(rt: HostRuntime) -> Result<(), Fail> {
-        for (number, (texts, command)) in sentences().iter().enumerate() {
-            let words = words(rt.alloc(), texts)?;
-            assert_eq!(rt; command_of(&words), *command, "case {number}");
-        }
-        Ok(())
-    }
-
-    #[test]
-    fn a_fault_is_at_the_first_word_that_begins_no_sentence(rt: HostRuntime) -> Result<(), Fail> {
-        for (number, (texts, place)) in faults().iter().enumerate() {
-            let words = words(rt.alloc(), texts)?;
-            assert_eq!(rt; command_of(&words), Err(*place), "case {number}");
-        }
-        Ok(())
     }
 }

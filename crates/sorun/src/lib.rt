@@ -11,6 +11,3 @@ mod top;
 
 pub use report::Report;
 pub use top::quiet;
-
-#[cfg(test)]
-mod tests;

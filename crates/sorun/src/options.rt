@@ -1,21 +1,23 @@
 //! The options of a command: `--trace` and `--limit=N`, in any order, each at most once.
 
-ghost use Rattle.std.specs.Prelude.{◌≡◌, ◌≤◌, ℕ, codes, decimal, IfSome, IfNone};
+ghost use Rattle.std.specs.Prelude.{◌≡◌, ◌==◌, ◌≤◌, ℕ, slice_index, IfSome, IfNone};
 ghost use Rattle.sorun.specs.Words.{texts};
-ghost use Rattle.sorun.specs.Sentences.{limit_word};
+ghost use Rattle.sorun.specs.Sentences.{IsWritten, SetsLimit};
 ghost use Rattle.sorun.specs.Options.{most_units, with_trace, with_limit, with_option, options_of, count_of, units_of};
 
-use itoa::Buffer;
 use so_history::Mode;
 
 /// The greatest limit that may be given, in units.
 const MOST_UNITS: u32 = 1_000_000;
 
+/// The most digits of a limit.
+const MOST_DIGITS: usize = 7;
+
 /// The limit where none is given, in units.
 const USUAL_UNITS: u32 = 100_000;
 
 /// The options that words gave.
-#[derive(Clone, Copy, Debug)]
+#[derive(Clone, Copy)]
 pub(crate) struct Options {
     /// What is printed: trace lines with `--trace`.
     pub(crate) mode: Mode,
@@ -82,31 +84,40 @@ impl Options {
     }
 }
 
-/// The number that decimal digits write, without a sign or a leading zero, where it is `most` or
-/// less.
-fn number_of(digits: &str, most: u32) -> Option<u32>
-    ensures some { IfSome result (λ n. (n ≤ most) × (digits.now ≡ decimal n)) }
-    ensures none { IfNone result ((n : ℕ) → n ≤ most → digits.now ≡ decimal n → ⊥) }
+/// Tells whether a plus stands before the digits of a number.
+fn has_plus(digits: &str) -> bool
+    ensures { result ≡ (slice_index digits.now 0 == 43) }
 {
-    let Ok(number) = digits.parse::<u32>() else {
-        return None;
-    };
-    if number > most {
+    match digits.as_bytes() {
+        [] => false,
+        [first, ..] => *first == 43,
+    }
+}
+
+/// The number that decimal digits write, where there are no more than `longest` of them and it is `most` or less.
+/// Leading zeros are digits.
+fn number_of(digits: &str, longest: usize, most: u32) -> Option<u32>
+    ensures some { IfSome result (λ n. (n ≤ most) × IsWritten longest n digits.now) }
+    ensures none { IfNone result ((n : ℕ) → n ≤ most → IsWritten longest n digits.now → ⊥) }
+{
+    if digits.len() > longest {
         return None;
     }
-    if Buffer::new().format(number) == digits {
-        Some(number)
-    } else {
-        None
+    if has_plus(digits) {
+        return None;
+    }
+    match digits.parse::<u32>() {
+        Err(_) => None,
+        Ok(number) => { if number <= most { Some(number) } else { None } }
     }
 }
 
 /// The limit that the word `--limit=N` gives.
 fn limit_of(word: &str) -> Option<u32>
-    ensures some { IfSome result (λ n. (n ≤ most_units) × (word.now ≡ limit_word n)) }
-    ensures none { IfNone result ((n : ℕ) → n ≤ most_units → word.now ≡ limit_word n → ⊥) }
+    ensures some { IfSome result (λ n. (n ≤ most_units) × SetsLimit n word.now) }
+    ensures none { IfNone result ((n : ℕ) → n ≤ most_units → SetsLimit n word.now → ⊥) }
 {
-    number_of(word.strip_prefix("--limit=")?, MOST_UNITS)
+    number_of(word.strip_prefix("--limit=")?, MOST_DIGITS, MOST_UNITS)
 }
 
 /// The options that stand before the file, and the words from there on.

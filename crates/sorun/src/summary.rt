@@ -18,34 +18,3 @@ pub(crate) fn put_summary(line: &mut LineBuf, scene: &Scene)
     put_word(line, b" cooperations, ", scene.lanes());
     put(line, b" lanes\n");
 }
-
-#[cfg(test)]
-mod tests {
-    use super::*;
-    use so_scene_json::read_scene;
-    use std::test::Fail;
-
-    #[test]
-    fn agents_cooperations_and_lanes_are_counted(rt: HostRuntime) -> Result<(), Fail> {
-        let cases = [
-            (
-                "{\"name\":\"a\"}",
-                "ok: 1 agents, 1 cooperations, 1 lanes\n",
-            ),
-            (
-                "{\"name\":\"a\"},{\"name\":\"b\"}",
-                "ok: 2 agents, 1 cooperations, 1 lanes\n",
-            ),
-        ];
-        for (agents, expected) in cases {
-            let file = format!(in rt.alloc();
-                "{{\"version\":1,\"coops\":[{{\"name\":\"main\",\"agents\":[{agents}]}}]}}"
-            )?;
-            let scene = read_scene(rt.alloc(), file.as_bytes()).map_err(|_| "no scene")?;
-            let mut line = LineBuf::new();
-            put_summary(&mut line, &scene);
-            assert_eq!(rt; line.as_slice(), expected.as_bytes());
-        }
-        Ok(())
-    }
-}

@@ -31,9 +31,8 @@ pub fn quiet<F: Files, K: Sink, E: Sink>(
     ensures answer { WordsAnswers (command_of (texts words.now)) (F.content files.old) result (F.faults files.old) (F.faults files.new)
         (K.content out.old) (K.content out.new) (K.faults out.old) (K.faults out.new) }
 
-    // No two turns of a queue overlap; each demand is taken at most once, in its queue's order, and
-    // by what is chosen for it; cooperations enter whole and leave when all is done; agents start
-    // first and finish last.
+    // A history has all facts of a legal one: those of turns and demands, lanes, cooperations and agents' lives, and that
+    // each entry is what the rules give then. None but a legal history has them.
     ensures facts { RunHasFacts result }
 
     // Each cause comes exactly where it should, and nothing else can come.

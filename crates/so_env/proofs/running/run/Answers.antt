@@ -3,14 +3,14 @@ use Rattle.so_history.specs.declared.entry.Entry.{Entry}
 use Rattle.so_history.specs.Text.{text}
 use Rattle.so_env.specs.Prints.{Printed, Counts}
 use Rattle.so_env.proofs.RunLaws.{adds, adds_none, way_on, way_shorter, way_end, added_entry, same_after}
-use Rattle.so_env.proofs.PrintLaws.{printed_none, print_on, risen_on, counts_none, counts_on, only_if}
+use Rattle.so_env.proofs.PrintLaws.{printed_none, print_on, risen_on, counts_none, counts_on}
 use Rattle.so_env.proofs.running.run.Goals as goal
 
 pub loop-mode-init : goal.loop-mode-init
 loop-mode-init g c = record {
   way = c.requires.way;
   printed = printed_none c.args.kernel.now.scene c.args.mode c.args.kernel.now.history (g.K.Sink.content c.args.out.now) c.requires.fresh;
-  counts = counts_none c.args.kernel.now.scene c.args.mode c.args.kernel.now.history c.requires.fresh;
+  counts = counts_none c.args.kernel.now.scene c.args.mode c.args.kernel.now.history (g.K.Sink.content c.args.out.now) c.requires.fresh;
   risen = record { later = omega arith; rose = λ no_fault. cc };
 }
 
@@ -42,8 +42,8 @@ loop-mode-preserved g c =
           subst (λ (l : List Entry). Printed c.print_last-printing.result.failed (g.K.Sink.content c.args.out.now) (g.K.Sink.content c.print_last-printing.new.out) (text c.args.kernel.now.scene c.args.mode l)) c.history.ensures.entries
           (print_on c.args.kernel.now.scene c.scene.result.now c.args.mode c.loop-mode.kernel.history c.history.result.now.entries more.0 _ _ _ _ _ scene grown c.loop-mode.invariant.printed c.print_last-printing.ensures.line);
       counts =
-          subst (λ (l : List Entry). Counts c.args.kernel.now.scene c.args.mode l c.print_last-printing.result.failed c.print_last-printing.result.pieces) c.history.ensures.entries
-          (counts_on c.args.kernel.now.scene c.scene.result.now c.args.mode c.loop-mode.kernel.history c.history.result.now.entries more.0 _ _ _ _ scene grown (only_if _ _ _ _ _ c.print_last-printing.ensures.line) c.loop-mode.invariant.counts c.print_last-printing.ensures.pieces);
+          subst (λ (l : List Entry). Counts c.args.kernel.now.scene c.args.mode l c.print_last-printing.result.failed c.print_last-printing.result.pieces (g.K.Sink.content c.args.out.now) (g.K.Sink.content c.print_last-printing.new.out)) c.history.ensures.entries
+          (counts_on c.args.kernel.now.scene c.scene.result.now c.args.mode c.loop-mode.kernel.history c.history.result.now.entries more.0 _ _ _ _ _ _ _ scene grown c.loop-mode.invariant.printed c.print_last-printing.ensures.line c.loop-mode.invariant.counts c.print_last-printing.ensures.pieces);
       risen = risen_on _ _ _ _ _ c.loop-mode.invariant.risen c.print_last-printing.ensures.cause;
     }
 
@@ -55,6 +55,6 @@ returns-then-entries-eq0 g c =
       chain = ends.0;
       scene = ends.1;
       printed = subst (λ (l : List Entry). Printed c.loop-mode.printing.failed (g.K.Sink.content c.args.out.now) (g.K.Sink.content c.loop-mode.out) (text c.args.kernel.now.scene c.args.mode l)) (sym same) c.loop-mode.invariant.printed;
-      pieces = subst (λ (l : List Entry). Counts c.args.kernel.now.scene c.args.mode l c.loop-mode.printing.failed c.loop-mode.printing.pieces) (sym same) c.loop-mode.invariant.counts;
+      pieces = subst (λ (l : List Entry). Counts c.args.kernel.now.scene c.args.mode l c.loop-mode.printing.failed c.loop-mode.printing.pieces (g.K.Sink.content c.args.out.now) (g.K.Sink.content c.loop-mode.out)) (sym same) c.loop-mode.invariant.counts;
       cause = c.loop-mode.invariant.risen;
     }

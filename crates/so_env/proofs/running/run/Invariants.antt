@@ -8,7 +8,7 @@ abbrev pub invariant-loop-mode : goal.invariant-loop-mode
 invariant-loop-mode g l = record {
   way : IsOnTheWay l.fn.kernel.scene l.fn.kernel.limit l.kernel l.turns;
   printed : Printed l.printing.failed (g.K.Sink.content l.fn.out) (g.K.Sink.content l.out) (text l.fn.kernel.scene l.mode l.kernel.history);
-  counts : Counts l.fn.kernel.scene l.mode l.kernel.history l.printing.failed l.printing.pieces;
+  counts : Counts l.fn.kernel.scene l.mode l.kernel.history l.printing.failed l.printing.pieces (g.K.Sink.content l.fn.out) (g.K.Sink.content l.out);
   risen : HasRisen l.printing.failed (g.K.Sink.faults l.fn.out) (g.K.Sink.faults l.out);
 }
 

@@ -1,7 +1,7 @@
 use Rattle.std.proofs.Common.{sym, ◌∙◌, ap, None}
 use Rattle.std.specs.Prelude.{replicate}
 use Rattle.so_scene.specs.Lanes.{lanes}
-use Rattle.so_kernel.specs.Shapes.{Core}
+use Rattle.so_ledger.specs.Shapes.{Core}
 use Rattle.so_env.proofs.RunLaws.{way_start}
 use Rattle.so_env.proofs.OutcomeLaws.{simulated_by}
 use Rattle.so_env.proofs.running.try_simulate.Goals as goal

@@ -1,5 +1,6 @@
 use Rattle.std.proofs.Common.{sym, ◌∙◌, ap, subst, Option}
-use Rattle.so_kernel.specs.Gates.{gated, core_after, stepped}
+use Rattle.so_ledger.specs.Gates.{gated, core_after}
+use Rattle.so_kernel.specs.Answers.{stepped}
 use Rattle.so_kernel.specs.Held.{IsLaneHeld}
 use Rattle.so_kernel.specs.declared.answers.Turn.{Turn}
 use Rattle.so_kernel.proofs.HeldLaws.{lane_free, lane_move}

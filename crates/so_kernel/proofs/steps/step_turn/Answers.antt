@@ -1,5 +1,6 @@
 use Rattle.so_history.proofs.SoundLaws.{course_sound}
-use Rattle.so_kernel.proofs.HeldLaws.{lane_held, held_agent}
+use Rattle.so_kernel.proofs.HeldLaws.{lane_held}
+use Rattle.so_kernel.proofs.HandLaws.{held_agent}
 use Rattle.so_kernel.proofs.steps.step_turn.Goals as goal
 
 pub agent-requires : goal.agent-requires

@@ -1,5 +1,5 @@
 use Rattle.std.proofs.Common.{sym, ◌∙◌}
-use Rattle.so_scene_json.proofs.Built.{is_parts, is_checked}
+use Rattle.so_scene_json.proofs.Finished.{is_parts, is_checked}
 use Rattle.so_scene_json.proofs.finish.parts_of.Goals as goal
 
 pub returns-in-Ok-clause-checked : goal.returns-in-Ok-clause-checked

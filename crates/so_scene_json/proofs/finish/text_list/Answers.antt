@@ -1,5 +1,5 @@
 use Rattle.so_scene.specs.Words.{is_text}
-use Rattle.so_scene_json.proofs.Ends.{no_other}
+use Rattle.so_scene_fields.proofs.Ends.{no_other}
 use Rattle.so_scene_json.proofs.finish.text_list.Goals as goal
 
 pub unreachable-requires : goal.unreachable-requires

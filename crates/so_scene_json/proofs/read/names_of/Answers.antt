@@ -1,7 +1,7 @@
 use Rattle.std.proofs.lemmas.Result.{err_from_is_err_and}
 use Rattle.serde_json.specs.View.{view}
-use Rattle.so_scene_json.specs.Twice.{twice_step, no_names}
-use Rattle.so_scene_json.proofs.Runs.{pass_fails}
+use Rattle.so_scene_passes.specs.Twice.{twice_step, no_names}
+use Rattle.so_scene_fields.proofs.Runs.{pass_fails}
 use Rattle.so_scene_json.proofs.read.names_of.Goals as goal
 
 pub returns-in_err-object : goal.returns-in_err-object

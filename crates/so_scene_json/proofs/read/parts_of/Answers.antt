@@ -1,8 +1,8 @@
 use Rattle.std.proofs.Common.{sym}
 use Rattle.std.proofs.lemmas.Result.{err_from_is_err_and}
 use Rattle.serde_json.specs.View.{view}
-use Rattle.so_scene_json.specs.Build.{build_step, no_parts}
-use Rattle.so_scene_json.proofs.Runs.{pass_fails}
+use Rattle.so_scene_build.specs.Build.{build_step, no_parts}
+use Rattle.so_scene_fields.proofs.Runs.{pass_fails}
 use Rattle.so_scene_json.proofs.read.parts_of.Goals as goal
 
 pub returns-in_err-object : goal.returns-in_err-object

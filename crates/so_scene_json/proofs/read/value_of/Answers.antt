@@ -4,7 +4,7 @@ use Rattle.std.proofs.lemmas.Str.{IsUtf8-from_is_utf8, is_utf8-from_IsUtf8}
 use Rattle.std.proofs.lemmas.Bool.{true≢false}
 use Rattle.serde_json.specs.Read.{read}
 use Rattle.so_scene_json.specs.Scene.{reading}
-use Rattle.so_scene_json.proofs.Numbers.{read_numbers}
+use Rattle.so_scene_json.proofs.Reading.{read_numbers}
 use Rattle.so_scene_json.proofs.read.value_of.Goals as goal
 
 no_reading : (bytes : List ℕ) (b : Bool) → is_utf8 bytes ≡ b → (b ≡ true → read bytes ≡ None) → (if b then read bytes else None) ≡ None

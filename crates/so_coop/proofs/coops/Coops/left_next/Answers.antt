@@ -2,6 +2,7 @@ use Rattle.std.proofs.Common.{◌≡◌, ◌<◌, length, ap, sym, ◌∙◌, ar
 use Rattle.so_lists.specs.Lists.{first_below}
 use Rattle.so_scene.proofs.FirstFault.{stops_here, goes_on}
 use Rattle.so_coop.specs.Coops.{CoopTable, ended_at}
+use Rattle.so_coop.proofs.CountLaws.{ended_never}
 use Rattle.so_coop.proofs.coops.Coops.left_next.Goals as goal
 
 pub returns-then-is_some : goal.returns-then-is_some
@@ -16,3 +17,6 @@ pub returns : goal.returns
 returns c =
     let same : c.loop-k.k ≡ length c.args.self.now.scene.coops = omega (arith, c.loop-k-test.false, c.loop-k.auto.k-end, c.coops-k-end.ensures, ap (λ (t : CoopTable). length t.scene.coops) c.self.view_is) in
     sym (sym (ap (first_below (ended_at c.args.self.now)) same) ∙ c.loop-k.invariant)
+
+pub returns-then-self-eq0 : goal.returns-then-self-eq0
+returns-then-self-eq0 c = rw (← c.self.view_is) (ended_never (record { scene = c.self.inside.scene.now; coops = c.self.inside.coops.items }) c.self.inside.counts c.self.invariant.counts c.if-self-eq0.true)

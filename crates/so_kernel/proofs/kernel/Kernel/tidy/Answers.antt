@@ -1,12 +1,30 @@
-use Rattle.std.proofs.Common.{sym, ◌∙◌, ap}
+use Rattle.std.proofs.Common.{sym, ◌∙◌, ap, subst}
 use Rattle.so_history.proofs.ChainLaws.{tidied}
-use Rattle.so_kernel.specs.Gates.{stepped, gated}
-use Rattle.so_kernel.proofs.KeptLaws.{gated_next}
-use Rattle.so_kernel.proofs.GateLaws.{added_tidied}
+use Rattle.so_tables.specs.declared.found.Found.TheVariants as what
+use Rattle.so_tables.specs.AfterEvents.{IsSent}
+use Rattle.so_tables.specs.Found.{IsFound}
+use Rattle.so_ledger.specs.Shapes.{Core}
+use Rattle.so_ledger.specs.Gates.{gated}
+use Rattle.so_kernel.specs.Answers.{stepped}
+use Rattle.so_kernel.proofs.AnswerLaws.{added_tidied}
+use Rattle.so_kernel.proofs.HandLaws.{found_tidied, sent_tidied}
 use Rattle.so_kernel.proofs.kernel.Kernel.tidy.Goals as goal
+
+pub add-requires-clause-found : goal.add-requires-clause-found
+add-requires-clause-found c =
+    let k = c.self.inside.ledger in
+    let P : Core → Type 0 = λ k. IsFound k.scene k.history c.in-Ok.entry.kind what.Nothing in
+    subst P (sym c.in-Ok.ensures.ok) (found_tidied k.scene k.history c.in-Ok.entry.kind (tidied k.scene k.history c.in-Ok.entry (sym c.tidying-next.ensures.value ∙ c.in-Ok.ensures.same)))
+
+pub add-requires-clause-sent : goal.add-requires-clause-sent
+add-requires-clause-sent c =
+    let k = c.self.inside.ledger in
+    let P : Core → Type 0 = λ k. IsSent k.scene k.history c.in-Ok.entry.kind c.self.inside.outcomes.queued in
+    subst P (sym c.in-Ok.ensures.ok) (sent_tidied k.scene k.history c.in-Ok.entry.kind c.self.inside.outcomes.queued (tidied k.scene k.history c.in-Ok.entry (sym c.tidying-next.ensures.value ∙ c.in-Ok.ensures.same)))
 
 pub returns-in-Ok-clause-answer : goal.returns-in-Ok-clause-answer
 returns-in-Ok-clause-answer c =
-    let e = gated_next c.args.self.now _ c.in-Ok.entry (sym c.gate.ensures.value ∙ c.in-Ok.is) in
-    added_tidied c.in-Ok.entry.kind (tidied c.args.self.now.scene c.args.self.now.history c.in-Ok.entry (sym c.tidying-next.ensures.value ∙ e))
-    ∙ ap stepped (sym c.in-Ok.is ∙ (c.gate.ensures.value ∙ ap (gated c.args.self.now) c.tidying-next.ensures.value))
+    let k = c.self.inside.ledger in
+    rw (← c.self.view_is)
+    (added_tidied c.in-Ok.entry.kind (tidied k.scene k.history c.in-Ok.entry (sym c.tidying-next.ensures.value ∙ c.in-Ok.ensures.same))
+    ∙ ap stepped (sym c.in-Ok.is ∙ (c.gate.ensures.value ∙ ap (gated k) c.tidying-next.ensures.value)))

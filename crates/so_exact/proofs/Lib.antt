@@ -1,0 +1,4 @@
+pub mod Searches
+pub mod Converse
+pub mod OneMore
+pub mod Wrong

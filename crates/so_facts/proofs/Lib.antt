@@ -1,0 +1,12 @@
+pub mod AtPlaces
+pub mod ChoosingLaws
+pub mod FirstLaws
+pub mod LaneLaws
+pub mod RefusalLaws
+pub mod ActLaws
+pub mod Shapes
+pub mod StageLaws
+pub mod LifeLaws
+pub mod MovingLaws
+pub mod EndLaws
+pub mod AllLaws

@@ -1,0 +1,10 @@
+pub mod Choosing
+pub mod Firsts
+pub mod Lanes
+pub mod Refusals
+pub mod Leavings
+pub mod Lives
+pub mod Moves
+pub mod Acts
+pub mod Ends
+pub mod All

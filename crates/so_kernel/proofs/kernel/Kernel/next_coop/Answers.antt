@@ -1,6 +1,0 @@
-use Rattle.std.proofs.Common.{◌∙◌}
-use Rattle.so_kernel.proofs.CoopTableLaws.{next-table}
-use Rattle.so_kernel.proofs.kernel.Kernel.next_coop.Goals as goal
-
-pub returns : goal.returns
-returns c = rw (← c.self.view_is) (c.next.ensures ∙ rw c.self.invariant.0.tables (next-table c.self.inside.scene.now c.self.inside.history.entries))

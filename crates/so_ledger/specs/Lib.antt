@@ -1,0 +1,4 @@
+pub mod Shapes
+pub mod Classes
+pub mod Kept
+pub mod Gates

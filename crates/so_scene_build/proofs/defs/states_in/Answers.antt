@@ -1,0 +1,7 @@
+use Rattle.std.proofs.Common.{sym}
+use Rattle.so_scene_build.specs.Defs.{state_of}
+use Rattle.so_scene_fields.proofs.Ends.{taken_all}
+use Rattle.so_scene_build.proofs.defs.states_in.Goals as goal
+
+pub returns : goal.returns
+returns c = sym (taken_all (state_of c.args.scope.now) _ _ _ c.loop-value-test.false c.loop-value.invariant)

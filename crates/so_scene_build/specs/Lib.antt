@@ -1,0 +1,5 @@
+pub mod CodeWriter
+pub mod Groups
+pub mod Defs
+pub mod Build
+pub mod Kept

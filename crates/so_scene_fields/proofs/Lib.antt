@@ -1,0 +1,4 @@
+pub mod Args
+pub mod Ends
+pub mod Numbers
+pub mod Runs

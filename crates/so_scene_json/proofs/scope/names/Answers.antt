@@ -1,7 +1,0 @@
-use Rattle.std.proofs.Common.{sym}
-use Rattle.so_scene_json.specs.Values.{name_in}
-use Rattle.so_scene_json.proofs.Ends.{taken_all}
-use Rattle.so_scene_json.proofs.scope.names.Goals as goal
-
-pub returns : goal.returns
-returns c = sym (taken_all name_in _ _ _ c.loop-value-test.false c.loop-value.invariant)

@@ -1,9 +1,0 @@
-use Rattle.so_scene_json.specs.Shape.{quote_trouble}
-use Rattle.so_scene_json.proofs.Shapes.{fixed, not_fixed}
-use Rattle.so_scene_json.proofs.shape.quote_list.Goals as goal
-
-pub returns-then-list-eq8 : goal.returns-then-list-eq8
-returns-then-list-eq8 c = fixed 8 quote_trouble _ _ c.if-list-eq8.true c.all_quotes.ensures
-
-pub returns-else-list-eq8 : goal.returns-else-list-eq8
-returns-else-list-eq8 c = not_fixed 8 quote_trouble _ c.if-list-eq8.false

@@ -1,0 +1,4 @@
+pub mod Joined
+pub mod Mboxes
+pub mod Passed
+pub mod Shapes

@@ -1,0 +1,4 @@
+pub mod Scope
+pub mod Shape
+pub mod Twice
+pub mod Known

@@ -1,0 +1,13 @@
+pub mod Attempts
+pub mod States
+pub mod Tables
+pub mod Found
+pub mod AfterAttempts
+pub mod AfterCoops
+pub mod AfterEvents
+pub mod AfterLanes
+pub mod AfterMarks
+pub mod AfterMboxes
+pub mod AfterStates
+pub mod AfterVariables
+pub mod AfterEntry

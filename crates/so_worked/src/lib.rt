@@ -1,0 +1,6 @@
+//! Worked cases as equations: what the definitions give in cases that were worked by hand, by which a reader can try
+//! them. No program code. Each lemma is a table of cases with one proof, that both sides compute to the same.
+//!
+//! An equation shows that the definition gives the case. That the code gives the definition is the contract of each
+//! function; that what was compiled gives it too is shown by the programs that run over data.
+#![tactic(auto)]
