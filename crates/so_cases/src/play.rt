@@ -1,6 +1,6 @@
 //! The trace of a row of picks.
 
-ghost use Rattle.std.specs.Prelude.{◌≡◌, ◌×◌, IfOk, All, [], false};
+ghost use Rattle.std.specs.Prelude.{◌≡◌, IfOk, All, [], false};
 ghost use Rattle.so_history.specs.Steps.{Legal};
 ghost use Rattle.so_history.specs.Chain.{IsPickInRange};
 ghost use Rattle.so_ledger.specs.Shapes.{Core};
