@@ -3,7 +3,6 @@
 
 mod entry;
 mod history;
-pub mod laws;
 mod lines;
 mod trace;
 mod words;

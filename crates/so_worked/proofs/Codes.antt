@@ -27,7 +27,7 @@ use Rattle.so_code.specs.declared.effect.Move.{Move}
 use Rattle.so_code.specs.declared.effect.Move.TheVariants.{Do, Done, Fail}
 use Rattle.so_code.specs.declared.frame.Frame.{Frame}
 use Rattle.so_code.specs.Values.{holds}
-use Rattle.so_code.specs.Openings.{begun}
+use Rattle.so_code.specs.Openings.{first_frame}
 use Rattle.so_code.specs.Machine.{after}
 use Rattle.so_code.specs.Answers.{answered}
 
@@ -46,7 +46,7 @@ nothing = record { fields = replicate 4 (pos 0); used = 0 }
 
 -- a turn of an agent whose first variable is this
 abbrev turn : Opening → ℤ → Payload → Frame
-turn o first msg = begun o (record { 0 = first ∷ replicate 15 (pos 0) }) msg
+turn o first msg = first_frame o (record { 0 = first ∷ replicate 15 (pos 0) }) msg
 
 abbrev row_turn : ℤ → Frame
 row_turn field = turn (opening.Event (chosen.Run (record { 0 = 0 }))) (pos 0) (one field)

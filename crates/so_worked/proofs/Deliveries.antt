@@ -1,6 +1,7 @@
 -- Subscriptions and filters of three agents, and what becomes of messages to them.
 use Rattle.std.proofs.Common.{◌≡◌, ℕ, List, [], ◌∷◌, Bool, true, false, None, refl}
 use Rattle.std.specs.Prelude.{ℤ, pos, negsuc, map, Ok, Err}
+use Rattle.so_ids.specs.Ids.{default_state}
 use Rattle.so_ids.specs.declared.AgentId.{AgentId}
 use Rattle.so_ids.specs.declared.Payload.{Payload}
 use Rattle.so_ids.specs.declared.Queued.{Queued}
@@ -9,7 +10,6 @@ use Rattle.so_code.specs.declared.instr.Instr.TheVariants.{End}
 use Rattle.so_code.specs.declared.instr.Body.TheVariants.{Start, Finish, Row as RowBody}
 use Rattle.so_code.specs.declared.instr.Cmp.{Cmp}
 use Rattle.so_code.specs.declared.instr.Cmp.TheVariants.{Eq, Lt, Ge}
-use Rattle.so_state.specs.States.{default_state}
 use Rattle.so_state.specs.declared.choice.Row.{Row}
 use Rattle.so_state.specs.declared.choice.RowKind.{RowKind}
 use Rattle.so_state.specs.declared.choice.RowKind.TheVariants.{Run, Dead}

@@ -4,7 +4,7 @@ use Rattle.so_history.specs.Chain.{taking_entry, lane_entry}
 use Rattle.so_history.specs.declared.entry.Pick.TheVariants.{Lane}
 use Rattle.so_ledger.specs.Shapes.{Core}
 use Rattle.so_ledger.specs.Gates.{gated}
-use Rattle.so_ledger.specs.declared.gate.Refused.TheVariants.{Nothing}
+use Rattle.so_ledger.specs.declared.gate.Barred.TheVariants.{Nothing}
 use Rattle.so_kernel.specs.declared.answers.Stepped.TheVariants.{Nothing as NothingStep}
 use Rattle.so_env.specs.Runs.{lanes_entry}
 use Rattle.so_env.proofs.StepLaws.{Steps, by_pick, unchanged, begins, first_lane, one_more}
