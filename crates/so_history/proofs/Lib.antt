@@ -1,4 +1,5 @@
 pub mod PlacesLemmas
+pub mod PackedLaws
 pub mod NameLaws
 pub mod TakingLaws
 pub mod MoveLaws

@@ -4,6 +4,7 @@
 mod entry;
 mod history;
 mod lines;
+mod packed;
 mod trace;
 mod words;
 
