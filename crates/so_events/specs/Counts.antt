@@ -1,6 +1,6 @@
 -- How many demands wait for each lane.
 use Rattle.std.specs.Prelude.{◌≡◌, ℕ, ◌+◌, ◌-◌, ◌<◌, ◌≤◌, ◌==◌, List, length, slice_index_or, slice_set, Bool, false}
-use Rattle.std.specs.List.{filter}
+use Rattle.std.specs.List.{count_by}
 use Rattle.so_ids.specs.declared.AgentId.{AgentId}
 use Rattle.so_lists.specs.Lists.{each_below}
 use Rattle.so_scene.specs.declared.parts.SceneParts.{SceneParts}
@@ -22,7 +22,7 @@ abbrev pub waits_for : SceneParts → List ℕ → ℕ → Demand → Bool
 waits_for s firsts l d = first_for s firsts d.agent == l
 
 abbrev pub waiting_for : SceneParts → List ℕ → List Demand → ℕ → ℕ
-waiting_for s firsts ds l = length (filter (waits_for s firsts l) ds)
+waiting_for s firsts ds l = count_by (waits_for s firsts l) ds
 
 abbrev pub one_demand_more : ℕ → List ℕ → List ℕ
 one_demand_more l counts = slice_set counts l (slice_index_or counts l 0 + 1)
