@@ -81,3 +81,6 @@ pub past_end : (xs : List Queued) (k : ℕ) → k < length xs → slice_get xs k
 past_end [] k l none = absurd (omega arith)
 past_end (x ∷ xs) zero l none = cc
 past_end (x ∷ xs) (suc k) l none = past_end xs k (omega (arith, l)) none
+
+pub event_known : (n : ℕ) (xs : List Queued) (k : ℕ) (x : Queued) → slice_get xs k ≡ Some x → All (λ (e : Queued). e.agent.0 < n) xs → x.agent.0 < n
+event_known n xs k x here all = all k x here

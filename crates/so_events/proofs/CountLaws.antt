@@ -1,5 +1,5 @@
 -- How many demands wait for each lane, after one more or one less.
-use Rattle.std.proofs.Common.{◌≡◌, ℕ, zero, suc, ◌+◌, ◌-◌, ◌<◌, ◌≤◌, List, [], ◌∷◌, ◌++◌, length, Bool, true, false, ◌&&◌, cond, Some, None, arith, refl, sym, ◌∙◌, ap, inl, inr}
+use Rattle.std.proofs.Common.{◌≡◌, ℕ, zero, suc, ◌+◌, ◌-◌, ◌<◌, ◌≤◌, List, [], ◌∷◌, ◌++◌, length, Bool, true, false, ◌&&◌, cond, Some, None, arith, refl, sym, ◌∙◌, ap, subst, inl, inr}
 use Rattle.std.specs.Prelude.{◌==◌, slice_index_or, slice_set, replicate}
 use Rattle.std.specs.List.{count_by, find, AllByRecursion}
 use Rattle.std.proofs.lemmas.Bool.{cases_Bool, cases_lt, eq-eqb, ne_eqb, eqb-true}
@@ -10,7 +10,7 @@ use Rattle.so_ids.specs.Ids.{is_earlier}
 use Rattle.so_lists.specs.Lists.{each_below}
 use Rattle.so_lists.proofs.Counts.{none-counted}
 use Rattle.so_lists.proofs.Filters.{found, each-weaker, both_each}
-use Rattle.so_lists.proofs.EachBelow.{get_or-each_below, each_below-set, each_below-replicate}
+use Rattle.so_lists.proofs.EachBelow.{length-each_below, get_or-each_below, each_below-set, each_below-replicate}
 use Rattle.so_scene.specs.declared.parts.SceneParts.{SceneParts}
 use Rattle.so_scene.specs.Lanes.{keys, key_of, lanes, serves}
 use Rattle.so_scene.proofs.LaneLaws.{key_in_range}
@@ -20,7 +20,8 @@ use Rattle.so_history.specs.Demands.{without}
 use Rattle.so_history.proofs.NameLaws.{itself}
 use Rattle.so_events.specs.Events.{EventTable, may_take_by}
 use Rattle.so_events.specs.Tied.{AreInOrder, is_at}
-use Rattle.so_events.specs.Counts.{AreFirst, first_for, waits_for, waiting_for, one_demand_more, one_demand_less}
+use Rattle.so_events.specs.declared.counts.LaneCounts.{LaneCounts}
+use Rattle.so_events.specs.Counts.{AreFirst, IsCounted, first_for, waits_for, waiting_for, one_demand_more, one_demand_less}
 use Rattle.so_events.proofs.NameOrder.{other_way}
 
 -- no demand waits
@@ -129,3 +130,29 @@ none_taken t firsts l n class first known before none =
     not_found (may_take_by t class (record { 0 = l })) t.waiting
     (each-weaker (λ (x : Demand). serves t.scene (record { 0 = l }) (key_of t.scene x.agent) ≡ false) (λ (x : Demand). may_take_by t class (record { 0 = l }) x ≡ false)
     (λ x off. rw off refl) t.waiting (none_serves t.scene firsts t.waiting l n first known before none))
+
+-- ---- the counts after one more or one less
+
+pub counts_size : (s : SceneParts) (ds : List Demand) (c : LaneCounts) → IsCounted s ds c → length c.waiting.items ≡ lanes s + 1
+counts_size s ds c are = ap length are.counts ∙ length-each_below (waiting_for s c.firsts.items ds) (lanes s + 1)
+
+pub after_more : (s : SceneParts) (ds : List Demand) (d : Demand) (old new : LaneCounts) → IsCounted s ds old → d.agent.0 < length s.agents → new.firsts ≡ old.firsts → new.waiting.items ≡ one_demand_more (first_for s old.firsts.items d.agent) old.waiting.items → IsCounted s (ds ++ d ∷ []) new
+after_more s ds d old new are known firsts waiting = record {
+  first = subst (λ v. AreFirst s v.items) (sym firsts) are.first;
+  counts = waiting ∙ (counted_more s old.firsts.items old.waiting.items ds d are.first known are.counts ∙ ap (λ v. each_below (waiting_for s v.items (ds ++ d ∷ [])) (lanes s + 1)) (sym firsts));
+}
+
+pub after_less : (s : SceneParts) (ds : List Demand) (d : Demand) (n : ℕ) (old new : LaneCounts) → IsCounted s ds old → d.agent.0 < length s.agents → AreInOrder ds → find (is_at s n) ds ≡ Some d → new.firsts ≡ old.firsts → new.waiting.items ≡ one_demand_less (first_for s old.firsts.items d.agent) old.waiting.items →
+    IsCounted s (without d.id ds) new
+after_less s ds d n old new are known order is firsts waiting = record {
+  first = subst (λ v. AreFirst s v.items) (sym firsts) are.first;
+  counts = waiting ∙ (counted_less s old.firsts.items old.waiting.items ds d are.first known are.counts order n is ∙ ap (λ v. each_below (waiting_for s v.items (without d.id ds)) (lanes s + 1)) (sym firsts));
+}
+
+-- what holds below a number, and there
+pub holds_below-next : (P : ℕ → Type 0) (n : ℕ) → ((j : ℕ) → j < n → P j) → P n → (j : ℕ) → j < n + 1 → P j
+holds_below-next P n all here j within =
+    elim (cases_lt j n) [
+      | inl before ↦ all j before
+      | inr past ↦ (let same : n ≡ j = omega (arith, past, within) in subst P same here)
+    ]
