@@ -149,10 +149,6 @@ after_less s ds d n old new are known order is firsts waiting = record {
   counts = waiting ∙ (counted_less s old.firsts.items old.waiting.items ds d are.first known are.counts order n is ∙ ap (λ v. each_below (waiting_for s v.items (without d.id ds)) (lanes s + 1)) (sym firsts));
 }
 
--- what holds below a number, and there
-pub holds_below-next : (P : ℕ → Type 0) (n : ℕ) → ((j : ℕ) → j < n → P j) → P n → (j : ℕ) → j < n + 1 → P j
-holds_below-next P n all here j within =
-    elim (cases_lt j n) [
-      | inl before ↦ all j before
-      | inr past ↦ (let same : n ≡ j = omega (arith, past, within) in subst P same here)
-    ]
+-- counts of none are of lanes for which none waits
+pub none_before : (s : SceneParts) (ds : List Demand) (c : LaneCounts) (n : ℕ) → IsCounted s ds c → n ≤ lanes s → ((j : ℕ) → j < n → slice_index_or c.waiting.items j 0 ≡ 0) → (j : ℕ) → j < n → waiting_for s c.firsts.items ds j ≡ 0
+none_before s ds c n are few none j within = sym (counted_at s c.firsts.items c.waiting.items ds j are.counts (omega (arith, few, within))) ∙ none j within

@@ -1,4 +1,4 @@
-use Rattle.std.proofs.Common.{◌≡◌, ◌<◌, ◌+◌, ◌∙◌, length, map, take, ap, arith, refl, subst, sym, true, rules}
+use Rattle.std.proofs.Common.{◌≡◌, ◌<◌, ◌≤◌, ◌+◌, ◌∙◌, length, map, take, ap, arith, refl, subst, sym, true, rules}
 use Rattle.std.specs.List.{AllByRecursion}
 use Rattle.std.proofs.lemmas.List.{length-append, length-map}
 use Rattle.so_ids.specs.declared.DemandId.{DemandId}
@@ -9,7 +9,7 @@ use Rattle.so_history.specs.declared.entry.Demand.{Demand}
 use Rattle.so_history.specs.Demands.{ask, demands_from}
 use Rattle.so_history.proofs.NameLaws.{length-demands_from}
 use Rattle.so_events.specs.Events.{EventTable}
-use Rattle.so_events.proofs.Asking.{events_next, length_taken, past_end}
+use Rattle.so_events.proofs.Asking.{events_next, length_taken, past_end, event_known}
 use Rattle.so_events.proofs.TiedLaws.{numbers_before}
 use Rattle.so_events.proofs.events.Events.push_events.Goals as goal
 
@@ -42,7 +42,7 @@ push-requires-clause-last c =
     let here = sym c.queued_at.ensures ∙ c.in-Some.is in
     let id : DemandId = record { place = c.args.place; k = c.loop-k.k } in
     let asked = map ask (take c.loop-k.k c.args.outcomes.now.queued) in
-    let few = omega (arith, length-map (take c.loop-k.k c.args.outcomes.now.queued) ask, length_taken c.args.outcomes.now.queued c.loop-k.k c.in-Some.event here) in
+    let few : 0 + length asked ≤ c.loop-k.k = omega (arith, length-map (take c.loop-k.k c.args.outcomes.now.queued) ask, length_taken c.args.outcomes.now.queued c.loop-k.k c.in-Some.event here) in
     let P : EventTable → Type 0 = λ v. AllByRecursion (λ (d : Demand). is_earlier d.id id ≡ true) v.queued in
     rw (c.demand_of.ensures)
     (subst P (sym c.loop-k.invariant)
