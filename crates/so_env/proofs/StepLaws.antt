@@ -1,10 +1,14 @@
 -- A step that says Nothing leaves the next step to be tried, and any other answer is the answer.
 use Rattle.std.proofs.Common.{◌≡◌, ℕ, ◌+◌, ◌<◌, Bool, true, false, cond, Option, None, Err, refl, sym, ◌∙◌, ap, subst, add-one, inl, inr}
+use Rattle.std.specs.Option.{option_map}
 use Rattle.std.proofs.lemmas.Bool.{cases_Bool}
 use Rattle.so_ids.specs.declared.LaneId.{LaneId}
+use Rattle.so_ids.specs.Ids.{party_of}
 use Rattle.so_lists.specs.Lists.{or_else}
+use Rattle.so_lists.proofs.First.{first_below-none}
 use Rattle.so_scene.specs.Lanes.{lanes}
 use Rattle.so_history.specs.declared.entry.Entry.{Entry}
+use Rattle.so_history.specs.Order.{pick, taking}
 use Rattle.so_history.specs.Chain.{taking_entry, lane_entry, pick_entry, step_of, first_entry, first}
 use Rattle.so_history.specs.declared.entry.Pick.{Pick}
 use Rattle.so_history.specs.Coops.{aborted}
@@ -92,3 +96,7 @@ first_free k free =
       | inl y ↦ same_over k _ _ y
       | inr f ↦ ap (gated k) (first-free k.scene k.history (free f))
     ]
+
+-- lanes that may take no demand begin nothing
+pub none_before : (k : Core) (n : ℕ) → ((l : ℕ) → l < n → pick k.scene k.history (record { 0 = l }) ≡ None) → lanes_entry k n ≡ None
+none_before k n none = first_below-none (λ l. taking_entry k.scene k.history (record { 0 = l })) n (λ l within. ap (option_map (λ d. record { by = party_of (record { 0 = l }); kind = taking k.scene k.history (record { 0 = l }) d })) (none l within))
