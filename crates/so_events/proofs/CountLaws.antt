@@ -1,18 +1,16 @@
 -- How many demands wait for each lane, after one more or one less.
-use Rattle.std.proofs.Common.{◌≡◌, ℕ, zero, suc, ◌+◌, ◌-◌, ◌<◌, ◌≤◌, List, [], ◌∷◌, ◌++◌, length, Bool, true, false, ◌&&◌, cond, Some, None, arith, refl, sym, ◌∙◌, ap, subst, inl, inr}
-use Rattle.std.specs.Prelude.{◌==◌, slice_index_or, slice_set, replicate}
-use Rattle.std.specs.List.{count_by, find, AllByRecursion}
-use Rattle.std.proofs.lemmas.Bool.{cases_Bool, cases_lt, eq-eqb, ne_eqb, eqb-true}
+use Rattle.std.proofs.Common.{◌≡◌, ℕ, ◌+◌, ◌-◌, ◌<◌, ◌≤◌, List, [], ◌∷◌, ◌++◌, length, Bool, true, false, cond, Some, None, arith, refl, sym, ◌∙◌, ap, subst, inl, inr}
+use Rattle.std.specs.Prelude.{slice_index_or, slice_set, replicate}
+use Rattle.std.specs.List.{find, AllByRecursion}
+use Rattle.std.proofs.lemmas.Bool.{cases_Bool, cases_lt, eq-eqb, ne_eqb}
 use Rattle.std.proofs.lemmas.List.Sums.{sum_by_push, sum_by-cons, count_by-le-length}
 use Rattle.so_ids.specs.declared.DemandId.{DemandId}
-use Rattle.so_ids.specs.declared.LaneId.{LaneId}
 use Rattle.so_ids.specs.Ids.{is_earlier}
 use Rattle.so_lists.specs.Lists.{each_below}
-use Rattle.so_lists.proofs.Counts.{none-counted}
-use Rattle.so_lists.proofs.Filters.{found, each-weaker, both_each}
+use Rattle.so_lists.proofs.Filters.{found, each-weaker}
 use Rattle.so_lists.proofs.EachBelow.{length-each_below, get_or-each_below, each_below-set, each_below-replicate}
 use Rattle.so_scene.specs.declared.parts.SceneParts.{SceneParts}
-use Rattle.so_scene.specs.Lanes.{keys, key_of, lanes, serves}
+use Rattle.so_scene.specs.Lanes.{key_of, lanes, serves}
 use Rattle.so_scene.proofs.LaneLaws.{key_in_range}
 use Rattle.so_disp_adv.specs.declared.heads.HeadClass.{HeadClass}
 use Rattle.so_history.specs.declared.entry.Demand.{Demand}

@@ -1,30 +1,28 @@
 -- The queues after a demand more or less.
-use Rattle.std.proofs.Common.{◌≡◌, ℕ, zero, suc, ◌+◌, ◌*◌, ◌<◌, ◌≤◌, List, [], ◌∷◌, ◌++◌, length, map, Bool, true, false, ◌||◌, ◌&&◌, not, Some, arith, refl, sym, ◌∙◌, ap, subst, inl, inr, append_assoc}
+use Rattle.std.proofs.Common.{◌≡◌, ℕ, zero, suc, ◌+◌, ◌*◌, ◌<◌, ◌≤◌, List, [], ◌∷◌, ◌++◌, length, map, Bool, true, false, ◌||◌, ◌&&◌, not, Some, arith, refl, sym, ◌∙◌, ap, subst, inl, inr}
 use Rattle.std.specs.Prelude.{slice_set, slice_index_or, replicate}
-use Rattle.std.specs.List.{filter, find, All, AllByRecursion}
+use Rattle.std.specs.List.{filter, find, AllByRecursion}
 use Rattle.std.proofs.lemmas.Bool.{cases_Bool, cases_lt, eq-eqb, ne_eqb, eqb-true}
 use Rattle.std.proofs.lemmas.List.{append-nil, length-append, map-append, length-replicate, get_or_past}
 use Rattle.std.proofs.lemmas.List.Elements.{filter-append}
 use Rattle.so_ids.specs.declared.DemandId.{DemandId}
-use Rattle.so_ids.specs.declared.Place.{Place}
-use Rattle.so_ids.specs.declared.Queued.{Queued}
 use Rattle.so_ids.specs.Ids.{same_demand, is_earlier}
 use Rattle.so_lists.specs.Lists.{each_below}
-use Rattle.so_lists.proofs.Filters.{each-append, each-weaker, each-filter, found, filter-filter, filter-short, both_each, ap2_append}
+use Rattle.so_lists.proofs.Filters.{each-append, each-weaker, each-filter, found, filter-filter, filter-short, ap2_append}
 use Rattle.so_lists.proofs.EachBelow.{get_or-each_below, length-each_below, each_below-set, each_below-replicate}
 use Rattle.so_scene.specs.declared.parts.SceneParts.{SceneParts}
 use Rattle.so_scene.specs.Lanes.{keys, key_of}
 use Rattle.so_queue.specs.Queues.{QueueTable, no_demands, list_at, head_of, behind_head, IsAmong, after_take}
-use Rattle.so_queue.proofs.OrderLaws.{earlier_at_once, earlier_there}
+use Rattle.so_queue.proofs.OrderLaws.{earlier_there}
 use Rattle.so_scene.specs.Parts.{priority_of}
-use Rattle.so_deliver.specs.Commit.{after_demand, committed_from}
+use Rattle.so_deliver.specs.Commit.{after_demand}
 use Rattle.so_history.specs.declared.entry.Demand.{Demand}
-use Rattle.so_history.specs.Demands.{Asked, ask, demands_from, without}
-use Rattle.so_history.proofs.NameLaws.{itself, filter-without, demands_from_sorted, named_here}
+use Rattle.so_history.specs.Demands.{Asked, demands_from, without}
+use Rattle.so_history.proofs.NameLaws.{itself, filter-without}
 use Rattle.so_events.specs.Events.{place_of, is_beside}
 use Rattle.so_events.specs.Tied.{AreInOrder, id_of, is_at, ids_at, waits_in, waiting_in, IsTied}
 use Rattle.so_events.proofs.ListLaws.{filter_same_each, or-right, or-nothing}
-use Rattle.so_events.proofs.NameOrder.{sorted_of, order_of, order-filter, order-last, other_way}
+use Rattle.so_events.proofs.NameOrder.{sorted_of, order-filter, order-last, other_way}
 use Rattle.so_events.proofs.HeldLaws.{place_known, held_is}
 
 -- ---- nothing waits

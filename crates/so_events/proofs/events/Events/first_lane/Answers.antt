@@ -1,6 +1,6 @@
-use Rattle.std.proofs.Common.{◌≡◌, ℕ, ◌<◌, ◌≤◌, ◌∙◌, length, None, arith, rules, sym, refl}
+use Rattle.std.proofs.Common.{◌≡◌, ℕ, ◌<◌, ◌≤◌, length, None, arith, rules, refl}
 use Rattle.std.specs.Prelude.{vec_len, slice_index_or}
-use Rattle.std.specs.List.{AllByRecursion, find}
+use Rattle.std.specs.List.{find}
 use Rattle.so_ids.specs.declared.DemandId.{DemandId}
 use Rattle.so_lists.proofs.Filters.{each-filter}
 use Rattle.so_scene.specs.Lanes.{lanes}
