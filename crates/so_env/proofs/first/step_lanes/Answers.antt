@@ -13,7 +13,7 @@ use Rattle.so_env.proofs.first.step_lanes.Goals as goal
 pub loop-lane-init : goal.loop-lane-init
 loop-lane-init c =
     let k = c.args.kernel.now in
-    let none : lanes_entry k c.first_lane.result ≡ None = none_before k c.first_lane.result c.first_lane.ensures.none in
+    let none : lanes_entry k c.first_lane-lane.result ≡ None = none_before k c.first_lane-lane.result c.first_lane-lane.ensures.none in
     (refl, c.requires.held, ap (gated k) none ∙ c.requires.going)
 
 pub returns-in_default : goal.returns-in_default
