@@ -1,5 +1,4 @@
-use Rattle.std.proofs.Common.{◌≡◌, ◌<◌, ◌∙◌, sym, ap, arith}
-use Rattle.so_scene.specs.Lanes.{lanes}
+use Rattle.std.proofs.Common.{◌∙◌, sym, ap}
 use Rattle.so_history.specs.declared.entry.Pick.TheVariants.{Lane}
 use Rattle.so_ledger.specs.Gates.{core_after}
 use Rattle.so_kernel.specs.Answers.{step_answers}

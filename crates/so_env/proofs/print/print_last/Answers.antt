@@ -1,4 +1,4 @@
-use Rattle.std.proofs.Common.{◌≡◌, sym, ◌∙◌}
+use Rattle.std.proofs.Common.{sym, ◌∙◌}
 use Rattle.so_env.proofs.PrintLaws.{printing_more}
 use Rattle.so_env.proofs.print.print_last.Goals as goal
 
