@@ -1,10 +1,11 @@
 -- What the run of a ring gives, and how many of its turns began.
-use Rattle.std.proofs.Common.{◌≡◌, ℕ, zero, suc, ◌+◌, ◌-◌, ◌==◌, ◌<◌, ◌≤◌, List, [], ◌∷◌, ◌++◌, length, cond, Bool, true, false, Option, Some, None, Result, Ok, Err, count_by, refl, sym, ap, ◌∙◌, subst, arith, length-append, if◌then◌else◌}
+use Rattle.std.proofs.Common.{◌≡◌, ℕ, zero, suc, ◌+◌, ◌-◌, ◌==◌, ◌<◌, ◌≤◌, List, [], ◌∷◌, length, cond, Bool, true, false, Option, Some, None, Result, Ok, Err, count_by, refl, sym, ap, ◌∙◌, subst, arith, inl, length-append, if◌then◌else◌}
 use Rattle.std.specs.Prelude.{nat_lt, IfSome}
 use Rattle.std.specs.Option.{ok_or}
 use Rattle.so_lists.proofs.Counts.{count-append}
 use Rattle.std.proofs.lemmas.Bool.{lt-ltb, le-ltb, eqb-true}
 use Rattle.std.proofs.lemmas.Option.{none-some, same_Some}
+use Rattle.so_io.specs.Count.{HasCause}
 use Rattle.so_scene.specs.declared.parts.SceneParts.{SceneParts}
 use Rattle.so_history.specs.declared.entry.Entry.{Entry}
 use Rattle.so_history.specs.declared.lines.Mode.TheVariants.{Plain}
@@ -13,10 +14,12 @@ use Rattle.so_history.proofs.PlaceLaws.{inside}
 use Rattle.so_history.specs.Demands.{demands, queued_by}
 use Rattle.so_history.specs.Units.{units}
 use Rattle.so_env.specs.declared.outcome.Cause.{Cause}
-use Rattle.so_env.specs.Prints.{HasRisen, IsSimulated, cause_of}
+use Rattle.so_env.specs.declared.outcome.Cause.TheVariants.{Done, Write}
+use Rattle.so_env.specs.Prints.{Printed, HasRisen, IsSimulated, cause_of}
 use Rattle.so_ring.specs.Ring.{ring}
-use Rattle.sorun.specs.Loads.{ring_units, begins, handled}
-use Rattle.sorun.specs.Answers.{status_of, status_after, IsRingRun}
+use Rattle.sorun.specs.Loads.{ring_units, begins, handled, load_line}
+use Rattle.sorun.specs.Answers.{status_of, status_after, run_line, IsRingRun, LoadAnswers}
+use Rattle.sorun.specs.declared.report.Report.{Report}
 use Rattle.sorun.specs.declared.load.Run.{Run}
 
 -- a sink that counts no faults has none
@@ -104,3 +107,33 @@ held P o x is h = subst (λ v. IfSome v P) is h
 pub positive : (n : ℕ) → (n ≡ 0 → ⊥) → 1 ≤ n
 positive zero some = absurd (some refl)
 positive (suc n) some = omega arith
+
+-- ---- the line on a run that was handed out
+
+told_line : (count : ℕ) (run : Run) → IsRingRun count run → load_line count (length run.history.entries) run.demands (handled run.history.entries) run.status ≡ run_line count run.history.entries
+told_line count run is =
+    ap (λ n. load_line count (length run.history.entries) n (handled run.history.entries) run.status) is.demands
+    ∙ ap (load_line count (length run.history.entries) (length (demands (ring count) run.history.entries)) (handled run.history.entries)) is.status
+
+pub run_told : (count : ℕ) (run : Run) (r : Report) (line : List ℕ) (failed : Bool) (a b : Option (List ℕ)) (x y : ℕ) → IsRingRun count run → r.scene ≡ Some run.scene → r.history ≡ Some run.history → r.pieces ≡ 1 → r.cause ≡ (if failed then Write else Done) →
+    line ≡ load_line count (length run.history.entries) run.demands (handled run.history.entries) run.status → Printed failed a b line → HasRisen failed x y → LoadAnswers count r a b x y
+run_told count run r line failed a b x y is scene has one cause line_is printed risen =
+    inl (record {
+      scene = scene ∙ ap Some is.scene;
+      kept = run.history;
+      has = has;
+      chain = is.chain;
+      legal = is.legal;
+      facts = is.facts;
+      one_piece = one;
+      failed = failed;
+      is = cause;
+      printed = subst (Printed failed a b) (line_is ∙ told_line count run is) printed;
+      risen = risen;
+    })
+
+pub risen_ok : {T E : Type 0} (x y : ℕ) (v : T) → HasCause {E = E} x y (Ok v) → HasRisen false x y
+risen_ok x y v has = record { later = has.later; rose = λ e. cc }
+
+pub risen_err : {T E : Type 0} (x y : ℕ) (e : E) → HasCause {T = T} x y (Err e) → HasRisen true x y
+risen_err x y e has = record { later = has.later; rose = λ _. has.failed }

@@ -1,4 +1,4 @@
-use Rattle.std.proofs.Common.{rules, ◌≡◌, ◌<◌, ◌≤◌, ℕ, ◌+◌, ◌-◌, ◌*◌, length, Bool, true, false, List, [], ◌∷◌, Option, Some, None, Result, Ok, Err, sym, ap, ◌∙◌, subst, arith, refl}
+use Rattle.std.proofs.Common.{◌-◌, sym, ◌∙◌}
 use Rattle.sorun.proofs.LimitLaws.{size_is}
 use Rattle.sorun.proofs.LoadLaws.{from_ok}
 use Rattle.sorun.proofs.commands.load_of.Goals as goal

@@ -1,4 +1,4 @@
-use Rattle.std.proofs.Common.{rules, ◌≡◌, ◌<◌, ◌≤◌, ℕ, ◌+◌, length, sym, ap, ◌∙◌, arith, refl}
+use Rattle.std.proofs.Common.{◌≡◌, length, sym, ap, ◌∙◌, arith, refl}
 use Rattle.sorun.specs.Loads.{begins, handled}
 use Rattle.sorun.proofs.LoadLaws.{below, below-none, below-all, handled-more, bit-small}
 use Rattle.sorun.proofs.load.handled.Goals as goal

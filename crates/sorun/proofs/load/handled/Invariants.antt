@@ -1,4 +1,4 @@
-use Rattle.std.proofs.Common.{◌≡◌, ◌<◌, ◌≤◌, ℕ, ◌+◌, length}
+use Rattle.std.proofs.Common.{◌≡◌, ◌≤◌}
 use Rattle.sorun.specs.Loads.{handled}
 use Rattle.sorun.proofs.LoadLaws.{below}
 use Rattle.sorun.proofs.load.handled.Given as goal

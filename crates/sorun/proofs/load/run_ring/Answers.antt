@@ -1,4 +1,4 @@
-use Rattle.std.proofs.Common.{rules, ◌≡◌, ◌<◌, ◌≤◌, ℕ, ◌+◌, ◌-◌, ◌*◌, length, Bool, true, false, List, [], ◌∷◌, Option, Some, None, Result, Ok, Err, sym, ap, ◌∙◌, subst, arith, refl}
+use Rattle.std.proofs.Common.{◌≡◌, ◌-◌, Some, None, ap, refl}
 use Rattle.so_history.specs.Kept.{Kept}
 use Rattle.so_history.specs.Units.{units}
 use Rattle.so_history.specs.declared.lines.Mode.TheVariants.{Plain}

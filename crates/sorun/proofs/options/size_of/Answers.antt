@@ -1,4 +1,4 @@
-use Rattle.std.proofs.Common.{rules, ◌≡◌, ◌<◌, ◌≤◌, ℕ, ◌+◌, ◌-◌, ◌*◌, length, Bool, true, false, List, [], ◌∷◌, Option, Some, None, Result, Ok, Err, sym, ap, ◌∙◌, subst, arith, refl}
+use Rattle.std.proofs.Common.{◌-◌, true, false, sym, ◌∙◌, subst}
 use Rattle.sorun.specs.Options.{most_size_digits}
 use Rattle.sorun.specs.Sentences.{IsWritten}
 use Rattle.sorun.proofs.LimitLaws.{size-word, size-none, size-zero}
