@@ -285,3 +285,7 @@ each_other_entry_has_its_words = rw one_is (rw two_is (rw three_is (rw six_is (r
 
 a_line_begins_with_its_place_and_its_party : trace_line 8 (record { by = record { 0 = 1 }; kind = entry.Left (record { 0 = 3 }) }) ≡ codes "8 p1 left 3\n"
 a_line_begins_with_its_place_and_its_party = rw one_is (rw three_is (rw eight_is refl))
+
+-- main's, which is party 0
+a_refusal_of_main_has_its_line : trace_line 8 (record { by = record { 0 = 0 }; kind = entry.Refuse (record { 0 = 2 }) refusal.Present }) ≡ codes "8 p0 refuse 2 present\n"
+a_refusal_of_main_has_its_line = rw zero_is (rw two_is (rw eight_is refl))
