@@ -178,12 +178,9 @@ unfinished c t = (standing_at t c).unfinished
 abbrev big_leaves : CoopTable
 big_leaves = after_leave_begin big (after_enter big none)
 
-abbrev one_finished : CoopTable
-one_finished = after_finished (record { 0 = 2 }) big_leaves
-
 -- turns are counted, and not agents: after a second one of the first of two none is to come, and none after a second one of an only
 finish_turns_are_counted_down_to_none :
-    (map (unfinished big) (big_leaves ∷ one_finished ∷ after_finished (record { 0 = 2 }) one_finished ∷ []) ≡ 2 ∷ 1 ∷ 0 ∷ [])
+    (map (unfinished big) (big_leaves ∷ after_finished (record { 0 = 2 }) big_leaves ∷ after_finished (record { 0 = 2 }) (after_finished (record { 0 = 2 }) big_leaves) ∷ []) ≡ 2 ∷ 1 ∷ 0 ∷ [])
     × (map (unfinished parent) (both_leave ∷ parent_finished ∷ after_finished (record { 0 = 0 }) parent_finished ∷ []) ≡ 1 ∷ 0 ∷ 0 ∷ [])
 finish_turns_are_counted_down_to_none = (refl, refl)
 

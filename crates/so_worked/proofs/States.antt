@@ -114,9 +114,10 @@ a_switch_goes_by_the_history = refl
 
 -- ---- what a tree tells of its states
 
+-- the path from inner to outer, and down
 a_state_has_its_parent_and_its_path :
-    (state_of (two_levels Deep) (state 4) ≡ Some (first_in 3)) × (parent_of (two_levels Deep) (state 4) ≡ Some (state 3)) × (path (two_levels Deep) (state 5) ≡ state 5 ∷ state 3 ∷ state 1 ∷ [])
-a_state_has_its_parent_and_its_path = (refl, refl, refl)
+    (state_of (two_levels Deep) (state 4) ≡ Some (first_in 3)) × (parent_of (two_levels Deep) (state 4) ≡ Some (state 3)) × (path (two_levels Deep) (state 5) ≡ state 5 ∷ state 3 ∷ state 1 ∷ []) × (reverse (path (two_levels Deep) (state 5)) ≡ state 1 ∷ state 3 ∷ state 5 ∷ [])
+a_state_has_its_parent_and_its_path = (refl, refl, refl, refl)
 
 a_state_has_its_initial_substate_its_history_and_its_limit :
     (initial_of (two_levels Deep) (state 3) ≡ Some (state 4)) × (history_of (two_levels Deep) (state 1) ≡ Deep) × (limit_of (two_levels Deep) (state 6) ≡ Some (750, state 1))
@@ -129,16 +130,9 @@ a_tree_has_its_states_in_order_of_number :
     (length (two_levels Deep) ≡ 6) × (declared (two_levels Deep) ≡ state 1 ∷ state 2 ∷ state 3 ∷ state 4 ∷ state 5 ∷ state 6 ∷ []) × (map (state_of (two_levels Deep)) (declared (two_levels Deep)) ≡ map Some (two_levels Deep))
 a_tree_has_its_states_in_order_of_number = (refl, refl, refl)
 
--- from outer to inner
-a_path_down_ends_in_its_state : (reverse (path (two_levels Deep) (state 5)) ≡ state 1 ∷ state 3 ∷ state 5 ∷ []) × (reverse (path (two_levels Deep) (state 6)) ≡ state 6 ∷ [])
-a_path_down_ends_in_its_state = (refl, refl)
-
--- the tree of an agent that declares no state; no other is empty
-abbrev flat : List State
-flat = []
-
-a_flat_tree_has_only_the_default_state : (length flat ≡ 0) × (declared flat ≡ []) × (state_of flat (state 0) ≡ None) × (is_leaf flat (state 0) ≡ true) × (path flat (state 0) ≡ state 0 ∷ []) × (two_levels Deep ≡ flat → ⊥)
-a_flat_tree_has_only_the_default_state = (refl, refl, refl, refl, refl, λ e. cc)
+-- the tree of an agent that declares no state, which is empty as no other is
+a_flat_tree_has_only_the_default_state : (declared [] ≡ []) × (state_of [] (state 0) ≡ None) × (is_leaf [] (state 0) ≡ true) × (path [] (state 0) ≡ state 0 ∷ []) × (two_levels Deep ≡ [] → ⊥)
+a_flat_tree_has_only_the_default_state = (refl, refl, refl, refl, λ e. cc)
 
 -- ---- choices
 

@@ -39,11 +39,6 @@ each_does_its_task_as_it_fires :
     ≡ (Some (signal 2) ∷ Some (limit 3) ∷ Some (limit 0) ∷ None ∷ None ∷ [])
 each_does_its_task_as_it_fires = refl
 
-the_earliest_deadline_is_the_least_above_a_time :
-    (earliest_of 4 four.armed ∷ earliest_of 5 four.armed ∷ earliest_of 7 four.armed ∷ []) ≡ (Some 5 ∷ Some 7 ∷ None ∷ [])
-unfolding earliest_of
-the_earliest_deadline_is_the_least_above_a_time = refl
-
 a_cancelled_timer_is_not_armed : (is_armed 1 four.armed ∷ is_armed 1 three.armed ∷ is_armed 9 three.armed ∷ []) ≡ (true ∷ false ∷ false ∷ [])
 a_cancelled_timer_is_not_armed = refl
 
@@ -82,10 +77,11 @@ a_periodic_timer_keeps_its_number :
 unfolding next_of
 a_periodic_timer_keeps_its_number = refl
 
-the_next_deadline_is_the_last_and_the_period :
-    (earliest_of 5 fired_once.armed ∷ earliest_of 10 fired_twice.armed ∷ earliest_of 15 fired_twice.armed ∷ []) ≡ (Some 10 ∷ Some 15 ∷ None ∷ [])
+the_earliest_deadline_is_the_least_above_a_time :
+    (earliest_of 4 four.armed ∷ earliest_of 5 four.armed ∷ earliest_of 7 four.armed ∷ earliest_of 5 fired_once.armed ∷ earliest_of 10 fired_twice.armed ∷ earliest_of 15 fired_twice.armed ∷ [])
+    ≡ (Some 5 ∷ Some 7 ∷ None ∷ Some 10 ∷ Some 15 ∷ None ∷ [])
 unfolding earliest_of
-the_next_deadline_is_the_last_and_the_period = refl
+the_earliest_deadline_is_the_least_above_a_time = refl
 
 a_cancelled_periodic_timer_does_not_fire_again : (task_of 0 fired_twice.armed ≡ Some (signal 0)) × (due_of 100 (after_cancel 0 (after_fire 1 fired_twice)).armed ≡ None)
 unfolding next_of
