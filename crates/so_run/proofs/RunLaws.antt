@@ -9,6 +9,7 @@ use Rattle.so_scene.specs.Checked.{IsScene}
 use Rattle.so_history.specs.declared.entry.Entry.{Entry}
 use Rattle.so_history.specs.declared.lines.Mode.{Mode}
 use Rattle.so_history.specs.Steps.{is_over, Legal}
+use Rattle.so_history.specs.Units.{units}
 use Rattle.so_facts.proofs.AllLaws.{has_all_facts}
 use Rattle.so_ledger.specs.Kept.{HasTooLarge}
 use Rattle.so_book.specs.declared.Chronicle.{Ghosts}
@@ -79,8 +80,8 @@ limit_case s n q h scene limit same (inr full) sound going =
 
 -- the value that comes out of the book has just main's history
 pub has_run : {g : Ghosts Run Line} (b : Book Run Line) (s : SceneParts) (n : ℕ) (mode : Mode) (failed : Bool) (m : ℕ) (u v : Option (List ℕ)) (x y : ℕ) (passes : List (Pass Run Line g)) → IsLed b s n mode failed m u v x y passes → (q : Run) → All (IsKept line_signer (lines_of q)) passes → IsSound q →
-    (h : List Entry) (cause : Cause) (p : ℕ) → h ≡ q.kernel.history → cause ≡ cause_of q.kernel.scene q.kernel.history failed → p ≡ m → HasRun s n mode h cause p u v x y
-has_run b s n mode failed m u v x y passes led q all sound h cause p same why count =
+    (h : List Entry) (cause : Cause) (w p : ℕ) → h ≡ q.kernel.history → cause ≡ cause_of q.kernel.scene q.kernel.history failed → w ≡ units q.kernel.scene q.kernel.history → p ≡ m → HasRun s n mode h cause w p u v x y
+has_run b s n mode failed m u v x y passes led q all sound h cause w p same why cost count =
     let kept : IsKept line_signer (lines_of q) led.first = All-head (IsKept line_signer (lines_of q)) led.first led.others (subst (All (IsKept line_signer (lines_of q))) led.is all) in
     let end = ended s (seen_by led.first) q led.end.knows kept.0 sound.legal led.end.ended in
     let limit : q.kernel.limit ≡ n = (found s (seen_by led.first) q led.end.knows kept.0).1 ∙ led.limit in
@@ -90,6 +91,7 @@ has_run b s n mode failed m u v x y passes led q all sound h cause p same why co
       legal = legal;
       facts = has_all_facts s h led.end.knows.scene legal;
       within = rw same (rw (← end.scene, ← limit) sound.within);
+      cost = cost ∙ (ap (λ (z : SceneParts). units z q.kernel.history) end.scene ∙ ap (units s) (sym same));
       failed = failed;
       is = why ∙ (ap (λ (z : SceneParts). cause_of z q.kernel.history failed) end.scene ∙ ap (λ (l : List Entry). cause_of s l failed) (sym same));
       at_limit = λ going. limit_case s n q h end.scene limit same end.stopped sound going;

@@ -21,12 +21,13 @@ use Rattle.so_run.specs.Knowing.{Knows}
 use Rattle.so_run.specs.Printing.{IsOut}
 use Rattle.so_run.specs.Workers.{HasSeenEnd}
 
--- a run: its history is legal and has the facts, whatever the interleaving, and is within its units. Where the run isn't over
--- a legal step doesn't fit. The sink got the history's text
-pub record HasRun (s : SceneParts) (n : ℕ) (mode : Mode) (h : List Entry) (cause : Cause) (p : ℕ) (old new : Option (List ℕ)) (before now : ℕ) : Type 0 where
+-- a run: its history is legal and has all facts, whatever the interleaving, and is within its units, of which so many were spent. Where the
+-- run isn't over a legal step doesn't fit. The sink got the history's text
+pub record HasRun (s : SceneParts) (n : ℕ) (mode : Mode) (h : List Entry) (cause : Cause) (spent p : ℕ) (old new : Option (List ℕ)) (before now : ℕ) : Type 0 where
   pub legal : Legal s h
   pub facts : HasAllFacts s h
   pub within : units s h ≤ n
+  pub cost : spent ≡ units s h
   pub failed : Bool
   pub is : cause ≡ cause_of s h failed
   pub at_limit : is_over s h ≡ false → HasTooLarge s n h

@@ -4,6 +4,7 @@ ghost use Rattle.std.specs.Prelude.{All, ◌≡◌, ◌+◌, ◌≤◌, [], leng
 ghost use Rattle.std.specs.Option.{ForSome};
 ghost use Rattle.so_ids.specs.Limits.{most_units};
 ghost use Rattle.so_scene.specs.Lanes.{lanes};
+ghost use Rattle.so_history.specs.Units.{units as units_of};
 ghost use Rattle.so_book.specs.Passes.{IsPassOf, ArePartiesFrom, seen_by};
 ghost use Rattle.so_run.specs.Workers.{IsMember, IsBack, IsFresh, GoesOn};
 ghost use Rattle.so_env.specs.Prints.{cause_of};
@@ -37,8 +38,8 @@ pub fn run_threads<R: Threads + Wait + Sync, K: Sink, G: Gate + Sync>(
     gate: &G,
 ) -> Outcome
     requires { units ≤ most_units }
-    ensures run { IfSome result.history (λ h. HasRun scene.now units mode h.entries result.cause result.pieces (K.content out.old) (K.content out.new) (K.faults out.old) (K.faults out.new)) }
-    ensures memory { IfNone result.history ((result.cause ≡ Cause.Memory) × (result.pieces ≡ 0) × (out.new ≡ out.old)) }
+    ensures run { IfSome result.history (λ h. HasRun scene.now units mode h.entries result.cause result.units result.pieces (K.content out.old) (K.content out.new) (K.faults out.old) (K.faults out.new)) }
+    ensures memory { IfNone result.history ((result.cause ≡ Cause.Memory) × (result.units ≡ 0) × (result.pieces ≡ 0) × (out.new ≡ out.old)) }
     ensures later { K.faults out.old ≤ K.faults out.new }
 {
     match try_run(rt, alloc, scene, units, mode, out, gate) {
@@ -89,7 +90,7 @@ fn try_run<'a, R: Threads + Wait + Sync, K: Sink, G: Gate + Sync>(
     gate: &G,
 ) -> Result<Ran, NoMemory>
     requires { units ≤ most_units }
-    ensures ok { IfOk result (λ o. HasRun scene.now units mode o.history.entries o.cause o.pieces (K.content out.old) (K.content out.new) (K.faults out.old) (K.faults out.new)) }
+    ensures ok { IfOk result (λ o. HasRun scene.now units mode o.history.entries o.cause o.units o.pieces (K.content out.old) (K.content out.new) (K.faults out.old) (K.faults out.new)) }
     ensures later { K.faults out.old ≤ K.faults out.new }
     ensures err { OnErr result (out.new ≡ out.old) }
 {
@@ -111,6 +112,7 @@ fn close(run: Run, printing: Printing) -> Ran
     ensures history { result.history.entries ≡ run.entry.kernel.history }
     ensures sound { IsSound run.entry }
     ensures cause { result.cause ≡ cause_of run.entry.kernel.scene run.entry.kernel.history printing.failed }
+    ensures spent { result.units ≡ units_of run.entry.kernel.scene run.entry.kernel.history }
     ensures pieces { result.pieces ≡ printing.pieces }
 {
     let _scene = run.kernel.scene();
