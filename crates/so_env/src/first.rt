@@ -65,7 +65,7 @@ fn step_lanes(kernel: &mut Kernel, turns: &mut Turns) -> Stepped
     ensures held { AreHeld kernel.new turns.new }
 {
     let lanes = kernel.scene().lanes();
-    for lane in 0..lanes {
+    for lane in kernel.first_lane()..lanes {
         match step(kernel, turns, Pick::Lane(LaneId(lane))) {
             Stepped::Nothing => {}
             answer => return answer,

@@ -1,6 +1,6 @@
 //! The kernel and its steps. Each adds at most one entry, the one that its definition gives.
 
-ghost use Rattle.std.specs.Prelude.{◌≡◌, ◌<◌, ◌≤◌, ◌↔◌, [], true, false, IfOk, Some};
+ghost use Rattle.std.specs.Prelude.{◌≡◌, ℕ, ◌<◌, ◌≤◌, ◌↔◌, [], true, false, IfOk, Some, None};
 ghost use Rattle.so_ids.specs.Limits.{most_units};
 ghost use Rattle.so_scene.specs.Checked.{IsScene};
 ghost use Rattle.so_scene.specs.Lanes.{lanes};
@@ -9,6 +9,7 @@ ghost use Rattle.so_history.specs.Units.{units};
 ghost use Rattle.so_history.specs.Steps.{finished, is_over, IsSigner, Legal};
 ghost use Rattle.so_history.specs.Coops.{aborted};
 ghost use Rattle.so_history.specs.Chain.{registration, tidying};
+ghost use Rattle.so_history.specs.Order.{pick};
 ghost use Rattle.so_ledger.specs.Gates.{gated, core_after, begin_by};
 ghost use Rattle.so_ledger.specs.Kept.{HasTooLarge};
 ghost use Rattle.so_kernel.specs.Answers.{step_answers, act_answers, end_answers, fail_answers};
@@ -144,6 +145,14 @@ impl<'a> Kernel<'a> {
             }
             Err(why) => Stepped::refused(why),
         }
+    }
+
+    /// A lane before which no lane may take a demand, at most one past the last.
+    pub fn first_lane(&self) -> u32
+        ensures within { result ≤ lanes self.now.scene }
+        ensures none { (l : ℕ) → l < result → pick self.now.scene self.now.history (record { 0 = l }) ≡ None }
+    {
+        self.ledger.first_lane()
     }
 
     /// Takes the first demand that a free lane may take: its turn begins, or it is skipped.

@@ -1,6 +1,6 @@
 //! What a lane takes, read off the tables: which demand, and how its turn begins.
 
-ghost use Rattle.std.specs.Prelude.{◌≡◌, ◌<◌, IfSome, length};
+ghost use Rattle.std.specs.Prelude.{◌≡◌, ℕ, ◌<◌, ◌≤◌, None, IfSome, length};
 ghost use Rattle.so_code.specs.Openings.{first_frame};
 ghost use Rattle.so_scene.specs.Lanes.{lanes};
 ghost use Rattle.so_history.specs.Delivery.{chosen_for};
@@ -30,6 +30,15 @@ impl<'a> Ledger<'a> {
         } else {
             None
         }
+    }
+
+    /// A lane before which no lane may take a demand, at most one past the last.
+    #[tactic(auto, unfolding(so_history::specs::Order::pick))]
+    pub fn first_lane(&self) -> u32
+        ensures within { result ≤ lanes self.now.scene }
+        ensures none { (l : ℕ) → l < result → pick self.now.scene self.now.history (record { 0 = l }) ≡ None }
+    {
+        self.tables.events.first_lane()
     }
 
     /// The entry that takes the demand that was picked, if there is one.
