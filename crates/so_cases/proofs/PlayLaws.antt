@@ -7,11 +7,11 @@ use Rattle.so_history.specs.Steps.{Legal}
 use Rattle.so_history.specs.Chain.{step_of}
 use Rattle.so_ledger.specs.Shapes.{Core}
 use Rattle.so_ledger.specs.Gates.{gated, core_after}
-use Rattle.so_ledger.specs.declared.gate.Refused.{Refused}
-use Rattle.so_ledger.specs.declared.gate.Refused.TheVariants.{Nothing, Full, Over}
+use Rattle.so_ledger.specs.declared.gate.Barred.{Barred}
+use Rattle.so_ledger.specs.declared.gate.Barred.TheVariants.{Nothing, Full, Over}
 use Rattle.so_kernel.specs.Held.{played}
 
-same_scene : (k : Core) (g : Result Entry Refused) → (core_after k g).scene ≡ k.scene
+same_scene : (k : Core) (g : Result Entry Barred) → (core_after k g).scene ≡ k.scene
 same_scene k (Ok e) = refl
 same_scene k (Err Nothing) = refl
 same_scene k (Err Full) = refl

@@ -11,7 +11,7 @@ use std::alloc::{AllocError, Global};
 const UNITS: u32 = 1000;
 
 /// The most bytes that the output takes.
-const CAPACITY: usize = 4096;
+const CAPACITY: usize = 8192;
 
 /// What the output got where its call of this number fails, counted from 0, and how the run ended.
 pub(crate) fn cut(alloc: Global, scene: &Scene, call: u64) -> Result<Vec<u8>, CaseFault> {

@@ -1,7 +1,7 @@
 //! Why a case isn't played.
 
+use so_fault::SceneRefusal;
 use so_ids::NoMemory;
-use so_scene::SceneRefusal;
 use std::alloc::{AllocError, AllocFailed};
 
 /// Why a case isn't played.

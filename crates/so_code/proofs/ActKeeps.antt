@@ -18,7 +18,7 @@ use Rattle.so_code.specs.declared.effect.FailKind.TheVariants.{Overflow, Thrown}
 use Rattle.so_code.specs.declared.frame.Frame.{Frame}
 use Rattle.so_code.specs.declared.frame.Todo.TheVariants as todo
 use Rattle.so_code.specs.Values.{in_range, holds, value, put, payload}
-use Rattle.so_code.specs.Machine.{Step, act, put_if, next_by, goes_on, does, with_todo, is_done, fails, plan_left, ran_one, ended}
+use Rattle.so_code.specs.Machine.{Step, act, put_if, next_by, goes_on, does, with_todo, is_done, fails, plan_left, ran_one, body_ended}
 use Rattle.so_code.specs.Receives.{is_receive, past}
 use Rattle.so_code.specs.Places.{HasPlaces, IsAt, IsIn, IsReceiveAt, HasReceive, reach}
 use Rattle.so_code.specs.Running.{IsFrame, Stands, IsFree, IsBack, Waits}
@@ -111,7 +111,7 @@ module _ (code : List Instr) (places : HasPlaces code) where
   }
   plan_keeps f false frame left acts inside = done_keeps f (budget code f) frame
 
-  ended_keeps : (f : Frame) (body : Body) → IsFrame code f → f.todo ≡ todo.Act → f.place < length code → Kept code (budget code f) (ended body f)
+  ended_keeps : (f : Frame) (body : Body) → IsFrame code f → f.todo ≡ todo.Act → f.place < length code → Kept code (budget code f) (body_ended body f)
   ended_keeps f (Enter s) frame acts inside = plan_keeps f (nat_lt 0 (plan_left f)) frame refl acts inside
   ended_keeps f (Exit s) frame acts inside = plan_keeps f (nat_lt 0 (plan_left f)) frame refl acts inside
   ended_keeps f Start frame acts inside = done_keeps f (budget code f) frame

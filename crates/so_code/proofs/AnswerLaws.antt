@@ -23,7 +23,7 @@ use Rattle.so_code.specs.Machine.{landed, with_todo}
 use Rattle.so_code.specs.Places.{IsReceiveAt}
 use Rattle.so_code.specs.Running.{IsFrame, IsBack, Stands, IsReady, IsAwake, LeadsTo, IsTransfer, Waits}
 use Rattle.so_code.specs.Answers.{Fits, FitsChoose, FitsTake, IsAnswerTo, acted, acted_with, said, armed, put_done, sent, switched, has_transferred, chose, chosen_by, subscribed, registered, took, answered_to, answered_in, answered}
-use Rattle.so_code.specs.Openings.{fresh, opened, begun}
+use Rattle.so_code.specs.Openings.{fresh, opened, first_frame}
 use Rattle.so_code.proofs.Found.{stands_free}
 
 -- what no answer looks at
@@ -140,7 +140,7 @@ module _ (code : List Instr) where
   answered_frame a f frame fits = answered_in_frame f f.todo a (record { back = frame.back; exits = frame.exits; enters = frame.enters }) frame.ready fits
 
   -- a turn begins with them, in any code
-  pub begun_frame : (o : Opening) (vars : Vars) (msg : Payload) → IsFrame code (begun o vars msg)
+  pub begun_frame : (o : Opening) (vars : Vars) (msg : Payload) → IsFrame code (first_frame o vars msg)
   begun_frame o vars msg = opened_frame (fresh o vars msg) (record { back = tt; exits = omega arith; enters = omega arith }) o refl
 
 -- ---- a frame that has begun, or has its answer, waits for none
@@ -157,7 +157,7 @@ opened_awake : (o : Opening) (f : Frame) → IsAwake (opened o f).todo
 opened_awake (opening.Event c) f = chose_awake c f
 opened_awake other f = tt
 
-pub begun_awake : (o : Opening) (vars : Vars) (msg : Payload) → IsAwake (begun o vars msg).todo
+pub begun_awake : (o : Opening) (vars : Vars) (msg : Payload) → IsAwake (first_frame o vars msg).todo
 begun_awake o vars msg = opened_awake o (fresh o vars msg)
 
 landed_awake : (b : Option ℕ) (o : Opening) (f : Frame) → IsAwake (landed b o f).todo

@@ -8,10 +8,10 @@ use Rattle.so_code.specs.declared.instr.Instr.TheVariants as instr
 use Rattle.so_code.specs.Bodies.{with_end, bodies_in}
 use Rattle.so_code.specs.Receives.{is_receive}
 use Rattle.so_code.specs.Valid.{jump, is_act}
-use Rattle.so_code.specs.Shape.{Handler, Act, Part, plain, receiving, handlers_code, acts_code, flatten, plain_part, cases_of, IsActBefore, AreActsBefore, IsHandler, PassesOver, may_switch, AreActs, IsPart, AreInOrder, body_of, IsCode}
+use Rattle.so_code.specs.Shape.{Handler, Act, WholeBody, plain, receiving, handlers_code, acts_code, flatten, plain_body, cases_of, IsActBefore, AreActsBefore, IsHandler, PassesOver, may_switch, AreActs, IsWholeBody, AreInOrder, body_of, IsCode}
 
 -- fine parts in order are a code
-pub structured : (parts : List Part) → length (flatten parts) ≤ 1024 → AreInOrder (map body_of parts) → AllByRecursion IsPart parts → IsCode (flatten parts)
+pub structured : (parts : List WholeBody) → length (flatten parts) ≤ 1024 → AreInOrder (map body_of parts) → AllByRecursion IsWholeBody parts → IsCode (flatten parts)
 structured parts few order each = record { made_of = parts; same = refl; few = few; order = order; each = each }
 
 -- ---- acts of one instruction each
@@ -54,8 +54,8 @@ plain_acts body (i ∷ rest) are = (
   plain_acts body rest are.1,
 )
 
-pub plain_part_code : (body : Body) (acts : List Instr) (rest : List Part) → flatten (plain_part body acts ∷ rest) ≡ acts ++ instr.End body ∷ flatten rest
-plain_part_code body acts rest = ap (λ (l : List Instr). l ++ instr.End body ∷ flatten rest) (plain_code acts)
+pub plain_body_code : (body : Body) (acts : List Instr) (rest : List WholeBody) → flatten (plain_body body acts ∷ rest) ≡ acts ++ instr.End body ∷ flatten rest
+plain_body_code body acts rest = ap (λ (l : List Instr). l ++ instr.End body ∷ flatten rest) (plain_code acts)
 
 -- ---- the bodies of a code
 
@@ -86,7 +86,7 @@ bodies_body body (receiving i hs ∷ rest) code are =
     ∙ (bodies_handlers (cases_of i) hs (acts_code rest ++ code) are.0.each ∙ bodies_body body rest code are.1))
 
 -- the bodies that the Ends of a code name are those of its parts
-pub bodies_in-flatten : (parts : List Part) → AllByRecursion IsPart parts → bodies_in (flatten parts) ≡ map body_of parts
+pub bodies_in-flatten : (parts : List WholeBody) → AllByRecursion IsWholeBody parts → bodies_in (flatten parts) ≡ map body_of parts
 bodies_in-flatten [] each = refl
 bodies_in-flatten (p ∷ rest) each =
     bodies_body p.body p.acts (instr.End p.body ∷ flatten rest) each.0

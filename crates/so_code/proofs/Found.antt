@@ -6,8 +6,8 @@ use Rattle.so_ids.specs.declared.MsgId.{MsgId}
 use Rattle.so_code.specs.declared.instr.Body.{Body}
 use Rattle.so_code.specs.declared.instr.Instr.{Instr}
 use Rattle.so_code.specs.declared.instr.Instr.TheVariants as instr
-use Rattle.so_code.specs.Bodies.{is_end, ends, body_from, body_at}
-use Rattle.so_code.specs.Receives.{is_receive, is_case, is_case_of, is_back, handlers, past, handler_from, handler_at}
+use Rattle.so_code.specs.Bodies.{is_end, ends_body, body_from, body_at}
+use Rattle.so_code.specs.Receives.{is_receive, is_case, is_case_of, is_back, handlers_length, past, handler_from, handler_at}
 use Rattle.so_code.specs.Places.{HasPlaces, IsAt, IsReceiveAt, is_plain}
 use Rattle.so_code.specs.Running.{Stands, IsFree}
 
@@ -63,7 +63,7 @@ module _ (front : List Instr) (i : Instr) (rest : List Instr) where
   place_after : length (front ++ i ∷ []) ≡ length front + 1
   place_after = length-append front (i ∷ [])
 
-  by_test : (body : Body) (start s : ℕ) (b : Bool) → ends body i ≡ b → start ≤ length front → (start ≡ 0) ⊎ EndBefore (front ++ i ∷ rest) start → (body_from body (if is_end i then length front + 1 else start) (length front + 1) rest ≡ Some s → Begins (front ++ i ∷ rest) s) → (if b then Some start else body_from body (if is_end i then length front + 1 else start) (length front + 1) rest) ≡ Some s → Begins (front ++ i ∷ rest) s
+  by_test : (body : Body) (start s : ℕ) (b : Bool) → ends_body body i ≡ b → start ≤ length front → (start ≡ 0) ⊎ EndBefore (front ++ i ∷ rest) start → (body_from body (if is_end i then length front + 1 else start) (length front + 1) rest ≡ Some s → Begins (front ++ i ∷ rest) s) → (if b then Some start else body_from body (if is_end i then length front + 1 else start) (length front + 1) rest) ≡ Some s → Begins (front ++ i ∷ rest) s
   by_test body start s true e h after more found =
       let same : start ≡ s = cc in
       rw (← same) (record { after = after; inside = omega (arith, length-append front (i ∷ rest)) })
@@ -72,7 +72,7 @@ module _ (front : List Instr) (i : Instr) (rest : List Instr) where
 body_from-begins : (front rest : List Instr) (body : Body) (start s : ℕ) → start ≤ length front → (start ≡ 0) ⊎ EndBefore (front ++ rest) start → body_from body start (length front) rest ≡ Some s → Begins (front ++ rest) s
 body_from-begins front [] body start s h after found = let e : None ≡ Some s = found in cc
 body_from-begins front (i ∷ rest) body start s h after found =
-    by_test front i rest body start s (ends body i) refl h after
+    by_test front i rest body start s (ends_body body i) refl h after
     (λ further.
     let next : Begins ((front ++ i ∷ []) ++ rest) s =
     body_from-begins (front ++ i ∷ []) rest body (if is_end i then length front + 1 else start) s (rw (place_after front i rest) (start_below (is_end i) start (length front) h)) (rw (longer front i rest) (after_end (is_end i) (front ++ i ∷ rest) start (length front) i (here_at front i rest) refl after)) (rw (place_after front i rest) further) in
@@ -108,13 +108,13 @@ Begins-free code s places begins = record {
 
 -- ---- a handler, and the end of a receive
 
-by_case : (case : ℕ) (msg : MsgId) (i : Instr) (code : List Instr) (place h : ℕ) (a b : Bool) → is_case_of case msg i ≡ a → is_case i ≡ b → (handler_from case msg true (place + 1) code ≡ Some h → (place + 1 < h) × (h ≤ place + 1 + handlers true code)) → (if a then Some (place + 1) else (if b then handler_from case msg true (place + 1) code else None)) ≡ Some h → (place < h) × (h ≤ place + (if b then 1 + handlers true code else 0))
+by_case : (case : ℕ) (msg : MsgId) (i : Instr) (code : List Instr) (place h : ℕ) (a b : Bool) → is_case_of case msg i ≡ a → is_case i ≡ b → (handler_from case msg true (place + 1) code ≡ Some h → (place + 1 < h) × (h ≤ place + 1 + handlers_length true code)) → (if a then Some (place + 1) else (if b then handler_from case msg true (place + 1) code else None)) ≡ Some h → (place < h) × (h ≤ place + (if b then 1 + handlers_length true code else 0))
 by_case case msg i code place h true true ea eb more found = let same : place + 1 ≡ h = cc in (omega arith, omega arith)
 by_case case msg i code place h true false ea eb more found = let wrong : is_case i ≡ true = case_of_is_case case msg i ea in cc
 by_case case msg i code place h false true ea eb more found = let next = more found in (omega (arith, next.0), omega (arith, next.1))
 by_case case msg i code place h false false ea eb more found = let e : None ≡ Some h = found in cc
 
-handler_from-within : (case : ℕ) (msg : MsgId) (code : List Instr) (inside : Bool) (place h : ℕ) → handler_from case msg inside place code ≡ Some h → (place < h) × (h ≤ place + handlers inside code)
+handler_from-within : (case : ℕ) (msg : MsgId) (code : List Instr) (inside : Bool) (place h : ℕ) → handler_from case msg inside place code ≡ Some h → (place < h) × (h ≤ place + handlers_length inside code)
 handler_from-within case msg [] inside place h found = let e : None ≡ Some h = found in cc
 handler_from-within case msg (i ∷ code) true place h found =
     let next = handler_from-within case msg code (not (is_back i)) (place + 1) h found in

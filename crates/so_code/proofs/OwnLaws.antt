@@ -28,9 +28,9 @@ use Rattle.so_code.specs.declared.frame.Todo.TheVariants as todo
 use Rattle.so_code.specs.Values.{in_range, value, put}
 use Rattle.so_code.specs.Bodies.{body_at}
 use Rattle.so_code.specs.Receives.{is_receive}
-use Rattle.so_code.specs.Machine.{Step, goes_on, next_by, put_if, plan_left, with_todo, ran_one, is_done, ended, act, act_at, open_step, step_of, step, go_on, first_move, steps, after}
+use Rattle.so_code.specs.Machine.{Step, goes_on, next_by, put_if, plan_left, with_todo, ran_one, is_done, body_ended, act, act_at, open_step, step_of, step, go_on, first_move, steps, after}
 use Rattle.so_code.specs.Answers.{acted_with, said, armed, put_done, sent, subscribed, registered, answered_to, answered_in, answered}
-use Rattle.so_code.specs.Openings.{begun}
+use Rattle.so_code.specs.Openings.{first_frame}
 use Rattle.so_code.specs.Places.{HasPlaces, IsAt}
 use Rattle.so_code.specs.Running.{IsFrame}
 use Rattle.so_code.specs.Origins.{Origin}
@@ -52,7 +52,7 @@ plan_runs : (b : Bool) (f : Frame) → nat_lt 0 (plan_left f) ≡ b → plan_lef
 plan_runs true f e none = absurd (omega (arith, ltb-true 0 (plan_left f) e, none))
 plan_runs false f e none = record { todo = refl; no_plan = none }
 
-ended_runs : (body : Body) (f : Frame) → plan_left f ≡ 0 → RunsActs (ended body f).1
+ended_runs : (body : Body) (f : Frame) → plan_left f ≡ 0 → RunsActs (body_ended body f).1
 ended_runs (Enter s) f none = plan_runs (nat_lt 0 (plan_left f)) f refl none
 ended_runs (Exit s) f none = plan_runs (nat_lt 0 (plan_left f)) f refl none
 ended_runs other f none = record { todo = refl; no_plan = none }
@@ -108,7 +108,7 @@ module _ (code : List Instr) (own : (p : ℕ) (i : Instr) → IsAt code p i → 
 
 -- ---- its beginning
 
-begun_todo : (o : Opening) (vars : Vars) (msg : Payload) → opens_acts o ≡ true → RunsActs (begun o vars msg)
+begun_todo : (o : Opening) (vars : Vars) (msg : Payload) → opens_acts o ≡ true → RunsActs (first_frame o vars msg)
 begun_todo opening.Start vars msg e = record { todo = refl; no_plan = refl }
 begun_todo opening.Finish vars msg e = record { todo = refl; no_plan = refl }
 begun_todo opening.Thread vars msg e = record { todo = refl; no_plan = refl }
@@ -120,7 +120,7 @@ begun_todo (opening.Event (chosen.Transfer from to)) vars msg e = absurd cc
 begun_todo (opening.Event chosen.Suppressed) vars msg e = record { todo = refl; no_plan = refl }
 begun_todo (opening.Event chosen.Nothing) vars msg e = record { todo = refl; no_plan = refl }
 
-pub begun_runs : (o : Opening) (vars : Vars) (msg : Payload) → opens_acts o ≡ true → RunsActs (begun o vars msg)
+pub begun_runs : (o : Opening) (vars : Vars) (msg : Payload) → opens_acts o ≡ true → RunsActs (first_frame o vars msg)
 begun_runs o vars msg e = begun_todo o vars msg e
 
 -- ---- its answers

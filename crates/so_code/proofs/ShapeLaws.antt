@@ -8,9 +8,9 @@ use Rattle.so_code.proofs.TwoLists.{get_left, IsFurther, get_right}
 use Rattle.so_code.specs.declared.instr.Body.{Body}
 use Rattle.so_code.specs.declared.instr.Instr.{Instr}
 use Rattle.so_code.specs.declared.instr.Instr.TheVariants as instr
-use Rattle.so_code.specs.Receives.{is_receive, is_case, is_back, handlers, past}
+use Rattle.so_code.specs.Receives.{is_receive, is_case, is_back, handlers_length, past}
 use Rattle.so_code.specs.Valid.{HasParts, jump, is_act, is_switch}
-use Rattle.so_code.specs.Shape.{Handler, Act, Part, plain, receiving, handlers_code, act_code, acts_code, flatten, cases_of, AreActsBefore, IsHandler, PassesOver, IsPlainAct, IsReceiving, IsAct, AreActs, IsPart, IsCode}
+use Rattle.so_code.specs.Shape.{Handler, Act, WholeBody, plain, receiving, handlers_code, act_code, acts_code, flatten, cases_of, AreActsBefore, IsHandler, PassesOver, IsPlainAct, IsReceiving, IsAct, AreActs, IsWholeBody, IsCode}
 use Rattle.so_code.specs.Places.{reach, is_plain, IsAt, HasReceive, HasPlaces}
 
 -- ---- the place after a receive
@@ -132,23 +132,23 @@ abbrev pub begins_case : List Instr → Bool
 begins_case [] = false
 begins_case (i ∷ code) = is_case i
 
-handlers_none : (code : List Instr) → begins_case code ≡ false → handlers false code ≡ 0
+handlers_none : (code : List Instr) → begins_case code ≡ false → handlers_length false code ≡ 0
 handlers_none [] e = refl
 handlers_none (i ∷ code) e = rw e refl
 
-inside_width : (acts rest : List Instr) → AreActsBefore false 0 acts → handlers true (acts ++ instr.Back ∷ rest) ≡ length acts + (1 + handlers false rest)
+inside_width : (acts rest : List Instr) → AreActsBefore false 0 acts → handlers_length true (acts ++ instr.Back ∷ rest) ≡ length acts + (1 + handlers_length false rest)
 inside_width [] rest acts = omega arith
 inside_width (i ∷ more) rest acts =
     let e : is_back i ≡ false = act_no_back i acts.0.act in
-    let next : handlers true (more ++ instr.Back ∷ rest) ≡ length more + (1 + handlers false rest) = inside_width more rest acts.1 in
+    let next : handlers_length true (more ++ instr.Back ∷ rest) ≡ length more + (1 + handlers_length false rest) = inside_width more rest acts.1 in
     rw e (omega (arith, next))
 
-handlers_width : (cases : ℕ) (hs : List Handler) (rest : List Instr) → AllByRecursion (IsHandler cases) hs → begins_case rest ≡ false → handlers false (handlers_code hs ++ rest) ≡ length (handlers_code hs)
+handlers_width : (cases : ℕ) (hs : List Handler) (rest : List Instr) → AllByRecursion (IsHandler cases) hs → begins_case rest ≡ false → handlers_length false (handlers_code hs ++ rest) ≡ length (handlers_code hs)
 handlers_width cases [] rest each e = handlers_none rest e
 handlers_width cases (h ∷ hs) rest each e =
     let assoc : (h.acts ++ instr.Back ∷ handlers_code hs) ++ rest ≡ h.acts ++ instr.Back ∷ (handlers_code hs ++ rest) = append_assoc h.acts (instr.Back ∷ handlers_code hs) rest in
-    let inside : handlers true (h.acts ++ instr.Back ∷ (handlers_code hs ++ rest)) ≡ length h.acts + (1 + handlers false (handlers_code hs ++ rest)) = inside_width h.acts (handlers_code hs ++ rest) each.0.acts in
-    let next : handlers false (handlers_code hs ++ rest) ≡ length (handlers_code hs) = handlers_width cases hs rest each.1 e in
+    let inside : handlers_length true (h.acts ++ instr.Back ∷ (handlers_code hs ++ rest)) ≡ length h.acts + (1 + handlers_length false (handlers_code hs ++ rest)) = inside_width h.acts (handlers_code hs ++ rest) each.0.acts in
+    let next : handlers_length false (handlers_code hs ++ rest) ≡ length (handlers_code hs) = handlers_width cases hs rest each.1 e in
     let long : length (h.acts ++ instr.Back ∷ handlers_code hs) ≡ length h.acts + suc (length (handlers_code hs)) = length-append h.acts (instr.Back ∷ handlers_code hs) in
     rw assoc (omega (arith, inside, next, long))
 
@@ -242,7 +242,7 @@ module _ (i : Instr) (hs : List Handler) (rest : List Act) (back : List Instr) (
 
   past_receive : past (i ∷ ((handlers_code hs ++ acts_code rest) ++ back)) 0 ≡ 1 + length (handlers_code hs)
   past_receive =
-      let width : handlers false (handlers_code hs ++ (acts_code rest ++ back)) ≡ length (handlers_code hs) = handlers_width (cases_of i) hs (acts_code rest ++ back) shaped.each (begins_acts rest back more ends) in
+      let width : handlers_length false (handlers_code hs ++ (acts_code rest ++ back)) ≡ length (handlers_code hs) = handlers_width (cases_of i) hs (acts_code rest ++ back) shaped.each (begins_acts rest back more ends) in
       rw tail_is (omega (arith, width))
 
   -- what stands in its handlers
@@ -390,13 +390,13 @@ here_end body code = record {
   backs = λ b. absurd cc;
 }
 
-here_after : (body : Body) (rest : List Part) (p : ℕ) (i : Instr) → ((q : ℕ) → slice_get (flatten rest) q ≡ Some i → Here (flatten rest) q i) → slice_get (instr.End body ∷ flatten rest) p ≡ Some i → Here (instr.End body ∷ flatten rest) p i
+here_after : (body : Body) (rest : List WholeBody) (p : ℕ) (i : Instr) → ((q : ℕ) → slice_get (flatten rest) q ≡ Some i → Here (flatten rest) q i) → slice_get (instr.End body ∷ flatten rest) p ≡ Some i → Here (instr.End body ∷ flatten rest) p i
 here_after body rest zero i more e =
     let same : instr.End body ≡ i = cc in
     subst (λ (x : Instr). Here (instr.End body ∷ flatten rest) 0 x) same (here_end body (flatten rest))
 here_after body rest (suc p) i more e = here_cons (instr.End body) (flatten rest) p i (more p e)
 
-here_parts : (parts : List Part) (p : ℕ) (i : Instr) → AllByRecursion IsPart parts → slice_get (flatten parts) p ≡ Some i → Here (flatten parts) p i
+here_parts : (parts : List WholeBody) (p : ℕ) (i : Instr) → AllByRecursion IsWholeBody parts → slice_get (flatten parts) p ≡ Some i → Here (flatten parts) p i
 here_parts [] p i each e = absurd cc
 here_parts (part ∷ rest) p i each e =
     ⊎_elim

@@ -22,7 +22,7 @@ use Rattle.so_code.specs.declared.frame.Todo.TheVariants as todo
 use Rattle.so_code.specs.Values.{in_range, holds, value, put, payload}
 use Rattle.so_code.specs.Bodies.{body_at}
 use Rattle.so_code.specs.Receives.{handler_at}
-use Rattle.so_code.specs.Machine.{Step, goes_on, does, fails, is_done, next_by, put_if, plan_left, ended, act, act_at, open_step, enter_body, handle_step, landed, leave, with_todo, ran_one, state_in, step_of, step}
+use Rattle.so_code.specs.Machine.{Step, goes_on, does, fails, is_done, next_by, put_if, plan_left, body_ended, act, act_at, open_step, enter_body, handle_step, landed, leave, with_todo, ran_one, state_in, step_of, step}
 use Rattle.so_code.specs.Places.{IsAt, IsReceiveAt}
 use Rattle.so_code.specs.Running.{IsFrame, IsReady}
 use Rattle.so_code.specs.Origins.{Origin}
@@ -80,7 +80,7 @@ module _ (code : List Instr) where
   told_plan true f = told_goes f (with_todo todo.Plan (ran_one f)) refl refl
   told_plan false f = told_done f
 
-  told_ended : (body : Body) (f : Frame) → Told code f (ended body f)
+  told_ended : (body : Body) (f : Frame) → Told code f (body_ended body f)
   told_ended (Enter s) f = told_plan (nat_lt 0 (plan_left f)) f
   told_ended (Exit s) f = told_plan (nat_lt 0 (plan_left f)) f
   told_ended Start f = told_done f

@@ -18,15 +18,15 @@ abbrev pub is_end : Instr → Bool
 is_end (End body) = true
 is_end other = false
 
-abbrev pub ends : Body → Instr → Bool
-ends body (End other) = same_body other body
-ends body other = false
+abbrev pub ends_body : Body → Instr → Bool
+ends_body body (End other) = same_body other body
+ends_body body other = false
 
 -- where a body begins: after the End before it. The code that is left begins at `place`, and the body there at `start`
 abbrev pub body_from : Body → ℕ → ℕ → List Instr → Option ℕ
 body_from body start place [] = None
 body_from body start place (i ∷ code) =
-    if ends body i then Some start else body_from body (if is_end i then place + 1 else start) (place + 1) code
+    if ends_body body i then Some start else body_from body (if is_end i then place + 1 else start) (place + 1) code
 
 abbrev pub body_at : List Instr → Body → Option ℕ
 body_at code body = body_from body 0 0 code

@@ -10,6 +10,4 @@ pub mod Answers
 pub mod Openings
 pub mod Origins
 pub mod Own
-pub mod Turns
-pub mod Plans
 pub mod Differs

@@ -61,13 +61,13 @@ abbrev pub plan_goes_on : Frame → Step
 plan_goes_on frame = if nat_lt 0 (plan_left frame) then goes_on (with_todo todo.Plan (ran_one frame)) else is_done frame
 
 -- what the end of a body leads to
-abbrev pub ended : Body → Frame → Step
-ended (Enter s) frame = plan_goes_on frame
-ended (Exit s) frame = plan_goes_on frame
-ended Start frame = is_done frame
-ended Finish frame = is_done frame
-ended (Row r) frame = is_done frame
-ended Thread frame = is_done frame
+abbrev pub body_ended : Body → Frame → Step
+body_ended (Enter s) frame = plan_goes_on frame
+body_ended (Exit s) frame = plan_goes_on frame
+body_ended Start frame = is_done frame
+body_ended Finish frame = is_done frame
+body_ended (Row r) frame = is_done frame
+body_ended Thread frame = is_done frame
 
 -- one instruction
 abbrev pub act : Instr → Frame → Step
@@ -96,7 +96,7 @@ act (instr.Receive chains cases handle_n extract_n empty_timeout total_time no_w
     does (effect.Receive f.place) (record f { receive = f.place; handles_left = handle_n; extracts_left = extract_n; aside = f.msg })
 act (instr.Case case msg) f = goes_on (next_by 1 f)
 act instr.Back f = goes_on (with_todo todo.Take (record f { handles_left = f.handles_left - 1 }))
-act (instr.End body) f = ended body f
+act (instr.End body) f = body_ended body f
 
 abbrev pub act_at : Option Instr → Frame → Step
 act_at None f = is_done f
@@ -174,7 +174,7 @@ abbrev pub first_move : ℕ → List Instr → Frame → Option (Move × Frame)
 first_move zero code f = None
 first_move (suc n) code f = go_on (first_move n code) (step code f)
 
--- more steps than a move of a frame ever takes, so that the next move is free of their number (so_code's laws step_moves and
+-- more steps than a move of a frame ever takes, so that the next move is free of their number (so_code_laws, step_moves and
 -- step_goes_on): a plan has at most 33 parts, and each of them, and what comes before
 -- them, takes less than twice the code's length and three
 abbrev pub steps : List Instr → ℕ

@@ -1,5 +1,6 @@
 -- How a turn begins.
 use Rattle.std.specs.Prelude.{◌≡◌, ◌<◌, ◌⊎◌, pos, List, None, replicate, Contains}
+use Rattle.so_ids.specs.Ids.{default_state}
 use Rattle.so_ids.specs.declared.StateId.{StateId}
 use Rattle.so_ids.specs.declared.Plan.{Plan}
 use Rattle.so_ids.specs.declared.Vars.{Vars}
@@ -50,9 +51,6 @@ FitsOpening other = Unit {0}
 
 -- ---- the frame
 
-abbrev pub default_state : StateId
-default_state = record { 0 = 0 }
-
 abbrev pub no_plan : Plan
 no_plan = record { leaf = default_state; exits = replicate 16 default_state; n_exits = 0; enters = replicate 16 default_state; n_enters = 0 }
 
@@ -69,5 +67,5 @@ opened (opening.Time to) f = with_todo (todo.Switch to) f
 opened (opening.Event c) f = chose c f
 
 -- the frame of a turn that begins, with its owner's variables and its message
-abbrev pub begun : Opening → Vars → Payload → Frame
-begun o vars msg = opened o (fresh o vars msg)
+abbrev pub first_frame : Opening → Vars → Payload → Frame
+first_frame o vars msg = opened o (fresh o vars msg)

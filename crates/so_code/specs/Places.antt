@@ -1,5 +1,6 @@
 -- What the structure of a code says of the place of each instruction.
 use Rattle.std.specs.Prelude.{◌≡◌, ℕ, ◌+◌, ◌<◌, ◌≤◌, Bool, true, false, List, length, Some, slice_get}
+use Rattle.so_ids.specs.Limits.{most_instructions}
 use Rattle.so_code.specs.declared.instr.Instr.{Instr}
 use Rattle.so_code.specs.declared.instr.Instr.TheVariants as instr
 use Rattle.so_code.specs.Receives.{is_receive, is_back, past}
@@ -41,7 +42,7 @@ pub record HasReceive (code : List Instr) (place : ℕ) : Type 0 where
   pub around : IsIn code receive place
 
 pub record HasPlaces (code : List Instr) : Type 0 where
-  pub few : length code ≤ 1024
+  pub few : length code ≤ most_instructions
   pub parts : (place : ℕ) (i : Instr) → IsAt code place i → HasParts i
   -- nothing leads out of the code
   pub leads : (place : ℕ) (i : Instr) → IsAt code place i → place + reach i < length code

@@ -21,13 +21,13 @@ is_back Back = true
 is_back other = false
 
 -- how many instructions the handlers at the head of the code take, inside one or between two
-abbrev pub handlers : Bool → List Instr → ℕ
-handlers inside [] = 0
-handlers inside (i ∷ code) = if inside then 1 + handlers (not (is_back i)) code else (if is_case i then 1 + handlers true code else 0)
+abbrev pub handlers_length : Bool → List Instr → ℕ
+handlers_length inside [] = 0
+handlers_length inside (i ∷ code) = if inside then 1 + handlers_length (not (is_back i)) code else (if is_case i then 1 + handlers_length true code else 0)
 
 -- the place after a receive and its handlers
 abbrev pub past : List Instr → ℕ → ℕ
-past code receive = receive + 1 + handlers false (drop (receive + 1) code)
+past code receive = receive + 1 + handlers_length false (drop (receive + 1) code)
 
 -- the handler of a case and type, from `place` on
 abbrev pub handler_from : ℕ → MsgId → Bool → ℕ → List Instr → Option ℕ

@@ -3,6 +3,7 @@
 use Rattle.std.specs.Prelude.{◌≡◌, ℕ, zero, suc, ◌+◌, ◌<◌, ◌≤◌, ◌⊎◌, Bool, true, false, List, [], ◌∷◌, ◌++◌, length, take, map}
 use Rattle.std.specs.List.{AllByRecursion}
 use Rattle.std.specs.List.Sorted.{IsStrictlyIncreasing}
+use Rattle.so_ids.specs.Limits.{most_instructions}
 use Rattle.so_ids.specs.declared.MsgId.{MsgId}
 use Rattle.so_ids.specs.declared.RowId.{RowId}
 use Rattle.so_code.specs.declared.instr.Body.{Body}
@@ -25,7 +26,8 @@ pub data Act : Type 0 where
   plain : Instr → Act
   receiving : Instr → List Handler → Act
 
-pub record Part : Type 0 where
+-- a body with its acts
+pub record WholeBody : Type 0 where
   pub body : Body
   pub acts : List Act
 
@@ -41,13 +43,13 @@ abbrev pub acts_code : List Act → List Instr
 acts_code [] = []
 acts_code (a ∷ rest) = act_code a ++ acts_code rest
 
-abbrev pub flatten : List Part → List Instr
+abbrev pub flatten : List WholeBody → List Instr
 flatten [] = []
 flatten (p ∷ rest) = acts_code p.acts ++ End p.body ∷ flatten rest
 
 -- a body whose acts are one instruction each
-abbrev pub plain_part : Body → List Instr → Part
-plain_part body acts = record { body = body; acts = map plain acts }
+abbrev pub plain_body : Body → List Instr → WholeBody
+plain_body body acts = record { body = body; acts = map plain acts }
 
 -- ---- what may stand where
 
@@ -105,8 +107,8 @@ abbrev pub AreActs : Body → List Act → Type 0
 AreActs body [] = Unit {0}
 AreActs body (a ∷ rest) = IsAct body a rest × AreActs body rest
 
-abbrev pub IsPart : Part → Type 0
-IsPart p = AreActs p.body p.acts
+abbrev pub IsWholeBody : WholeBody → Type 0
+IsWholeBody p = AreActs p.body p.acts
 
 -- ---- the order of the bodies
 
@@ -132,14 +134,14 @@ pub record AreAgentBodies (bodies : List Body) : Type 0 where
 abbrev pub AreInOrder : List Body → Type 0
 AreInOrder bodies = AreAgentBodies bodies ⊎ (bodies ≡ Thread ∷ [])
 
-abbrev pub body_of : Part → Body
+abbrev pub body_of : WholeBody → Body
 body_of p = p.body
 
 -- ---- a code
 
 pub record IsCode (code : List Instr) : Type 0 where
-  pub made_of : List Part
+  pub made_of : List WholeBody
   pub same : code ≡ flatten made_of
-  pub few : length code ≤ 1024
+  pub few : length code ≤ most_instructions
   pub order : AreInOrder (map body_of made_of)
-  pub each : AllByRecursion IsPart made_of
+  pub each : AllByRecursion IsWholeBody made_of

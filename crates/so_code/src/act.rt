@@ -1,7 +1,7 @@
 //! What one instruction does.
 
 ghost use Rattle.std.specs.Prelude.{◌≡◌, ◌+◌, ◌-◌, ◌<◌, ◌≤◌, ◌↔◌, IsTrue, ◌^◌};
-ghost use Rattle.so_code.specs.Machine.{act, does, fails, put_if, is_done, plan_left, plan_goes_on, ended, goes_on, next_by, with_todo};
+ghost use Rattle.so_code.specs.Machine.{act, does, fails, put_if, is_done, plan_left, plan_goes_on, body_ended, goes_on, next_by, with_todo};
 ghost use Rattle.so_code.specs.Values.{put};
 ghost use Rattle.so_code.specs.Valid.{IsDest, HasParts};
 ghost use Rattle.so_code.specs.Places.{reach};
@@ -92,10 +92,10 @@ impl Frame {
     }
 
     /// What follows a body.
-    fn ended(&mut self, body: Body) -> Option<Move>
+    fn body_ended(&mut self, body: Body) -> Option<Move>
         requires exits { self.old.plan.n_exits ≤ 16 }
         requires enters { self.old.plan.n_enters ≤ 16 }
-        ensures { (result, self.new) ≡ ended body self.old }
+        ensures { (result, self.new) ≡ body_ended body self.old }
     {
         match body {
             Body::Enter(_) | Body::Exit(_) => self.plan_goes_on(),
@@ -163,7 +163,7 @@ impl Frame {
             } => self.receive(handle_n, extract_n),
             Instr::Case { .. } => self.next_by(1),
             Instr::Back => self.back(),
-            Instr::End { body } => self.ended(body),
+            Instr::End { body } => self.body_ended(body),
             Instr::Log { text, args } => self.does(Effect::Log {
                 text,
                 payload: self.payload(args),

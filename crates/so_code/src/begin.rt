@@ -3,7 +3,7 @@
 ghost use Rattle.std.specs.Prelude.{◌≡◌, List};
 ghost use Rattle.so_code.specs.declared.instr.Instr.{Instr as AnyInstr};
 ghost use Rattle.so_code.specs.Running.{IsFrame, IsAwake};
-ghost use Rattle.so_code.specs.Openings.{FitsOpening, fresh, opened, begun};
+ghost use Rattle.so_code.specs.Openings.{FitsOpening, fresh, opened, first_frame};
 
 use crate::frame::{Frame, Todo};
 use crate::instr::Body;
@@ -13,7 +13,7 @@ impl Frame {
     /// The frame of a turn that begins with this opening, its owner's variables and its message.
     pub fn begin(opening: Opening, vars: Vars, msg: Payload) -> Frame
         requires { FitsOpening opening }
-        ensures begun { result ≡ begun opening vars msg }
+        ensures begun { result ≡ first_frame opening vars msg }
         ensures frame { (code : List AnyInstr) → IsFrame code result }
         ensures awake { IsAwake result.todo }
     {

@@ -1,7 +1,7 @@
 //! Where the bodies of a code stand.
 
 ghost use Rattle.std.specs.Prelude.{◌≡◌, ◌≤◌, length};
-ghost use Rattle.so_code.specs.Bodies.{same_body, is_end, ends, body_at};
+ghost use Rattle.so_code.specs.Bodies.{same_body, is_end, ends_body, body_at};
 
 use crate::instr::{Body, Instr};
 
@@ -25,8 +25,8 @@ fn is_end(instr: Instr) -> bool
     matches!(instr, Instr::End { .. })
 }
 
-fn ends(body: Body, instr: Instr) -> bool
-    ensures { result ≡ ends body instr }
+fn ends_body(body: Body, instr: Instr) -> bool
+    ensures { result ≡ ends_body body instr }
 {
     match instr {
         Instr::End { body: other } => same_body(other, body),
@@ -41,7 +41,7 @@ pub(crate) fn body_at(code: &[Instr], body: Body) -> Option<u32>
 {
     let mut start = 0;
     for (place, instr) in code.iter().enumerate() {
-        if ends(body, *instr) {
+        if ends_body(body, *instr) {
             return Some(start);
         }
         if is_end(*instr) {

@@ -15,7 +15,6 @@ mod code;
 mod effect;
 mod frame;
 mod instr;
-pub mod laws;
 mod receives;
 mod run;
 mod step;

@@ -1,7 +1,7 @@
 //! Where the handlers of a receive stand.
 
 ghost use Rattle.std.specs.Prelude.{◌≡◌, ◌+◌, ◌<◌, ◌≤◌, length, drop, false};
-ghost use Rattle.so_code.specs.Receives.{is_case, is_case_of, is_back, handlers, past, handler_from, handler_at};
+ghost use Rattle.so_code.specs.Receives.{is_case, is_case_of, is_back, handlers_length, past, handler_from, handler_at};
 
 use crate::instr::Instr;
 use so_ids::MsgId;
@@ -31,8 +31,8 @@ fn is_back(instr: Instr) -> bool
 }
 
 /// How many instructions the handlers at the head of the code take.
-fn handlers(code: &[Instr]) -> usize
-    ensures count { result ≡ handlers false code.now }
+fn handlers_length(code: &[Instr]) -> usize
+    ensures count { result ≡ handlers_length false code.now }
     ensures within { result ≤ length code.now }
 {
     let mut inside = false;
@@ -54,7 +54,7 @@ pub(crate) fn past(code: &[Instr], receive: u32) -> u32
     requires place { receive < length code.now }
     ensures { result ≡ past code.now receive }
 {
-    receive + 1 + handlers(&code[receive as usize + 1..]) as u32
+    receive + 1 + handlers_length(&code[receive as usize + 1..]) as u32
 }
 
 /// Where the handler of a case and type begins, among those at the head of the code.

@@ -19,6 +19,7 @@ fn run(code: &[Instr], frame: &mut Frame) -> Move
     ensures frame { IsFrame code.now frame.new }
     ensures waits { (effect : AnyEffect) → result ≡ Move.Do effect → frame.new.todo ≡ Todo.Wait effect }
 {
+    // a plan has at most 33 parts, and each of them, and what comes before them, takes fewer steps than the bracket
     for _step in 0..34 * (2 * code.len() + 3) {
         if let Some(found) = frame.step(code) {
             return found;

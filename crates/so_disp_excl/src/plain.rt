@@ -4,7 +4,7 @@ ghost use Rattle.so_scene.specs.Lanes.{lanes, keys};
 ghost use Rattle.so_queue.specs.Queues.{keys_of};
 ghost use Rattle.so_disp_excl.specs.Pick.{open_front, pick};
 
-use crate::ring::is_open;
+use crate::ring::open_front;
 use so_ids::{DemandId, KeyId, LaneId};
 use so_queue::{Queues, lesser_of};
 use so_scene::Scene;
@@ -21,18 +21,4 @@ pub fn plain_pick(scene: &Scene, queues: &Queues, lane: LaneId) -> Option<Demand
         best = lesser_of(best, open_front(scene, queues, lane, KeyId(key)));
     }
     best
-}
-
-/// The front of a queue, where the lane may take from it.
-fn open_front(scene: &Scene, queues: &Queues, lane: LaneId, key: KeyId) -> Option<DemandId>
-    requires lane { lane.0 < lanes scene.now }
-    requires keys { keys_of queues.now ≡ keys scene.now }
-    requires key { key.0 < keys scene.now }
-    ensures { result ≡ open_front scene.now queues.now lane key.0 }
-{
-    if is_open(scene, queues, lane, key) {
-        queues.front(key)
-    } else {
-        None
-    }
 }

@@ -10,10 +10,10 @@ use Rattle.so_history.specs.Chain.{first, next_entry, FollowsFirst, IsChain}
 use Rattle.so_history.proofs.TurnLaws.{none_first}
 use Rattle.so_ledger.specs.Shapes.{Core}
 use Rattle.so_ledger.specs.Gates.{gated, core_after}
-use Rattle.so_kernel.specs.Answers.{stepped, entries}
+use Rattle.so_kernel.specs.Answers.{step_answers, entries}
 use Rattle.so_kernel.specs.Held.{AreHeld, IsLaneHeld}
-use Rattle.so_ledger.specs.declared.gate.Refused.{Refused}
-use Rattle.so_ledger.specs.declared.gate.Refused.TheVariants.{Nothing, Full, Over}
+use Rattle.so_ledger.specs.declared.gate.Barred.{Barred}
+use Rattle.so_ledger.specs.declared.gate.Barred.TheVariants.{Nothing, Full, Over}
 use Rattle.so_kernel.specs.declared.answers.Stepped.{Stepped}
 use Rattle.so_kernel.specs.declared.answers.Turn.{Turn}
 use Rattle.so_ledger.proofs.GateLaws.{fits_gated}
@@ -22,23 +22,23 @@ use Rattle.so_kernel.proofs.AnswerLaws.{one_entry}
 use Rattle.so_env.specs.Runs.{IsOnTheWay}
 
 -- a step added an entry, or added none
-abbrev pub Adds : Result Entry Refused → Type 0
-Adds g = entries (stepped g) ≡ 0 → ⊥
+abbrev pub Adds : Result Entry Barred → Type 0
+Adds g = entries (step_answers g) ≡ 0 → ⊥
 
-added_ok : (g : Result Entry Refused) → Adds g → (e : Entry) × (g ≡ Ok e)
+added_ok : (g : Result Entry Barred) → Adds g → (e : Entry) × (g ≡ Ok e)
 added_ok (Ok e) h = (e, refl)
 added_ok (Err Nothing) h = absurd (h refl)
 added_ok (Err Full) h = absurd (h refl)
 added_ok (Err Over) h = absurd (h refl)
 
-refused_err : (g : Result Entry Refused) → entries (stepped g) ≡ 0 → (why : Refused) × (g ≡ Err why)
+refused_err : (g : Result Entry Barred) → entries (step_answers g) ≡ 0 → (why : Barred) × (g ≡ Err why)
 refused_err (Ok e) h = absurd (omega (arith, one_entry e.kind, h))
 refused_err (Err why) h = (why, refl)
 
-pub adds : (g : Result Entry Refused) (answer : Stepped) (n : ℕ) → answer ≡ stepped g → n ≡ entries answer → (n ≡ 0 → ⊥) → Adds g
+pub adds : (g : Result Entry Barred) (answer : Stepped) (n : ℕ) → answer ≡ step_answers g → n ≡ entries answer → (n ≡ 0 → ⊥) → Adds g
 adds g answer n is count some = λ none. some (count ∙ (ap entries is ∙ none))
 
-pub adds_none : (g : Result Entry Refused) (answer : Stepped) (n : ℕ) → answer ≡ stepped g → n ≡ entries answer → n ≡ 0 → entries (stepped g) ≡ 0
+pub adds_none : (g : Result Entry Barred) (answer : Stepped) (n : ℕ) → answer ≡ step_answers g → n ≡ entries answer → n ≡ 0 → entries (step_answers g) ≡ 0
 adds_none g answer n is count none = ap entries (sym is) ∙ (sym count ∙ none)
 
 next_is : (s : SceneParts) (limit : ℕ) (k : Core) (r : Option Entry) → k.scene ≡ s → k.limit ≡ limit → next_entry k.scene k.limit k.history ≡ r → next_entry s limit k.history ≡ r
@@ -66,12 +66,12 @@ way_shorter k l added after =
     let room : length k.history < k.limit = fits_gated k (first k.scene k.history) ok.0 ok.1 in
     rw is (omega arith)
 
-same_history : (k : Core) (why : Refused) → ((core_after k (Err why)).history ≡ k.history) × ((core_after k (Err why)).scene ≡ k.scene)
+same_history : (k : Core) (why : Barred) → ((core_after k (Err why)).history ≡ k.history) × ((core_after k (Err why)).scene ≡ k.scene)
 same_history k Nothing = (refl, refl)
 same_history k Full = (refl, refl)
 same_history k Over = (refl, refl)
 
-pub way_end : (s : SceneParts) (limit : ℕ) (k l : Core) (ts : List (Option Turn)) → IsOnTheWay s limit k ts → entries (stepped (gated k (first k.scene k.history))) ≡ 0 → l ≡ core_after k (gated k (first k.scene k.history)) →
+pub way_end : (s : SceneParts) (limit : ℕ) (k l : Core) (ts : List (Option Turn)) → IsOnTheWay s limit k ts → entries (step_answers (gated k (first k.scene k.history))) ≡ 0 → l ≡ core_after k (gated k (first k.scene k.history)) →
     IsChain s limit l.history × (l.scene ≡ s)
 way_end s limit k l ts way other after =
     let err = refused_err (gated k (first k.scene k.history)) other in
@@ -105,7 +105,7 @@ added_entry k l added after =
     let is : l ≡ record k { history = ok.0 ∷ k.history } = after ∙ ap (core_after k) ok.1 in
     (ok.0, ap (λ (x : Core). x.history) is, ap (λ (x : Core). x.scene) is)
 
-pub same_after : (k l : Core) → entries (stepped (gated k (first k.scene k.history))) ≡ 0 → l ≡ core_after k (gated k (first k.scene k.history)) → l.history ≡ k.history
+pub same_after : (k l : Core) → entries (step_answers (gated k (first k.scene k.history))) ≡ 0 → l ≡ core_after k (gated k (first k.scene k.history)) → l.history ≡ k.history
 same_after k l other after =
     let err = refused_err (gated k (first k.scene k.history)) other in
     let is : l ≡ core_after k (Err err.0) = after ∙ ap (core_after k) err.1 in

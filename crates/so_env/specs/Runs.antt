@@ -1,5 +1,5 @@
 -- What holds on the way of a simulation.
-use Rattle.std.specs.Prelude.{◌≡◌, ℕ, ◌<◌, List, [], true, false, Option, None, slice_index_or, is_some}
+use Rattle.std.specs.Prelude.{◌≡◌, ℕ, ◌<◌, List, [], false, Option}
 use Rattle.so_lists.specs.Lists.{or_else, first_below}
 use Rattle.so_scene.specs.declared.parts.SceneParts.{SceneParts}
 use Rattle.so_scene.specs.Lanes.{lanes}
@@ -10,10 +10,6 @@ use Rattle.so_history.specs.Chain.{registration, tidying, taking_entry, FollowsF
 use Rattle.so_ledger.specs.Shapes.{Core}
 use Rattle.so_kernel.specs.Held.{AreHeld}
 use Rattle.so_kernel.specs.declared.answers.Turn.{Turn}
-
--- no turn is in hand below a lane
-abbrev pub NoneBelow : List (Option Turn) → ℕ → Type 0
-NoneBelow ts n = (l : ℕ) → l < n → slice_index_or ts l None ≡ None
 
 -- no turn runs on a lane, or the run was aborted
 abbrev pub NoneRuns : Core → Type 0
@@ -30,12 +26,6 @@ tidy_first k = or_else (tidying k.scene k.history) (lanes_entry k (lanes k.scene
 -- the first step where no turn runs
 abbrev pub free_first : Core → Option Entry
 free_first k = or_else (registration k.scene k.history) (tidy_first k)
-
--- the first turn in hand is that of a lane
-pub record IsFirstHeld (ts : List (Option Turn)) (n lane : ℕ) : Type 0 where
-  pub in_range : lane < n
-  pub holds : is_some (slice_index_or ts lane None) ≡ true
-  pub none_before : NoneBelow ts lane
 
 -- the simulation has come so far
 pub record IsOnTheWay (s : SceneParts) (limit : ℕ) (k : Core) (ts : List (Option Turn)) : Type 0 where

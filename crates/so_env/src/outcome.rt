@@ -1,7 +1,7 @@
 //! What a run gave.
 
+use so_fault::SceneFault;
 use so_history::History;
-use so_scene::SceneFault;
 
 /// Why a run ended, or why there was none.
 #[derive(Drop)]
@@ -31,6 +31,9 @@ pub enum Cause {
 pub struct Outcome {
     pub history: Option<History>,
     pub cause: Cause,
-    /// How many pieces were handed to the output: one for each line.
+    /// The units that the history cost; 0 where there is none.
+    pub units: u32,
+    /// How many pieces were handed to the output, one that failed among them: each of 4,096 bytes, the last of fewer or
+    /// as many.
     pub pieces: u64,
 }

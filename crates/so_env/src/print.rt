@@ -1,51 +1,39 @@
-//! Printing the lines of a run, one piece each, until a write fails.
+//! Printing the lines of a run, until a piece fails.
 
-ghost use Rattle.std.specs.Prelude.{◌≡◌, ◌<◌, ◌-◌, length};
+ghost use Rattle.std.specs.Prelude.{◌≡◌, ◌<◌, ◌-◌, ◌++◌, ℕ, List, Option, length};
 ghost use Rattle.so_history.specs.Steps.{Legal};
 ghost use Rattle.so_history.specs.Text.{line_at};
-ghost use Rattle.so_env.specs.Prints.{PrintsLine, RisesAnew, pieces_after};
+ghost use Rattle.so_printer.specs.Printing.{IsPrinting, IsOneAtMost, RisesAnew};
 
 use so_history::{History, Mode};
 use so_ids::Place;
-use so_io::{Sink, put_all};
+use so_io::Sink;
 use so_lines::LineBuf;
+use so_printer::Printer;
 use so_scene::Scene;
 
-/// How far the printing has come: whether a write failed, and how many pieces were handed out.
-#[derive(Clone, Copy, PartialEq, Eq)]
-pub(crate) struct Printing {
-    pub failed: bool,
-    pub pieces: u64,
-}
-
-/// Prints the line of the newest entry, unless a write has failed.
+/// Prints the line of the newest entry, unless a piece has failed. `line` is where it is made.
 pub(crate) fn print_last<K: Sink>(
     history: &History,
     scene: &Scene,
     mode: Mode,
+    line: &mut LineBuf,
     out: &mut K,
-    printing: Printing,
-) -> Printing
+    printer: &mut Printer,
+)
     requires some { 0 < length history.now.entries }
     requires legal { Legal scene.now history.now.entries }
-    requires few { printing.pieces < length history.now.entries }
-    ensures line { PrintsLine printing.failed result.failed (K.content out.old) (K.content out.new)
-        (line_at scene.now mode history.now.entries (length history.now.entries - 1)) }
-    ensures pieces { result.pieces ≡ pieces_after printing.failed printing.pieces (line_at scene.now mode history.now.entries (length history.now.entries - 1)) }
-    ensures cause { RisesAnew printing.failed result.failed (K.faults out.old) (K.faults out.new) }
+    requires few { printer.old.pieces < length history.now.entries }
+    ensures text { (first : Option (List ℕ)) (text : List ℕ)
+        → IsPrinting printer.old.failed first (K.content out.old) printer.old text
+        → IsPrinting printer.new.failed first (K.content out.new) printer.new
+        (text ++ line_at scene.now mode history.now.entries (length history.now.entries - 1)) }
+    ensures pieces { IsOneAtMost printer.old.pieces printer.new.pieces }
+    ensures cause { RisesAnew printer.old.failed printer.new.failed (K.faults out.old) (K.faults out.new) }
 {
-    if printing.failed {
-        return printing;
+    if printer.failed() {
+        return;
     }
-    let mut line = LineBuf::new();
-    history.line(scene, mode, Place(history.len() - 1), &mut line);
-    let pieces = if line.is_empty() {
-        printing.pieces
-    } else {
-        printing.pieces + 1
-    };
-    Printing {
-        failed: put_all(out, line.as_slice()).is_err(),
-        pieces,
-    }
+    history.line(scene, mode, Place(history.len() - 1), line);
+    printer.add(out, line.as_slice());
 }

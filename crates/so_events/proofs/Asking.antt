@@ -1,8 +1,9 @@
 -- What is asked of one agent more.
-use Rattle.std.proofs.Common.{◌≡◌, ℕ, zero, suc, ◌+◌, ◌<◌, List, [], ◌∷◌, ◌++◌, length, map, take, Some, None, arith, refl, sym, ◌∙◌, ap, add-one, append_assoc}
+use Rattle.std.proofs.Common.{◌≡◌, ℕ, zero, suc, ◌+◌, ◌<◌, List, [], ◌∷◌, ◌++◌, length, map, take, Some, None, arith, refl, sym, ◌∙◌, ap, subst, add-one, append_assoc}
 use Rattle.std.proofs.lemmas.List.{map-append, length-map, append-nil}
 use Rattle.std.proofs.lemmas.Option.{same_Some}
 use Rattle.std.specs.Prelude.{slice_get}
+use Rattle.std.specs.List.{All}
 use Rattle.so_ids.specs.declared.Queued.{Queued}
 use Rattle.so_ids.specs.declared.AgentId.{AgentId}
 use Rattle.so_lists.specs.Lists.{each_below}
@@ -81,3 +82,8 @@ pub past_end : (xs : List Queued) (k : ℕ) → k < length xs → slice_get xs k
 past_end [] k l none = absurd (omega arith)
 past_end (x ∷ xs) zero l none = cc
 past_end (x ∷ xs) (suc k) l none = past_end xs k (omega (arith, l)) none
+
+pub event_known : (n : ℕ) (xs : List Queued) (k : ℕ) (x : Queued) → slice_get xs k ≡ Some x → All (λ (e : Queued). e.agent.0 < n) xs → x.agent.0 < n
+event_known n [] k x here all = absurd cc
+event_known n (y ∷ xs) zero x here all = subst (λ (e : Queued). e.agent.0 < n) (same_Some y x here) (all 0 y (omega arith))
+event_known n (y ∷ xs) (suc k) x here all = event_known n xs k x here (λ i e l. all (suc i) e (omega (arith, l)))

@@ -7,3 +7,4 @@ pub mod PickLaws
 pub mod NextLaws
 pub mod PickedLaws
 pub mod RoundTable
+pub mod CountLaws

@@ -1,30 +1,28 @@
 -- The queues after a demand more or less.
-use Rattle.std.proofs.Common.{◌≡◌, ℕ, zero, suc, ◌+◌, ◌*◌, ◌<◌, ◌≤◌, List, [], ◌∷◌, ◌++◌, length, map, Bool, true, false, ◌||◌, ◌&&◌, not, Some, arith, refl, sym, ◌∙◌, ap, subst, inl, inr, append_assoc}
+use Rattle.std.proofs.Common.{◌≡◌, ℕ, zero, suc, ◌+◌, ◌*◌, ◌<◌, ◌≤◌, List, [], ◌∷◌, ◌++◌, length, map, Bool, true, false, ◌||◌, ◌&&◌, not, Some, arith, refl, sym, ◌∙◌, ap, subst, inl, inr}
 use Rattle.std.specs.Prelude.{slice_set, slice_index_or, replicate}
-use Rattle.std.specs.List.{filter, find, All, AllByRecursion}
+use Rattle.std.specs.List.{filter, find, AllByRecursion}
 use Rattle.std.proofs.lemmas.Bool.{cases_Bool, cases_lt, eq-eqb, ne_eqb, eqb-true}
 use Rattle.std.proofs.lemmas.List.{append-nil, length-append, map-append, length-replicate, get_or_past}
 use Rattle.std.proofs.lemmas.List.Elements.{filter-append}
 use Rattle.so_ids.specs.declared.DemandId.{DemandId}
-use Rattle.so_ids.specs.declared.Place.{Place}
-use Rattle.so_ids.specs.declared.Queued.{Queued}
 use Rattle.so_ids.specs.Ids.{same_demand, is_earlier}
 use Rattle.so_lists.specs.Lists.{each_below}
-use Rattle.so_lists.proofs.Filters.{each-append, each-weaker, each-filter, found, filter-filter, filter-short, both_each, ap2_append}
+use Rattle.so_lists.proofs.Filters.{each-append, each-weaker, each-filter, found, filter-filter, filter-short, ap2_append}
 use Rattle.so_lists.proofs.EachBelow.{get_or-each_below, length-each_below, each_below-set, each_below-replicate}
 use Rattle.so_scene.specs.declared.parts.SceneParts.{SceneParts}
 use Rattle.so_scene.specs.Lanes.{keys, key_of}
 use Rattle.so_queue.specs.Queues.{QueueTable, no_demands, list_at, head_of, behind_head, IsAmong, after_take}
-use Rattle.so_queue.proofs.OrderLaws.{earlier_at_once, earlier_there}
+use Rattle.so_queue.proofs.OrderLaws.{earlier_there}
 use Rattle.so_scene.specs.Parts.{priority_of}
-use Rattle.so_deliver.specs.Commit.{after_demand, committed_from}
+use Rattle.so_deliver.specs.Commit.{after_demand}
 use Rattle.so_history.specs.declared.entry.Demand.{Demand}
-use Rattle.so_history.specs.Demands.{Asked, ask, demands_from, without}
-use Rattle.so_history.proofs.NameLaws.{itself, filter-without, demands_from_sorted, named_here}
+use Rattle.so_history.specs.Demands.{Asked, demands_from, without}
+use Rattle.so_history.proofs.NameLaws.{itself, filter-without}
 use Rattle.so_events.specs.Events.{place_of, is_beside}
 use Rattle.so_events.specs.Tied.{AreInOrder, id_of, is_at, ids_at, waits_in, waiting_in, IsTied}
 use Rattle.so_events.proofs.ListLaws.{filter_same_each, or-right, or-nothing}
-use Rattle.so_events.proofs.NameOrder.{sorted_of, order_of, order-filter, order-last, other_way}
+use Rattle.so_events.proofs.NameOrder.{sorted_of, order-filter, order-last, other_way}
 use Rattle.so_events.proofs.HeldLaws.{place_known, held_is}
 
 -- ---- nothing waits
@@ -125,72 +123,6 @@ among_queued P s all q cap t each n e among =
           (let long : length q.lists ≤ n = omega (arith, ap length t.lists, length-each_below (ids_at s (waiting_in s q.lists all)) (8 * keys s)) in
           absurd (subst W (get_or_past q.lists n [] long) among))
     ]
-
--- ---- several demands are queued
-
-abbrev pub queue_all : SceneParts → List Demand → QueueTable → QueueTable
-queue_all s [] q = q
-queue_all s (d ∷ ds) q = queue_all s ds (after_demand s d.agent d.id q)
-
-abbrev pub AllEarlier : List Demand → List Demand → Type 0
-AllEarlier all ds = AllByRecursion (λ (d : Demand). AllByRecursion (λ (x : Demand). is_earlier x.id d.id ≡ true) all) ds
-
-pub pushed_all : (s : SceneParts) (all ds : List Demand) (q : QueueTable) (cap : ℕ) → IsTied s all (waiting_in s q.lists all) q cap → AllByRecursion (λ (d : Demand). d.agent.0 < length s.agents) ds → length all + length ds ≤ cap → AllEarlier all ds → AreInOrder ds →
-    Pushed s all ds q (queue_all s ds q) cap
-pushed_all s all [] q cap t its few last order =
-    let none = append-nil (waiting_in s q.lists all) in
-    record {
-      waiting = ap (waiting_in s q.lists) (append-nil all) ∙ sym none;
-      tied = subst (λ a. IsTied s a (waiting_in s q.lists all ++ []) q cap) (sym (append-nil all)) (subst (λ w. IsTied s all w q cap) (sym none) t);
-    }
-pushed_all s all (d ∷ ds) q cap t its few last order =
-    let q1 = after_demand s d.agent d.id q in
-    let all1 = all ++ d ∷ [] in
-    let W = waiting_in s q.lists all in
-    let one = pushed s all q cap d t its.0 (omega (arith, few)) last.0 in
-    let t1 : IsTied s all1 (waiting_in s q1.lists all1) q1 cap = subst (λ w. IsTied s all1 w q1 cap) (sym one.waiting) one.tied in
-    let last1 : AllEarlier all1 ds = each-weaker (λ (e : Demand). AllByRecursion (λ (x : Demand). is_earlier x.id e.id ≡ true) all × (is_earlier d.id e.id ≡ true)) (λ (e : Demand). AllByRecursion (λ (x : Demand). is_earlier x.id e.id ≡ true) all1)
-    (λ e h. each-append (λ (x : Demand). is_earlier x.id e.id ≡ true) all (d ∷ []) h.0 (h.1, tt)) ds
-    (both_each (λ (e : Demand). AllByRecursion (λ (x : Demand). is_earlier x.id e.id ≡ true) all) (λ (e : Demand). is_earlier d.id e.id ≡ true) ds last.1 order.0) in
-    let rest = pushed_all s all1 ds q1 cap t1 its.1 (omega (arith, few, length-append all (d ∷ []))) last1 order.1 in
-    let w : waiting_in s q1.lists all1 ++ ds ≡ W ++ d ∷ ds = ap (λ l. l ++ ds) one.waiting ∙ append_assoc W (d ∷ []) ds in
-    record {
-      waiting = ap (waiting_in s (queue_all s ds q1).lists) (sym (append_assoc all (d ∷ []) ds)) ∙ (rest.waiting ∙ w);
-      tied = subst (λ a. IsTied s a (W ++ d ∷ ds) (queue_all s ds q1) cap) (append_assoc all (d ∷ []) ds) (subst (λ l. IsTied s (all1 ++ ds) l (queue_all s ds q1) cap) w rest.tied);
-    }
-
-committed_is : (s : SceneParts) (place : Place) (k : ℕ) (events : List Queued) (q : QueueTable) → committed_from s place k events q ≡ queue_all s (demands_from place.0 k (map ask events)) q
-committed_is s place k [] q = refl
-committed_is s place k (event ∷ events) q = committed_is s place (k + 1) events (after_demand s event.agent (record { place = place; k = k }) q)
-
-pub committed-safe : (s : SceneParts) (place : Place) (k : ℕ) (events : List Queued) (q : QueueTable) → (committed_from s place k events q).safe ≡ q.safe
-committed-safe s place k [] q = refl
-committed-safe s place k (event ∷ events) q = committed-safe s place (k + 1) events (after_demand s event.agent (record { place = place; k = k }) q)
-
-pub committed-exclusive : (s : SceneParts) (place : Place) (k : ℕ) (events : List Queued) (q : QueueTable) → (committed_from s place k events q).exclusive ≡ q.exclusive
-committed-exclusive s place k [] q = refl
-committed-exclusive s place k (event ∷ events) q = committed-exclusive s place (k + 1) events (after_demand s event.agent (record { place = place; k = k }) q)
-
-known_events : (s : SceneParts) (place k : ℕ) (events : List Queued) → All (λ (e : Queued). e.agent.0 < length s.agents) events → AllByRecursion (λ (d : Demand). d.agent.0 < length s.agents) (demands_from place k (map ask events))
-known_events s place k [] all = tt
-known_events s place k (event ∷ events) all = (all 0 event (omega arith), known_events s place (k + 1) events (λ i e l. all (suc i) e (omega (arith, l))))
-
-later_demands : (place k : ℕ) (all : List Demand) (asked : List Asked) → AllByRecursion (λ (x : Demand). x.id.place.0 < place) all → AllEarlier all (demands_from place k asked)
-later_demands place k all asked before =
-    each-weaker (λ (d : Demand). d.id.place.0 ≡ place) (λ (d : Demand). AllByRecursion (λ (x : Demand). is_earlier x.id d.id ≡ true) all)
-    (λ d at. each-weaker (λ (x : Demand). x.id.place.0 < place) (λ (x : Demand). is_earlier x.id d.id ≡ true) (λ x l. let m : x.id.place.0 < place = l in let n : d.id.place.0 ≡ place = at in earlier_at_once x.id d.id (omega arith)) all before)
-    (demands_from place k asked) (named_here place k asked)
-
-length-demands : (place k : ℕ) (events : List Queued) → length (demands_from place k (map ask events)) ≡ length events
-length-demands place k [] = refl
-length-demands place k (event ∷ events) = ap suc (length-demands place (k + 1) events)
-
-pub pushed_events : (s : SceneParts) (all : List Demand) (q : QueueTable) (cap : ℕ) (place : Place) (events : List Queued) → IsTied s all (waiting_in s q.lists all) q cap → All (λ (e : Queued). e.agent.0 < length s.agents) events → length all + length events ≤ cap → AllByRecursion (λ (x : Demand). x.id.place.0 < place.0) all →
-    Pushed s all (demands_from place.0 0 (map ask events)) q (committed_from s place 0 events q) cap
-pushed_events s all q cap place events t its few before =
-    rw (committed_is s place 0 events q)
-    (pushed_all s all (demands_from place.0 0 (map ask events)) q cap t (known_events s place.0 0 events its) (omega (arith, few, length-demands place.0 0 events)) (later_demands place.0 0 all (map ask events) before)
-    (order_of (demands_from place.0 0 (map ask events)) (demands_from_sorted place.0 0 (map ask events))))
 
 -- the demands of a place before a number
 pub numbers_before : (place k n : ℕ) (asked : List Asked) → k + length asked ≤ n → AllByRecursion (λ (d : Demand). is_earlier d.id (record { place = record { 0 = place }; k = n }) ≡ true) (demands_from place k asked)

@@ -1,3 +1,4 @@
 pub mod Events
 pub mod Tied
 pub mod Picked
+pub mod Counts

@@ -1,10 +1,11 @@
 //! The demands of a run.
-ghost use Rattle.std.specs.Prelude.{◌≡◌, ◌<◌, ◌≤◌, ◌+◌, ◌-◌, ◌^◌, [], ◌∷◌, ◌++◌, true, Some, length, map, vec_capacity, IfOk, List};
+ghost use Rattle.std.specs.Prelude.{◌≡◌, ℕ, ◌<◌, ◌≤◌, ◌+◌, ◌-◌, ◌^◌, [], ◌∷◌, true, Some, None, length, map, IfOk};
 ghost use Rattle.std.specs.List.{All, AllByRecursion, find};
 ghost use Rattle.so_ids.specs.Ids.{is_earlier};
 ghost use Rattle.so_ids.specs.declared.Queued.{Queued as Event};
 ghost use Rattle.so_history.specs.declared.entry.Demand.{Demand as AnyDemand};
 ghost use Rattle.so_lists.specs.Lists.{is_empty};
+ghost use Rattle.so_disp_adv.specs.declared.heads.HeadClass.{HeadClass};
 ghost use Rattle.so_scene.specs.Lanes.{lanes, keys};
 ghost use Rattle.so_scene.specs.Parts.{agents_from};
 ghost use Rattle.so_history.specs.Demands.{ask, ask_each, demand_of, demands_from, named};
@@ -13,8 +14,9 @@ ghost use Rattle.so_events.specs.Tied.{overlaps};
 ghost use Rattle.so_events.specs.Picked.{picked_on};
 ghost use Rattle.so_queue.specs.Queues.{keys_of};
 
+use crate::counts::LaneCounts;
 use crate::find::find_demand;
-use so_deliver::{Outcomes, commit, queue_demand};
+use so_deliver::{Outcomes, queue_demand};
 use so_disp_adv::Heads;
 use so_disp_prio::Prio;
 use so_history::{Demand, DemandKind};
@@ -32,6 +34,7 @@ pub struct Events<'a> {
     queued: Vec<Demand>,
     queues: Queues,
     prio: Prio,
+    counts: LaneCounts,
     room: u32,
 }
 
@@ -39,6 +42,7 @@ impl<'a> Model for Events<'a> {
     ghost use Rattle.std.specs.Prelude.{◌≡◌, ◌≤◌, ◌<◌, ◌^◌, length, vec_capacity};
     ghost use Rattle.so_events.specs.Events.{EventTable};
     ghost use Rattle.so_events.specs.Tied.{waiting_in, IsTied};
+    ghost use Rattle.so_events.specs.Counts.{IsCounted};
 
     ghost Value = { EventTable };
 
@@ -53,7 +57,8 @@ impl<'a> Model for Events<'a> {
     } };
 
     ghost invariant = { λ e. IsTied e.scene.now e.queued.items (waiting_in e.scene.now e.queues.lists e.queued.items) e.queues e.room
-        × (length e.prio ≡ length e.scene.now.dispatchers) × (e.room ≤ vec_capacity e.queued) × (e.room < 2 ^ 32) };
+        × (length e.prio ≡ length e.scene.now.dispatchers) × (e.room ≤ vec_capacity e.queued) × (e.room < 2 ^ 32)
+        × IsCounted e.scene.now (waiting_in e.scene.now e.queues.lists e.queued.items) e.counts };
 }
 
 impl<'a> Events<'a> {
@@ -63,6 +68,7 @@ impl<'a> Events<'a> {
     {
         let queues = Queues::with(alloc, scene.keys(), room)?;
         let prio = Prio::with(alloc, scene)?;
+        let counts = LaneCounts::with(alloc, scene)?;
         let Ok(queued) = Vec::with_capacity(alloc, room as usize) else {
             return Err(NoMemory);
         };
@@ -71,6 +77,7 @@ impl<'a> Events<'a> {
             queued,
             queues,
             prio,
+            counts,
             room,
         })
     }
@@ -90,6 +97,7 @@ impl<'a> Events<'a> {
         ensures { self.new ≡ after_demands (demand ∷ []) self.old }
     {
         queue_demand(self.scene, demand.agent, demand.id, &mut self.queues);
+        self.counts.add(self.scene, demand.agent);
         self.queued.push_reserved(demand);
     }
 
@@ -117,8 +125,12 @@ impl<'a> Events<'a> {
         requires later { AllByRecursion (λ (d : AnyDemand). d.id.place.0 < place.0) self.old.queued }
         ensures { self.new ≡ after_demands (demands_from place.0 0 (map ask outcomes.now.queued)) self.old }
     {
-        commit(self.scene, outcomes, &mut self.queues, place);
-        extend(&mut self.queued, place, outcomes);
+        for k in 0..outcomes.len() {
+            match outcomes.queued_at(k) {
+                Some(event) => self.push(demand_of(place, k, event)),
+                None => unreachable!(),
+            }
+        }
     }
 
     /// The demand of this name, among all that were queued.
@@ -126,6 +138,20 @@ impl<'a> Events<'a> {
         ensures { result ≡ named id self.now.queued }
     {
         find_demand(&self.queued, id)
+    }
+
+    /// A lane before which no lane may take a demand, at most one past the last.
+    pub fn first_lane(&self) -> u32
+        ensures within { result ≤ lanes self.now.scene }
+        ensures none { (l : ℕ) → l < result → (class : DemandId → HeadClass) → find (may_take_by self.now class (record { 0 = l })) self.now.waiting ≡ None }
+    {
+        let lanes = self.scene.lanes();
+        for lane in 0..lanes {
+            if self.counts.waiting[lane as usize] > 0 {
+                return lane;
+            }
+        }
+        lanes
     }
 
     /// The first demand that the lane may take: it serves the demand's queue, the demand is the next of it, and the
@@ -156,6 +182,7 @@ impl<'a> Events<'a> {
         let key = self.scene.key(demand.agent);
         let priority = self.scene.priority(demand.agent);
         let _id = self.queues.take(key, priority);
+        self.counts.remove(self.scene, demand.agent);
         self.prio.took(self.scene, lane, priority);
     }
 
@@ -197,20 +224,6 @@ fn pick_on<H: Heads>(
         DispKind::AdvThreadPool => so_disp_adv::pick(scene, queues, heads, lane),
         DispKind::StrictlyOrdered | DispKind::QuotedRoundRobin => prio.pick(scene, queues, lane),
         _ => so_disp_excl::pick(scene, queues, lane),
-    }
-}
-
-/// Adds the events of a delivery to the demands that were queued.
-fn extend(queued: &mut Vec<Demand>, place: Place, outcomes: &Outcomes)
-    requires { length queued.old.items + length outcomes.now.queued ≤ vec_capacity queued.old }
-    ensures items { queued.new.items ≡ queued.old.items ++ demands_from place.0 0 (map ask outcomes.now.queued) }
-    ensures room { vec_capacity queued.old ≤ vec_capacity queued.new }
-{
-    for k in 0..outcomes.len() {
-        match outcomes.queued_at(k) {
-            Some(event) => queued.push_reserved(demand_of(place, k, event)),
-            None => unreachable!(),
-        }
     }
 }
 

@@ -2,6 +2,7 @@
 //! queue, and the rounds of the dispatchers.
 #![tactic(auto)]
 
+mod counts;
 mod events;
 mod find;
 

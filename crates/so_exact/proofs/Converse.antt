@@ -46,12 +46,12 @@ use Rattle.so_history.specs.Turns.{Started, Course, ended, running, running_with
 use Rattle.so_history.specs.Safety.{kind_of, is_safe}
 use Rattle.so_history.specs.Heads.{is_of_priority, some_of_priority, first_of_priority, from_highest, first_of_highest, moved_round, round, in_queue, next_by, is_it, is_next}
 use Rattle.so_history.specs.Order.{opening_of, skipped, runs_safe, goes_beside, is_allowed_beside, is_free, may_take, pick, taking_as}
-use Rattle.so_history.specs.Steps.{waiting_for, running_for, may_leave, entry_of, may_stop, is_over, IsMove, IsTaking, IsRow, IsStep, Legal}
+use Rattle.so_history.specs.Steps.{waiting_for, running_for, may_leave, entry_of, may_stop, is_over, IsMove, IsTaking, MayFollow, IsStep, Legal}
 use Rattle.so_history.specs.Finishing.{IsQuiet}
 use Rattle.so_history.specs.Facts.{StandsAt, BeginsAt, BeginsWith, SkipsWith, EndsBefore, RegistersAt, by_main, RefusesAt, ShareQueue, ShareOrder, is_by_priority}
 use Rattle.so_history.proofs.NameLaws.{same_place, itself, found_by_name}
 use Rattle.so_history.proofs.PlaceLaws.{inside, entry_at-last, entry_at-early, before-last, before-early, before-entry}
-use Rattle.so_history.proofs.PresenceLaws.{stood_before}
+use Rattle.so_history_laws.proofs.PresenceLaws.{stood_before}
 use Rattle.so_history.proofs.DemandLaws.{waiting_sorted, waiting_named, waiting_early, waiting_untaken, waiting_of, pick-free}
 use Rattle.so_history.proofs.OrderLaws.{takes_taken, named-early}
 use Rattle.so_history.proofs.TurnLaws.{turn_of, running_looked_up, running_of, turn_looked_up}
@@ -382,7 +382,7 @@ module _ (s : SceneParts) (h : List Entry) (scene : IsScene s) (f : HasAllFacts 
       let it : MovesSo s g turn Done = subst (λ k. MovesSo s k turn Done) b (f.code.ends n turn (stands (End turn) is)) in
       move_row turn (End turn) (f.runs.moves n turn e at (ap moved_turn is)) it.reached it.has (ap (entry_of s g it.reached.agent it.reached.event turn.0) it.is_next)
 
-  abort_row : (cause : AbortCause) → e.kind ≡ Abort cause → IsRow s g e.by (Abort cause)
+  abort_row : (cause : AbortCause) → e.kind ≡ Abort cause → MayFollow s g e.by (Abort cause)
   abort_row (Exception turn kind) is =
       let it : MovesSo s g turn (Fail kind) = subst (λ k. MovesSo s k turn (Fail kind)) b (f.code.fails n turn kind (stands (Abort (Exception turn kind)) is)) in
       move_row turn (Abort (Exception turn kind)) (f.runs.moves n turn e at (ap moved_turn is)) it.reached it.has (ap (entry_of s g it.reached.agent it.reached.event turn.0) it.is_next)
@@ -414,7 +414,7 @@ module _ (s : SceneParts) (h : List Entry) (scene : IsScene s) (f : HasAllFacts 
       may_leave_from s g c (subst (λ k. leaving k c ≡ true) b (f.reason.begun n c it)) quiet.waiting quiet.running
       (passes_none (is_child s (standing g) c) (each_below coop_number (length s.coops)) (all-each_below (λ x. is_child s (standing g) c x ≡ false) coop_number (length s.coops) (λ i l. no_child c (coop_number i) is)))
 
-  row_of : (kind : EntryKind) → e.kind ≡ kind → IsRow s g e.by kind
+  row_of : (kind : EntryKind) → e.kind ≡ kind → MayFollow s g e.by kind
   row_of (Register c) is = record {
     signed = signed (Register c) is;
     next = subst (λ k. next_coop s k ≡ Some c) b (f.admission.in_turn n c (registers (stands (Register c) is)));

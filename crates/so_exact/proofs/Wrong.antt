@@ -50,7 +50,7 @@ use Rattle.so_history.specs.Facts.{StandsAt, BeginsWith, NoOverlap, by_main, Ref
 use Rattle.so_history.proofs.NameLaws.{same_place}
 use Rattle.so_history.proofs.PlaceLaws.{inside, entry_at-last, before-last}
 use Rattle.so_history.proofs.RosterLaws.{admitted_open}
-use Rattle.so_history.proofs.CoopLaws.{asked_at, started_at, refused_at, starts_first}
+use Rattle.so_history_laws.proofs.CoopLaws.{asked_at, started_at, refused_at, starts_first}
 use Rattle.so_facts.specs.Choosing.{ByDemand}
 use Rattle.so_facts.specs.Firsts.{WaitsAt, TakesOn, TakenFirst}
 use Rattle.so_facts.specs.Lanes.{LanesInTurn}

@@ -4,7 +4,7 @@ use Rattle.so_scene.specs.declared.parts.SceneParts.{SceneParts}
 use Rattle.so_scene.specs.Checked.{IsScene}
 use Rattle.so_history.specs.declared.entry.Entry.{Entry}
 use Rattle.so_history.specs.Steps.{Legal}
-use Rattle.so_history.proofs.FactLaws.{has_facts}
+use Rattle.so_history_laws.proofs.FactLaws.{has_facts}
 use Rattle.so_facts.specs.All.{HasAllFacts}
 use Rattle.so_facts.proofs.ChoosingLaws.{by_demand}
 use Rattle.so_facts.proofs.FirstLaws.{taken_first}

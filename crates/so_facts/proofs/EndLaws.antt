@@ -35,12 +35,12 @@ use Rattle.so_history.specs.declared.entry.SkipWhy.{SkipWhy}
 use Rattle.so_history.specs.Turns.{Started, Course, running, turn_at, course, move_of}
 use Rattle.so_history.specs.Coops.{next_coop, standing}
 use Rattle.so_history.specs.Order.{opening_of, skipped, pick, taking_as, taking}
-use Rattle.so_history.specs.Steps.{answer_of, entry_of, may_leave, left_at, left_next, may_stop, IsMove, IsTaking, IsRow, is_over, Legal}
+use Rattle.so_history.specs.Steps.{answer_of, entry_of, may_leave, left_at, left_next, may_stop, IsMove, IsTaking, MayFollow, is_over, Legal}
 use Rattle.so_history.specs.Chain.{by_main, signed, next_of, turn_entry, turn_on, taking_entry, registering, registration_of, registration, leaving_for, leaving_entry, left_for, left_entry, stop_entry, tidying, lane_entry, IsPickInRange, pick_entry, step_of, first_entry, first}
 use Rattle.so_history.proofs.TurnLaws.{turn_of, running_looked_up}
 use Rattle.so_history.specs.Places.{before}
 use Rattle.so_history.proofs.PlaceLaws.{before-early, before-last}
-use Rattle.so_history.proofs.ChainLaws.{goes_on, first-going, first-some, step_of-going, step_of-some}
+use Rattle.so_history_laws.proofs.ChainLaws.{goes_on, first-going, first-some, step_of-going, step_of-some}
 use Rattle.so_history.specs.declared.entry.Pick.{Pick}
 use Rattle.so_history.specs.declared.entry.Pick.TheVariants as by
 use Rattle.so_facts.specs.Ends.{WentOn, GoesOn, EndsWhereOver}
@@ -49,13 +49,13 @@ use Rattle.so_facts.specs.Ends.{WentOn, GoesOn, EndsWhereOver}
 
 abbrev Rows : SceneParts → List Entry → Option Entry → Type 0
 Rows s h None = Unit {0}
-Rows s h (Some e) = IsRow s h e.by e.kind
+Rows s h (Some e) = MayFollow s h e.by e.kind
 
 either_rows : (s : SceneParts) (h : List Entry) (a b : Option Entry) → Rows s h a → Rows s h b → Rows s h (or_else a b)
 either_rows s h None b one two = two
 either_rows s h (Some e) b one two = one
 
-found_rows : (s : SceneParts) (h : List Entry) (f : ℕ → Option Entry) (n : ℕ) (o : Option Entry) → first_below f n ≡ o → ((k : ℕ) (e : Entry) → k < n → f k ≡ Some e → IsRow s h e.by e.kind) → Rows s h o
+found_rows : (s : SceneParts) (h : List Entry) (f : ℕ → Option Entry) (n : ℕ) (o : Option Entry) → first_below f n ≡ o → ((k : ℕ) (e : Entry) → k < n → f k ≡ Some e → MayFollow s h e.by e.kind) → Rows s h o
 found_rows s h f n None is each = tt
 found_rows s h f n (Some e) is each = let at = some-first_below f n e is in each at.0 e at.1 at.2
 
@@ -67,7 +67,7 @@ stop_case s h cause false is = tt
 stop_rows : (s : SceneParts) (h : List Entry) (cause : StopCause) → Rows s h (stop_entry s h cause)
 stop_rows s h cause = stop_case s h cause (may_stop s h cause) refl
 
-registering_row : (s : SceneParts) (h : List Entry) (c : CoopId) (cause : Option Refusal) → next_coop s h ≡ Some c → admission s (standing h) c ≡ cause → IsRow s h main_party (registering c cause)
+registering_row : (s : SceneParts) (h : List Entry) (c : CoopId) (cause : Option Refusal) → next_coop s h ≡ Some c → admission s (standing h) c ≡ cause → MayFollow s h main_party (registering c cause)
 registering_row s h c None next is = record { signed = refl; next = next; admitted = is }
 registering_row s h c (Some cause) next is = record { signed = refl; next = next; admitted = is }
 
@@ -109,15 +109,15 @@ left_rows : (s : SceneParts) (h : List Entry) → Rows s h (left_entry s h)
 left_rows s h = left_case s h (left_next s h) refl
 
 -- a lane takes a demand
-taking_row : (s : SceneParts) (h : List Entry) (by : PartyId) (lane : LaneId) (d : Demand) (begins : Opening) (w : Option SkipWhy) → IsTaking s h by lane (taking_as lane d begins w) → IsRow s h by (taking_as lane d begins w)
+taking_row : (s : SceneParts) (h : List Entry) (by : PartyId) (lane : LaneId) (d : Demand) (begins : Opening) (w : Option SkipWhy) → IsTaking s h by lane (taking_as lane d begins w) → MayFollow s h by (taking_as lane d begins w)
 taking_row s h by lane d begins None it = it
 taking_row s h by lane d begins (Some why) it = it
 
-taking_case : (s : SceneParts) (h : List Entry) (lane : LaneId) (o : Option Demand) (e : Entry) → lane.0 < lanes s → pick s h lane ≡ o → option_map (λ d. record { by = party_of lane; kind = taking s h lane d }) o ≡ Some e → IsRow s h e.by e.kind
+taking_case : (s : SceneParts) (h : List Entry) (lane : LaneId) (o : Option Demand) (e : Entry) → lane.0 < lanes s → pick s h lane ≡ o → option_map (λ d. record { by = party_of lane; kind = taking s h lane d }) o ≡ Some e → MayFollow s h e.by e.kind
 taking_case s h lane None e l is given = absurd cc
 taking_case s h lane (Some d) e l is given =
     let row : IsTaking s h (party_of lane) lane (taking s h lane d) = record { signed = inr refl; in_range = l; demand = d; picked = is; is = refl } in
-    subst (λ (x : Entry). IsRow s h x.by x.kind) (same_Some _ e given) (taking_row s h (party_of lane) lane d (opening_of s h d) (skipped (opening_of s h d)) row)
+    subst (λ (x : Entry). MayFollow s h x.by x.kind) (same_Some _ e given) (taking_row s h (party_of lane) lane d (opening_of s h d) (skipped (opening_of s h d)) row)
 
 -- a turn moves
 first_case : (h : List Entry) (p : Started → Bool) (x : Started) (xs : List Started) (t : Started) (b : Bool) → p x ≡ b → turn_of h x.place ≡ Some x → (head (filter p xs) ≡ Some t → (turn_of h t.place ≡ Some t) × (find (λ y. y.place == t.place) xs ≡ Some t)) →
@@ -142,7 +142,7 @@ on_lane_runs : (h : List Entry) (lane : LaneId) (t : Started) → turn_on h lane
 on_lane_runs h lane t e = (first_found h (λ x. x.lane.0 == lane.0) (running h) t (running_looked_up h) e).1
 
 abbrev MoveIsRow : SceneParts → List Entry → PartyId → ℕ → EntryKind → Type 0
-MoveIsRow s h by place k = IsMove s h by place k → IsRow s h by k
+MoveIsRow s h by place k = IsMove s h by place k → MayFollow s h by k
 
 act_row : (s : SceneParts) (h : List Entry) (by : PartyId) (place : ℕ) (e : Effect) (o : Option Answer) (k : EntryKind) → option_map (Act (record { 0 = place }) e) o ≡ Some k → MoveIsRow s h by place k
 act_row s h by place e None k is = absurd cc
@@ -153,17 +153,17 @@ move_row s h by agent event place (Do e) k is = act_row s h by place e (answer_o
 move_row s h by agent event place Done k is = subst (MoveIsRow s h by place) (same_Some (End (record { 0 = place })) k is) (λ it. it)
 move_row s h by agent event place (Fail kind) k is = subst (MoveIsRow s h by place) (same_Some (Abort (Exception (record { 0 = place }) kind)) k is) (λ it. it)
 
-turn_move : (s : SceneParts) (h : List Entry) (t : Started) (c : Course) (o : Option EntryKind) (e : Entry) → turn_at h t.place ≡ Some t → course s h t.place ≡ Some c → entry_of s h c.agent c.event t.place (move_of s c).0 ≡ o → option_map (signed t.by) o ≡ Some e → IsRow s h e.by e.kind
+turn_move : (s : SceneParts) (h : List Entry) (t : Started) (c : Course) (o : Option EntryKind) (e : Entry) → turn_at h t.place ≡ Some t → course s h t.place ≡ Some c → entry_of s h c.agent c.event t.place (move_of s c).0 ≡ o → option_map (signed t.by) o ≡ Some e → MayFollow s h e.by e.kind
 turn_move s h t c None e runs has moves is = absurd cc
 turn_move s h t c (Some k) e runs has moves is =
     let it : IsMove s h t.by t.place k = record { turn = t; runs = runs; signed = refl; reached = c; has = has; is = moves } in
-    subst (λ (x : Entry). IsRow s h x.by x.kind) (same_Some (signed t.by k) e is) (move_row s h t.by c.agent c.event t.place (move_of s c).0 k moves it)
+    subst (λ (x : Entry). MayFollow s h x.by x.kind) (same_Some (signed t.by k) e is) (move_row s h t.by c.agent c.event t.place (move_of s c).0 k moves it)
 
-turn_course : (s : SceneParts) (h : List Entry) (t : Started) (o : Option Course) (e : Entry) → turn_at h t.place ≡ Some t → course s h t.place ≡ o → option_and_then (next_of s h t) o ≡ Some e → IsRow s h e.by e.kind
+turn_course : (s : SceneParts) (h : List Entry) (t : Started) (o : Option Course) (e : Entry) → turn_at h t.place ≡ Some t → course s h t.place ≡ o → option_and_then (next_of s h t) o ≡ Some e → MayFollow s h e.by e.kind
 turn_course s h t None e runs has is = absurd cc
 turn_course s h t (Some c) e runs has is = turn_move s h t c (entry_of s h c.agent c.event t.place (move_of s c).0) e runs has refl is
 
-turn_row : (s : SceneParts) (h : List Entry) (lane : LaneId) (o : Option Started) (e : Entry) → turn_on h lane ≡ o → turn_entry s h o ≡ Some e → IsRow s h e.by e.kind
+turn_row : (s : SceneParts) (h : List Entry) (lane : LaneId) (o : Option Started) (e : Entry) → turn_on h lane ≡ o → turn_entry s h o ≡ Some e → MayFollow s h e.by e.kind
 turn_row s h lane None e on is = absurd cc
 turn_row s h lane (Some t) e on is = turn_course s h t (course s h t.place) e (on_lane_runs h lane t on) refl is
 

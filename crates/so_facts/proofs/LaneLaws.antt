@@ -31,7 +31,7 @@ use Rattle.so_history.proofs.TakingLaws.{begins_as, skips_as}
 use Rattle.so_history.proofs.DemandLaws.{picked, picked_of}
 use Rattle.so_history.proofs.HeadLaws.{picked_may, picked_waits}
 use Rattle.so_history.proofs.TurnLaws.{lanes_free, alone, takes_beside}
-use Rattle.so_history.proofs.PresenceLaws.{stands_before}
+use Rattle.so_history_laws.proofs.PresenceLaws.{stands_before}
 use Rattle.so_facts.specs.Lanes.{BeginsOn, SkipsOn, ServesAgent, LanesInTurn}
 use Rattle.so_facts.proofs.AtPlaces.{row_at, settled, ended_before}
 

@@ -16,7 +16,7 @@ use Rattle.so_history.specs.declared.entry.AbortCause.{AbortCause}
 use Rattle.so_history.specs.declared.entry.AbortCause.TheVariants.{Exception}
 use Rattle.so_history.specs.Places.{entry_at, before}
 use Rattle.so_history.specs.Turns.{Started, started_by, turns, ends, ended, running, turn_at}
-use Rattle.so_history.specs.Steps.{IsMove, IsRow, Legal}
+use Rattle.so_history.specs.Steps.{IsMove, MayFollow, Legal}
 use Rattle.so_history.proofs.PlaceLaws.{is_last, is_early, place_of_entry, inside, entry_at-last, entry_at-early, before-entry, steps_at}
 use Rattle.so_history.proofs.TurnLaws.{turn_of, started_at_entry, turn_looked_up, turn_found}
 use Rattle.so_facts.specs.Moves.{moved_turn, RunsThen, MaySign, WhileRunning}
@@ -98,17 +98,17 @@ runs_then s h place turn by kind within length_is row =
           false≢true (sym (unended b turn.0 row.turn row.runs) ∙ ends_ended b over.place turn.0 over.entry here over.ends);
     }
 
-abort_runs : (s : SceneParts) (h : List Entry) (place : ℕ) (turn : Place) (by : PartyId) (cause : AbortCause) → place < length h → length (before h place) ≡ place → IsRow s (before h place) by (Abort cause) → moved_turn (Abort cause) ≡ Some turn → RunsThen h turn by place
+abort_runs : (s : SceneParts) (h : List Entry) (place : ℕ) (turn : Place) (by : PartyId) (cause : AbortCause) → place < length h → length (before h place) ≡ place → MayFollow s (before h place) by (Abort cause) → moved_turn (Abort cause) ≡ Some turn → RunsThen h turn by place
 abort_runs s h place turn by (Exception t kind) within length_is row is =
     subst (λ x. RunsThen h x by place) (same_Some t turn is) (runs_then s h place t by (Abort (Exception t kind)) within length_is row)
 
-moves_kind : (s : SceneParts) (h : List Entry) (place : ℕ) (turn : Place) (by : PartyId) (kind : EntryKind) → place < length h → length (before h place) ≡ place → IsRow s (before h place) by kind → moved_turn kind ≡ Some turn → RunsThen h turn by place
+moves_kind : (s : SceneParts) (h : List Entry) (place : ℕ) (turn : Place) (by : PartyId) (kind : EntryKind) → place < length h → length (before h place) ≡ place → MayFollow s (before h place) by kind → moved_turn kind ≡ Some turn → RunsThen h turn by place
 moves_kind s h place turn by (Act t effect answer) within length_is row is = subst (λ x. RunsThen h x by place) (same_Some t turn is) (runs_then s h place t by (Act t effect answer) within length_is row)
 moves_kind s h place turn by (End t) within length_is row is = subst (λ x. RunsThen h x by place) (same_Some t turn is) (runs_then s h place t by (End t) within length_is row)
 moves_kind s h place turn by (Abort cause) within length_is row is = abort_runs s h place turn by cause within length_is row is
 moves_kind s h place turn by other within length_is row is = absurd cc
 
-signed_kind : (s : SceneParts) (h : List Entry) (by : PartyId) (kind : EntryKind) → IsRow s h by kind → MaySign by kind
+signed_kind : (s : SceneParts) (h : List Entry) (by : PartyId) (kind : EntryKind) → MayFollow s h by kind → MaySign by kind
 signed_kind s h by (Register coop) row = row.signed
 signed_kind s h by (Refuse coop cause) row = row.signed
 signed_kind s h by (Begin lane demand opening agent) row = row.signed

@@ -7,7 +7,7 @@ use Rattle.so_ids.specs.declared.PartyId.{PartyId}
 use Rattle.so_ids.specs.declared.AgentId.{AgentId}
 use Rattle.so_code.specs.declared.effect.Answer.{Answer}
 use Rattle.so_code.specs.declared.effect.Effect.{Effect}
-use Rattle.so_code.specs.Openings.{begun}
+use Rattle.so_code.specs.Openings.{first_frame}
 use Rattle.so_scene.specs.declared.parts.SceneParts.{SceneParts}
 use Rattle.so_history.specs.declared.entry.Entry.{Entry}
 use Rattle.so_history.specs.declared.entry.EntryKind.{EntryKind}
@@ -66,7 +66,7 @@ module _ (s : SceneParts) (b : Beginnings) where
   begun_reaches place by (Begin lane demand opening agent) t c e =
       let same : record { place = place; by = by; lane = lane; agent = agent; opening = opening } ≡ t = same_Some _ t e in
       record {
-        reached = record { agent = agent; safe = is_safe s agent opening; event = b.event demand; frame = begun opening (b.vars agent) (b.message demand) };
+        reached = record { agent = agent; safe = is_safe s agent opening; event = b.event demand; frame = first_frame opening (b.vars agent) (b.message demand) };
         has = rw (eq-eqb place place refl) refl;
         whose = ap (λ (x : Started). x.agent) same;
         safe_is = ap (runs_safe s) same;

@@ -31,7 +31,7 @@ use Rattle.so_history.specs.Delivery.{registered}
 use Rattle.so_history.specs.Demands.{ask_each, asked_by, asked_by_effect, demands_from, queued_by, demands, takes, taken, waiting, without, named}
 use Rattle.so_history.specs.Units.{units}
 use Rattle.so_history.specs.Order.{is_free, may_take, pick}
-use Rattle.so_history.specs.Steps.{IsTaking, IsRow, Legal}
+use Rattle.so_history.specs.Steps.{IsTaking, MayFollow, Legal}
 use Rattle.so_history.specs.Facts.{takings}
 use Rattle.so_history.proofs.TakingLaws.{takes-taking}
 use Rattle.so_history.proofs.AskedLaws.{effect_asks, delivered_of, asked_of_each}
@@ -88,7 +88,7 @@ taker_takes s h by lane kind row d t =
     let untaken = (found (λ x. taken h x.id ≡ false) (may_take s h lane) (waiting s h) row.demand (waiting_untaken s h) waits).0 in
     rw (← same) (early, untaken)
 
-pub takes_waiting : (s : SceneParts) (h : List Entry) (by : PartyId) (kind : EntryKind) → IsRow s h by kind → (d : DemandId) → takes kind d ≡ true → (d.place.0 < length h) × (taken h d ≡ false)
+pub takes_waiting : (s : SceneParts) (h : List Entry) (by : PartyId) (kind : EntryKind) → MayFollow s h by kind → (d : DemandId) → takes kind d ≡ true → (d.place.0 < length h) × (taken h d ≡ false)
 takes_waiting s h by (Begin lane demand opening agent) row d t = taker_takes s h by lane (Begin lane demand opening agent) row d t
 takes_waiting s h by (Skip lane demand why) row d t = taker_takes s h by lane (Skip lane demand why) row d t
 takes_waiting s h by other row d t = cc

@@ -1,4 +1,5 @@
 pub mod PlacesLemmas
+pub mod PackedLaws
 pub mod NameLaws
 pub mod TakingLaws
 pub mod MoveLaws
@@ -6,21 +7,12 @@ pub mod RosterLaws
 pub mod AskedLaws
 pub mod DemandLaws
 pub mod HeadLaws
-pub mod RoundLaws
 pub mod TurnLaws
 pub mod OpeningLaws
 pub mod CourseLaws
 pub mod SoundLaws
-pub mod ChainLaws
 pub mod PlaceLaws
-pub mod SharingLaws
-pub mod OverlapLaws
 pub mod OrderLaws
-pub mod PresenceLaws
-pub mod CoopLaws
-pub mod LeavingLaws
-pub mod UnfinishedLaws
-pub mod FactLaws
 pub mod RefusalLaws
 pub mod TextLaws
 pub mod CauseLaws

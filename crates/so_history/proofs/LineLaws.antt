@@ -25,7 +25,7 @@ use Rattle.so_scene.specs.Cooperations.{admission}
 use Rattle.so_history.specs.Coops.{may_mark, standing}
 use Rattle.so_history.specs.Places.{entry_at, before}
 use Rattle.so_history.specs.Turns.{move_of}
-use Rattle.so_history.specs.Steps.{IsRow, Legal, answer_to_send, answer_to_switch, answer_to_register, choice_for, yes_where, may_subscribe, is_active, answer_of, entry_of}
+use Rattle.so_history.specs.Steps.{MayFollow, Legal, answer_to_send, answer_to_switch, answer_to_register, choice_for, yes_where, may_subscribe, is_active, answer_of, entry_of}
 use Rattle.so_history.specs.declared.entry.EventSource.{EventSource}
 use Rattle.so_history.specs.Leaves.{switch_of}
 use Rattle.so_history.specs.Delivery.{active_rows, active_filters}
@@ -89,7 +89,7 @@ move_short s h agent event place (Do x) kind e = answered_short s h agent event 
 move_short s h agent event place Done kind e = subst IsShort (same_Some _ kind e) (omega arith)
 move_short s h agent event place (Fail why) kind e = subst IsShort (same_Some _ kind e) (omega arith)
 
-row_short : (s : SceneParts) (h : List Entry) (by : PartyId) (kind : EntryKind) → IsRow s h by kind → IsShort kind
+row_short : (s : SceneParts) (h : List Entry) (by : PartyId) (kind : EntryKind) → MayFollow s h by kind → IsShort kind
 row_short s h by (Act turn effect answer) row = move_short s h row.reached.agent row.reached.event turn.0 (move_of s row.reached).0 (Act turn effect answer) row.is
 row_short s h by (Register coop) row = omega arith
 row_short s h by (Refuse coop cause) row = omega arith

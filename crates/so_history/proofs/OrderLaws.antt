@@ -27,7 +27,7 @@ use Rattle.so_history.specs.Demands.{queued_by, demands, takes, taken, waiting, 
 use Rattle.so_history.specs.Safety.{kind_of}
 use Rattle.so_history.specs.Heads.{is_of_priority}
 use Rattle.so_history.specs.Order.{may_take, pick, opening_of, skipped}
-use Rattle.so_history.specs.Steps.{IsTaking, IsRow, IsStep, Legal}
+use Rattle.so_history.specs.Steps.{IsTaking, MayFollow, IsStep, Legal}
 use Rattle.so_history.specs.Facts.{StandsAt, is_by_priority, ShareOrder, TakesAt, TakenBefore, InOrder, BeginsWith, SkipsWith, ByChoice}
 use Rattle.so_history.proofs.NameLaws.{same_place, found_by_name, found_least}
 use Rattle.so_history.proofs.DemandLaws.{queued_here, waiting_sorted, picked, takes_waiting, taken_early, demands_sorted}
@@ -116,7 +116,7 @@ record Taken (s : SceneParts) (h : List Entry) (id : DemandId) : Type 0 where
 what_taking : (s : SceneParts) (h : List Entry) (by : PartyId) (lane : LaneId) (kind : EntryKind) → IsTaking s h by lane kind → (d : DemandId) → takes kind d ≡ true → Taken s h d
 what_taking s h by lane kind row d t = record { lane = lane; demand = row.demand; picked = row.picked; is = same_place row.demand.id d (sym (takes-taking s h lane row.demand d) ∙ (sym (ap (λ k. takes k d) row.is) ∙ t)) }
 
-what : (s : SceneParts) (h : List Entry) (by : PartyId) (kind : EntryKind) → IsRow s h by kind → (d : DemandId) → takes kind d ≡ true → Taken s h d
+what : (s : SceneParts) (h : List Entry) (by : PartyId) (kind : EntryKind) → MayFollow s h by kind → (d : DemandId) → takes kind d ≡ true → Taken s h d
 what s h by (Begin lane demand opening agent) row d t = what_taking s h by lane (Begin lane demand opening agent) row d t
 what s h by (Skip lane demand why) row d t = what_taking s h by lane (Skip lane demand why) row d t
 what s h by other row d t = absurd cc
@@ -175,8 +175,8 @@ skips s h by lane id why row =
       chosen = it.reason_is;
     }
 
-row_at : (s : SceneParts) (h : List Entry) (place : ℕ) (kind : EntryKind) → Legal s h → (stands : StandsAt h place kind) → IsRow s (before h place) stands.entry.by kind
-row_at s h place kind legal stands = subst (IsRow s (before h place) stands.entry.by) stands.is (steps_at s h place stands.entry legal stands.here).step.row
+row_at : (s : SceneParts) (h : List Entry) (place : ℕ) (kind : EntryKind) → Legal s h → (stands : StandsAt h place kind) → MayFollow s (before h place) stands.entry.by kind
+row_at s h place kind legal stands = subst (MayFollow s (before h place) stands.entry.by) stands.is (steps_at s h place stands.entry legal stands.here).step.row
 
 pub by_choice : (s : SceneParts) (h : List Entry) → Legal s h → ByChoice s h
 by_choice s h legal = record {

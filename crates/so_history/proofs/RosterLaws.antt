@@ -36,7 +36,7 @@ use Rattle.so_history.specs.declared.entry.EntryKind.TheVariants.{Register, Act,
 use Rattle.so_history.specs.declared.entry.EventSource.{EventSource}
 use Rattle.so_history.specs.Coops.{is_same, is_other, roster_by, roster, present, is_left, leaving_by, leaving, mark_by_effect, mark_by, mark, may_mark, standing}
 use Rattle.so_history.specs.Delivery.{agents_of_each, registered}
-use Rattle.so_history.specs.Steps.{waiting_for, running_for, may_leave, yes_where, answer_to_register, answer_of, IsRow, Legal}
+use Rattle.so_history.specs.Steps.{waiting_for, running_for, may_leave, yes_where, answer_to_register, answer_of, MayFollow, Legal}
 use Rattle.so_history.specs.Turns.{move_of}
 use Rattle.so_history.proofs.MoveLaws.{acts_so}
 
@@ -166,7 +166,7 @@ effect_admitted s h agent event (effect.Register c) other coop answers is = absu
 effect_admitted s h agent event other a coop answers is = absurd cc
 
 -- whoever joins by a legal entry was admitted
-pub joins_admitted : (s : SceneParts) (h : List Entry) (by : PartyId) (kind : EntryKind) (coop : CoopId) → IsRow s h by kind → joins kind ≡ Some coop → admission s (standing h) coop ≡ None
+pub joins_admitted : (s : SceneParts) (h : List Entry) (by : PartyId) (kind : EntryKind) (coop : CoopId) → MayFollow s h by kind → joins kind ≡ Some coop → admission s (standing h) coop ≡ None
 joins_admitted s h by (Register c) coop row is = subst (λ x. admission s (standing h) x ≡ None) (same_Some c coop is) row.admitted
 joins_admitted s h by (Act turn e a) coop row is =
     let acts = acts_so s h row.reached.agent row.reached.event turn.0 (move_of s row.reached).0 turn e a row.is in
@@ -184,7 +184,7 @@ module _ (s : SceneParts) (P : List CoopId → Type 0) (nobody : P [])
       let is = admitted_open s (standing h) coop (joins_admitted s h e.by e.kind coop legal.1.row it) in
       rw (makes (roster h)) (one_joined h coop legal.0 is before)
   roster_next h e legal before (one_goes coop it) =
-      let row : IsRow s h e.by (Left coop) = subst (IsRow s h e.by) it legal.1.row in
+      let row : MayFollow s h e.by (Left coop) = subst (MayFollow s h e.by) it legal.1.row in
       subst (λ k. P (roster_by k (roster h))) (sym it) (one_gone h coop legal.0 row.may before)
   roster_next h e legal before (all_stay none kept makes) = rw (makes (roster h)) before
 
@@ -241,7 +241,7 @@ cond_given false o why e = absurd cc
 reason_present : (s : SceneParts) (st : Standing) (c : CoopId) (why : Reason) → reason_of s st c ≡ Some why → st.present c ≡ true
 reason_present s st c why has = (and_parts (st.present c) _ (cond_given (st.present c && not (st.leaving c)) _ why has)).0
 
-leaving_case : (s : SceneParts) (h : List Entry) (by : PartyId) (kind : EntryKind) (c : CoopId) → IsRow s h by kind → leaving_by kind c (leaving h c) ≡ true → (leaving h c ≡ true → present h c ≡ true) → list_any (is_same c) (roster_by kind (roster h)) ≡ true
+leaving_case : (s : SceneParts) (h : List Entry) (by : PartyId) (kind : EntryKind) (c : CoopId) → MayFollow s h by kind → leaving_by kind c (leaving h c) ≡ true → (leaving h c ≡ true → present h c ≡ true) → list_any (is_same c) (roster_by kind (roster h)) ≡ true
 leaving_case s h by (Leaving coop reason) c row l before =
     elim (or_cases (is_same c coop) (leaving h c) l) [
       | inl same ↦ (let it : coop ≡ c = ap (λ n. record { 0 = n }) (sym (eqb-true c.0 coop.0 same)) in ap (present h) (sym it) ∙ reason_present s (standing h) coop reason row.has)
@@ -283,7 +283,7 @@ unmarked_case : (h : List Entry) (c coop : CoopId) (b : Bool) (m : Option Reason
 unmarked_case h c coop true m same has before = absurd cc
 unmarked_case h c coop false m same has before = rw (same, before has) refl
 
-marked_case : (s : SceneParts) (h : List Entry) (by : PartyId) (kind : EntryKind) (c : CoopId) → IsRow s h by kind → is_some (mark_by kind c (mark h c)) ≡ true → (is_some (mark h c) ≡ true → present h c ≡ true) → list_any (is_same c) (roster_by kind (roster h)) ≡ true
+marked_case : (s : SceneParts) (h : List Entry) (by : PartyId) (kind : EntryKind) (c : CoopId) → MayFollow s h by kind → is_some (mark_by kind c (mark h c)) ≡ true → (is_some (mark h c) ≡ true → present h c ≡ true) → list_any (is_same c) (roster_by kind (roster h)) ≡ true
 marked_case s h by (Act turn e a) c row has before =
     let acts = acts_so s h row.reached.agent row.reached.event turn.0 (move_of s row.reached).0 turn e a row.is in
     stays_there (Act turn e a) (roster h) c refl (marked_by_effect s h row.reached.agent row.reached.event e a c (mark h c) acts.answers has before)

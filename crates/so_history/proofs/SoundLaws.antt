@@ -38,7 +38,7 @@ use Rattle.so_code.specs.Places.{IsAt, IsReceiveAt}
 use Rattle.so_code.specs.Receives.{is_receive}
 use Rattle.so_code.specs.Running.{IsFrame, IsAwake, LeadsTo, IsTransfer}
 use Rattle.so_code.specs.Answers.{FitsPlan, FitsRegister, Fits, IsSaid, IsAnswerTo, has_transferred, chose}
-use Rattle.so_code.specs.Openings.{fresh, begun, no_plan}
+use Rattle.so_code.specs.Openings.{fresh, first_frame, no_plan}
 use Rattle.so_code.specs.Origins.{Origin}
 use Rattle.so_code.specs.Origins as origin
 use Rattle.so_code.proofs.Moves.{after_frame, after_opening, after_plan, after_waits, comes, OpeningAfter, keeps, chooses, answered_opening, PlanAfter, same, plans, answered_plan}
@@ -65,7 +65,7 @@ use Rattle.so_history.specs.Delivery.{active_rows, active_filters, chosen_for}
 use Rattle.so_history.specs.Safety.{is_safe}
 use Rattle.so_history.specs.Order.{opening_of, skipped}
 use Rattle.so_history.specs.Turns.{Course, move_of, answer_to, advanced, course}
-use Rattle.so_history.specs.Steps.{NamesEffect, answer_of, answer_to_send, answer_to_switch, answer_to_register, choice_for, yes_where, may_subscribe, is_active, IsRow, Legal}
+use Rattle.so_history.specs.Steps.{NamesEffect, answer_of, answer_to_send, answer_to_switch, answer_to_register, choice_for, yes_where, may_subscribe, is_active, MayFollow, Legal}
 use Rattle.so_history.proofs.MoveLaws.{acts_so}
 use Rattle.so_history.proofs.TakingLaws.{begins_as}
 use Rattle.so_history.proofs.OpeningLaws.{agent_tree, ChoosesWithin, OpensWithin, HasEvent, chosen_within, choice_fits, opening_within, opening_event}
@@ -287,15 +287,15 @@ chose_plan : (c : Chosen) (f : Frame) → (chose c f).plan ≡ f.plan
 chose_plan (chosen.Transfer from to) f = either_plan (has_transferred f from) _ _ f.plan refl refl
 chose_plan other f = refl
 
-begun_has_opening : (o : Opening) (vs : Vars) (ms : Payload) → (begun o vs ms).opening ≡ o
+begun_has_opening : (o : Opening) (vs : Vars) (ms : Payload) → (first_frame o vs ms).opening ≡ o
 begun_has_opening (opening.Event c) vs ms = chose_opens c (fresh (opening.Event c) vs ms)
 begun_has_opening other vs ms = refl
 
-begun_has_plan : (o : Opening) (vs : Vars) (ms : Payload) → (begun o vs ms).plan ≡ no_plan
+begun_has_plan : (o : Opening) (vs : Vars) (ms : Payload) → (first_frame o vs ms).plan ≡ no_plan
 begun_has_plan (opening.Event c) vs ms = chose_plan c (fresh (opening.Event c) vs ms)
 begun_has_plan other vs ms = refl
 
-begun_has_leaf : (o : Opening) (vs : Vars) (ms : Payload) → (begun o vs ms).plan.leaf.0 ≡ 0
+begun_has_leaf : (o : Opening) (vs : Vars) (ms : Payload) → (first_frame o vs ms).plan.leaf.0 ≡ 0
 begun_has_leaf o vs ms = ap (λ (p : Plan). p.leaf.0) (begun_has_plan o vs ms)
 
 -- ---- along a history
@@ -364,7 +364,7 @@ module _ (s : SceneParts) (scene : IsScene s) where
         }
 
   begun_sound : (h : List Entry) (by : PartyId) (lane : LaneId) (demand : Option DemandId) (opening : Opening) (agent : AgentId) (vs : Vars) (ms : Payload) →
-      IsRow s h by (Begin lane demand opening agent) → IsSound s (record { agent = agent; safe = is_safe s agent opening; event = event_of s h demand; frame = begun opening vs ms })
+      MayFollow s h by (Begin lane demand opening agent) → IsSound s (record { agent = agent; safe = is_safe s agent opening; event = event_of s h demand; frame = first_frame opening vs ms })
   begun_sound h by lane demand opening agent vs ms row =
       let it = begins_as lane lane row.demand (opening_of s h row.demand) (skipped (opening_of s h row.demand)) demand opening agent row.is in
       let within : OpensWithin (length (states_of s agent)) opening = rw (it.opening_is, it.agent_is) (opening_within s h row.demand scene) in
@@ -383,7 +383,7 @@ module _ (s : SceneParts) (scene : IsScene s) where
   cond_sound true x y a b = a
   cond_sound false x y a b = b
 
-  acted_sound : (h : List Entry) (by : PartyId) (turn : Place) (e : Effect) (a : Answer) (t : ℕ) (b : Bool) → (turn.0 == t) ≡ b → IsRow s h by (Act turn e a) → AreSound s (course s h t) →
+  acted_sound : (h : List Entry) (by : PartyId) (turn : Place) (e : Effect) (a : Answer) (t : ℕ) (b : Bool) → (turn.0 == t) ≡ b → MayFollow s h by (Act turn e a) → AreSound s (course s h t) →
       AreSound s (cond b (option_map (answer_to s a) (course s h t)) (course s h t))
   acted_sound h by turn e a t false here row old = old
   acted_sound h by turn e a t true here row old =
@@ -393,7 +393,7 @@ module _ (s : SceneParts) (scene : IsScene s) where
       let sound : IsSound s row.reached = subst (AreSound s) has old in
       subst (λ c. AreSound s (option_map (answer_to s a) c)) (sym has) (answered_sound row.reached sound h e a acts.does acts.answers)
 
-  advanced_sound : (h : List Entry) (by : PartyId) (kind : EntryKind) (t : ℕ) → IsRow s h by kind → AreSound s (course s h t) → AreSound s (advanced s (beginnings s h) (length h) kind t (course s h t))
+  advanced_sound : (h : List Entry) (by : PartyId) (kind : EntryKind) (t : ℕ) → MayFollow s h by kind → AreSound s (course s h t) → AreSound s (advanced s (beginnings s h) (length h) kind t (course s h t))
   advanced_sound h by (Begin lane demand opening agent) t row old = cond_sound (length h == t) _ (course s h t) (begun_sound h by lane demand opening agent _ _ row) old
   advanced_sound h by (Act turn e a) t row old = acted_sound h by turn e a t (turn.0 == t) refl row old
   advanced_sound h by other t row old = old

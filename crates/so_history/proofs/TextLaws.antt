@@ -25,7 +25,7 @@ use Rattle.so_history.specs.declared.entry.EventSource.{EventSource}
 use Rattle.so_history.specs.Places.{entry_at, before, beginner, beginner_at}
 use Rattle.so_history.specs.Turns.{Started, started_by, move_of}
 use Rattle.so_history.specs.Coops.{tried, to_try, next_coop, standing}
-use Rattle.so_history.specs.Steps.{NamesEffect, answer_to_register, answer_of, IsMove, IsRow, Legal}
+use Rattle.so_history.specs.Steps.{NamesEffect, answer_to_register, answer_of, IsMove, MayFollow, Legal}
 use Rattle.so_history.specs.Text.{NamesCause, NamesLine}
 use Rattle.so_history.proofs.PlaceLaws.{steps_at, before-entry, inside}
 use Rattle.so_history.proofs.TurnLaws.{turn_of, started_at_entry, turn_found, turn_agent, turn_looked_up}
@@ -83,7 +83,7 @@ line_named s h agent event other a scene named answers = tt
 pub act_named : (s : SceneParts) (h : List Entry) (place : ℕ) (e : Entry) (turn : Place) (effect : Effect) (answer : Answer) → IsScene s → Legal s h → entry_at h place ≡ Some e → e.kind ≡ Act turn effect answer → IsActed s h place turn.0 effect answer
 act_named s h place e turn effect answer scene legal here is =
     let at = steps_at s h place e legal here in
-    let row : IsRow s (before h place) e.by (Act turn effect answer) = subst (IsRow s (before h place) e.by) is at.step.row in
+    let row : MayFollow s (before h place) e.by (Act turn effect answer) = subst (MayFollow s (before h place) e.by) is at.step.row in
     let its = owned s h place e e.by turn.0 (Act turn effect answer) scene legal here row in
     let acts = acts_so s (before h place) row.reached.agent row.reached.event turn.0 (move_of s row.reached).0 turn effect answer row.is in
     let sound = course_sound s scene (before h place) turn.0 row.reached at.legal row.has in
@@ -92,7 +92,7 @@ act_named s h place e turn effect answer scene legal here is =
 pub abort_named : (s : SceneParts) (h : List Entry) (place : ℕ) (e : Entry) (turn : Place) (kind : FailKind) → IsScene s → Legal s h → entry_at h place ≡ Some e → e.kind ≡ Abort (Exception turn kind) → IsOwned s h place turn.0
 abort_named s h place e turn kind scene legal here is =
     let at = steps_at s h place e legal here in
-    let row : IsRow s (before h place) e.by (Abort (Exception turn kind)) = subst (IsRow s (before h place) e.by) is at.step.row in
+    let row : MayFollow s (before h place) e.by (Abort (Exception turn kind)) = subst (MayFollow s (before h place) e.by) is at.step.row in
     owned s h place e e.by turn.0 (Abort (Exception turn kind)) scene legal here row
 
 -- a refused registration of main's: the cooperation and the agent that its line names are there
@@ -111,5 +111,5 @@ next_within s h c is =
 pub refuse_named : (s : SceneParts) (h : List Entry) (place : ℕ) (e : Entry) (coop : CoopId) (cause : Refusal) → IsScene s → Legal s h → entry_at h place ≡ Some e → e.kind ≡ Refuse coop cause → IsRefused s coop cause
 refuse_named s h place e coop cause scene legal here is =
     let at = steps_at s h place e legal here in
-    let row : IsRow s (before h place) e.by (Refuse coop cause) = subst (IsRow s (before h place) e.by) is at.step.row in
+    let row : MayFollow s (before h place) e.by (Refuse coop cause) = subst (MayFollow s (before h place) e.by) is at.step.row in
     record { coop_there = next_within s (before h place) coop row.next; names = refusal_names s (standing (before h place)) coop cause scene row.admitted }

@@ -26,7 +26,7 @@ use Rattle.so_history.specs.declared.entry.SkipWhy.{SkipWhy}
 use Rattle.so_history.specs.Safety.{is_safe}
 use Rattle.so_history.specs.Turns.{Started, started_by, turns, ends, ended, running, running_at, running_on, running_with, lane_number, key_number, turn_at}
 use Rattle.so_history.specs.Order.{pick, opening_of, skipped, runs_safe, goes_beside}
-use Rattle.so_history.specs.Steps.{IsTaking, IsRow, Legal}
+use Rattle.so_history.specs.Steps.{IsTaking, MayFollow, Legal}
 use Rattle.so_history.proofs.TakingLaws.{begins_as}
 use Rattle.so_history.proofs.DemandLaws.{picked, picked_of}
 use Rattle.so_history.proofs.HeadLaws.{picked_may}
@@ -56,7 +56,7 @@ turn_found h place t e =
     (same, omega arith)
 
 -- a legal entry ends only a turn that began earlier
-pub ends_early : (s : SceneParts) (h : List Entry) (by : PartyId) (kind : EntryKind) → IsRow s h by kind → (t : ℕ) → ends kind t ≡ true → t < length h
+pub ends_early : (s : SceneParts) (h : List Entry) (by : PartyId) (kind : EntryKind) → MayFollow s h by kind → (t : ℕ) → ends kind t ≡ true → t < length h
 ends_early s h by (End turn) row t e = let same : turn.0 ≡ t = eqb-true turn.0 t e in rw (← same) (turn_found h turn.0 row.turn row.runs).1
 ends_early s h by other row t e = cc
 
@@ -121,7 +121,7 @@ abbrev pub BeginsFree : (Started → ℕ) → List Entry → ℕ → PartyId →
 BeginsFree f h place by kind = AllByRecursion (λ t. running_at f h (f t) ≡ []) (started_by place by kind)
 
 abbrev pub Frees : (Started → ℕ) → SceneParts → Type 0
-Frees f s = (h : List Entry) (by : PartyId) (kind : EntryKind) → IsRow s h by kind → BeginsFree f h (length h) by kind
+Frees f s = (h : List Entry) (by : PartyId) (kind : EntryKind) → MayFollow s h by kind → BeginsFree f h (length h) by kind
 
 one_more : (f : Started → ℕ) (n : ℕ) (xs : List Started) (t : Started) (b : Bool) → (f t == n) ≡ b → length xs ≤ 1 → (f t ≡ n → xs ≡ []) → length (xs ++ cond b (t ∷ []) []) ≤ 1
 one_more f n xs t true e l none = let free : xs ≡ [] = none (eqb-true (f t) n e) in rw free (omega arith)
@@ -261,7 +261,7 @@ more_alike s n xs t true e alike beside =
 abbrev BeginBeside : SceneParts → List Entry → List Started → Type 0
 BeginBeside s h ts = AllByRecursion (λ t. GoesBeside s t.agent t.opening (running_with s h (key_of s t.agent))) ts
 
-begin_beside : (s : SceneParts) (h : List Entry) (by : PartyId) (kind : EntryKind) → IsRow s h by kind → BeginBeside s h (started_by (length h) by kind)
+begin_beside : (s : SceneParts) (h : List Entry) (by : PartyId) (kind : EntryKind) → MayFollow s h by kind → BeginBeside s h (started_by (length h) by kind)
 begin_beside s h by (Begin lane demand opening agent) row = (begins_beside s h by lane demand opening agent row, tt)
 begin_beside s h by other row = tt
 
@@ -359,7 +359,7 @@ running_at-other f h e place n t none ends_it runs other =
     (each-weaker _ _ (λ x b. rw (ends_it x.place) (other_number f h place n t here other x b.0 b.1)) (running_at f h n) (at_looked_up f h n))
 
 -- turns are on lanes of the scene
-started_on : (s : SceneParts) (h : List Entry) (place : ℕ) (by : PartyId) (kind : EntryKind) → IsRow s h by kind → AllByRecursion (λ t. t.lane.0 < lanes s) (started_by place by kind)
+started_on : (s : SceneParts) (h : List Entry) (place : ℕ) (by : PartyId) (kind : EntryKind) → MayFollow s h by kind → AllByRecursion (λ t. t.lane.0 < lanes s) (started_by place by kind)
 started_on s h place by (Begin lane demand opening agent) row = (row.in_range, tt)
 started_on s h place by other row = tt
 
@@ -420,7 +420,7 @@ turn-spared s h e place t legal spares runs =
     ]
 
 -- turns are of agents of the scene
-pub started_of : (s : SceneParts) (h : List Entry) (place : ℕ) (by : PartyId) (kind : EntryKind) → IsScene s → IsRow s h by kind → AllByRecursion (λ t. t.agent.0 < length s.agents) (started_by place by kind)
+pub started_of : (s : SceneParts) (h : List Entry) (place : ℕ) (by : PartyId) (kind : EntryKind) → IsScene s → MayFollow s h by kind → AllByRecursion (λ t. t.agent.0 < length s.agents) (started_by place by kind)
 started_of s h place by (Begin lane demand opening agent) scene row =
     let same : agent.0 ≡ row.demand.agent.0 = ap (λ (a : AgentId). a.0) (begins_as lane lane row.demand (opening_of s h row.demand) (skipped (opening_of s h row.demand)) demand opening agent row.is).agent_is in
     let known : row.demand.agent.0 < length s.agents = picked_of s h lane row.demand scene row.picked in

@@ -1,5 +1,6 @@
 -- In which state an agent is: the last that it entered since its registration.
 use Rattle.std.specs.Prelude.{List, [], ◌∷◌, Bool, ◌==◌, Option, unwrap_or, if◌then◌else◌}
+use Rattle.so_ids.specs.Ids.{default_state}
 use Rattle.so_ids.specs.declared.AgentId.{AgentId}
 use Rattle.so_ids.specs.declared.CoopId.{CoopId}
 use Rattle.so_ids.specs.declared.Place.{Place}
@@ -10,7 +11,6 @@ use Rattle.so_code.specs.declared.effect.Effect.TheVariants as effect
 use Rattle.so_code.specs.declared.effect.Answer.{Answer}
 use Rattle.so_code.specs.declared.effect.Answer.TheVariants as answer
 use Rattle.so_lists.specs.Lists.{head}
-use Rattle.so_state.specs.States.{default_state}
 use Rattle.so_state.specs.Plan.{plan}
 use Rattle.so_scene.specs.declared.parts.SceneParts.{SceneParts}
 use Rattle.so_scene.specs.Parts.{agent_of, states_of}

@@ -1,4 +1,5 @@
 pub mod Kept
+pub mod Packed
 pub mod Places
 pub mod Coops
 pub mod Leaves

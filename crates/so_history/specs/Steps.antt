@@ -201,22 +201,22 @@ abbrev pub IsAbort : SceneParts → List Entry → PartyId → AbortCause → Ty
 IsAbort s h by (Exception turn kind) = IsMove s h by turn.0 (Abort (Exception turn kind))
 
 -- what an entry of each kind asks of the history before it
-abbrev pub IsRow : SceneParts → List Entry → PartyId → EntryKind → Type 0
-IsRow s h by (Register coop) = IsRegistering s h by coop None
-IsRow s h by (Refuse coop cause) = IsRegistering s h by coop (Some cause)
-IsRow s h by (Begin lane demand opening agent) = IsTaking s h by lane (Begin lane demand opening agent)
-IsRow s h by (Skip lane demand why) = IsTaking s h by lane (Skip lane demand why)
-IsRow s h by (Act turn effect answer) = IsMove s h by turn.0 (Act turn effect answer)
-IsRow s h by (End turn) = IsMove s h by turn.0 (End turn)
-IsRow s h by (Leaving coop reason) = IsLeaving s h by coop reason
-IsRow s h by (Left coop) = IsLeft s h by coop
-IsRow s h by (Stop cause) = IsStop s h by cause
-IsRow s h by (Abort cause) = IsAbort s h by cause
+abbrev pub MayFollow : SceneParts → List Entry → PartyId → EntryKind → Type 0
+MayFollow s h by (Register coop) = IsRegistering s h by coop None
+MayFollow s h by (Refuse coop cause) = IsRegistering s h by coop (Some cause)
+MayFollow s h by (Begin lane demand opening agent) = IsTaking s h by lane (Begin lane demand opening agent)
+MayFollow s h by (Skip lane demand why) = IsTaking s h by lane (Skip lane demand why)
+MayFollow s h by (Act turn effect answer) = IsMove s h by turn.0 (Act turn effect answer)
+MayFollow s h by (End turn) = IsMove s h by turn.0 (End turn)
+MayFollow s h by (Leaving coop reason) = IsLeaving s h by coop reason
+MayFollow s h by (Left coop) = IsLeft s h by coop
+MayFollow s h by (Stop cause) = IsStop s h by cause
+MayFollow s h by (Abort cause) = IsAbort s h by cause
 
 -- an entry is a legal step after a history
 pub record IsStep (s : SceneParts) (h : List Entry) (e : Entry) : Type 0 where
   pub goes_on : is_over s h ≡ false
-  pub row : IsRow s h e.by e.kind
+  pub row : MayFollow s h e.by e.kind
 
 -- each entry is a legal step after those before it
 abbrev pub Legal : SceneParts → List Entry → Type 0

@@ -17,7 +17,7 @@ use Rattle.so_history.specs.declared.entry.EntryKind.{EntryKind}
 use Rattle.so_history.specs.declared.entry.EntryKind.TheVariants.{Refuse, Act, Abort}
 use Rattle.so_history.specs.declared.entry.AbortCause.{AbortCause}
 use Rattle.so_history.specs.declared.entry.AbortCause.TheVariants.{Exception}
-use Rattle.so_history.specs.Trace.{fail_words, fault_words, trace_line}
+use Rattle.so_history.specs.Trace.{fail_words, rule_words, trace_line}
 use Rattle.so_history.specs.declared.lines.Mode.{Mode}
 use Rattle.so_history.specs.declared.lines.Mode.TheVariants.{Plain, Trace}
 use Rattle.so_history.specs.Places.{entry_at, before, beginner_at}
@@ -36,7 +36,7 @@ cause_in_names s refusal.Empty = codes "empty"
 cause_in_names s refusal.Parent = codes "parent"
 cause_in_names s refusal.Present = codes "present"
 cause_in_names s (refusal.Binding agent) = codes "binding " ++ (agent_of s agent).name
-cause_in_names s (refusal.Definition agent fault) = codes "definition " ++ (agent_of s agent).name ++ codes " " ++ fault_words fault
+cause_in_names s (refusal.Definition agent fault) = codes "definition " ++ (agent_of s agent).name ++ codes " " ++ rule_words fault
 
 abbrev pub refused_line : SceneParts → CoopId → Refusal → List ℕ
 refused_line s coop cause = codes "refused " ++ (coop_of s coop).name ++ codes ": " ++ cause_in_names s cause ++ codes "\n"

@@ -71,19 +71,19 @@ fail_words fail_kind.ChainThrow = codes "chain_throw"
 fail_words fail_kind.TransferLoop = codes "transfer_loop"
 fail_words fail_kind.AlreadySubscribed = codes "already_subscribed"
 
-abbrev pub fault_words : DefFault → List ℕ
-fault_words def_fault.NotOwner = codes "not_owner"
-fault_words def_fault.NoLimit = codes "no_limit"
-fault_words def_fault.Twice = codes "twice"
-fault_words def_fault.DirectMbox = codes "direct_mbox"
-fault_words def_fault.IsSignal = codes "is_signal"
+abbrev pub rule_words : DefFault → List ℕ
+rule_words def_fault.NotOwner = codes "not_owner"
+rule_words def_fault.NoLimit = codes "no_limit"
+rule_words def_fault.Twice = codes "twice"
+rule_words def_fault.DirectMbox = codes "direct_mbox"
+rule_words def_fault.IsSignal = codes "is_signal"
 
 abbrev pub refusal_words : Refusal → List ℕ
 refusal_words refusal.Empty = codes "empty"
 refusal_words refusal.Parent = codes "parent"
 refusal_words refusal.Present = codes "present"
 refusal_words (refusal.Binding agent) = codes "binding " ++ decimal agent.0
-refusal_words (refusal.Definition agent fault) = codes "definition " ++ decimal agent.0 ++ codes " " ++ fault_words fault
+refusal_words (refusal.Definition agent fault) = codes "definition " ++ decimal agent.0 ++ codes " " ++ rule_words fault
 
 abbrev pub reason_words : Reason → List ℕ
 reason_words reason.Asked = codes "asked"

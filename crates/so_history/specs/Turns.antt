@@ -18,7 +18,7 @@ use Rattle.so_code.specs.declared.effect.Effect.{Effect}
 use Rattle.so_code.specs.declared.effect.Effect.TheVariants as effect
 use Rattle.so_code.specs.declared.effect.Move.{Move}
 use Rattle.so_code.specs.Machine.{after}
-use Rattle.so_code.specs.Openings.{begun}
+use Rattle.so_code.specs.Openings.{first_frame}
 use Rattle.so_code.specs.Answers.{answered}
 use Rattle.so_scene.specs.declared.parts.SceneParts.{SceneParts}
 use Rattle.so_scene.specs.Parts.{code_of, vars_of}
@@ -128,7 +128,7 @@ pub record Beginnings : Type 0 where
 -- the course of the turn at place t after one more entry, at a place
 abbrev pub advanced : SceneParts → Beginnings → ℕ → EntryKind → ℕ → Option Course → Option Course
 advanced s b place (Begin lane demand opening agent) t c =
-    if place == t then Some (record { agent = agent; safe = is_safe s agent opening; event = b.event demand; frame = begun opening (b.vars agent) (b.message demand) }) else c
+    if place == t then Some (record { agent = agent; safe = is_safe s agent opening; event = b.event demand; frame = first_frame opening (b.vars agent) (b.message demand) }) else c
 advanced s b place (Act turn effect answer) t c =
     if turn.0 == t then option_map (answer_to s answer) c else c
 advanced s b place other t c = c

@@ -4,6 +4,7 @@ ghost use Rattle.std.specs.Prelude.{◌≡◌, ◌+◌, ◌-◌, ◌<◌, ◌≤
 ghost use Rattle.so_history.specs.Places.{entry_at};
 
 use crate::entry::Entry;
+use crate::packed::{Short, pack, unpack};
 use so_ids::{NoMemory, Place};
 use std::alloc::Global;
 use std::marker::Model;
@@ -11,19 +12,23 @@ use std::marker::Model;
 /// The entries of a run, with room for a number of them. Contracts see the newest first.
 #[derive(Drop)]
 pub struct History {
-    entries: Vec<Entry>,
+    entries: Vec<Short>,
+    whole: Vec<Entry>,
     limit: u32,
 }
 
 impl Model for History {
-    ghost use Rattle.std.specs.Prelude.{◌≤◌, ◌<◌, ◌^◌, reverse, vec_len, vec_capacity};
+    ghost use Rattle.std.specs.Prelude.{◌≤◌, ◌<◌, ◌^◌, vec_len, vec_capacity};
+    ghost use Rattle.std.specs.List.{All};
     ghost use Rattle.so_history.specs.Kept.{Kept};
+    ghost use Rattle.so_history.specs.Packed.{entries_of, Fits};
 
     ghost Value = { Kept };
 
-    ghost view = { λ h. record { entries = reverse h.entries.items; limit = h.limit } };
+    ghost view = { λ h. record { entries = entries_of h.whole.items h.entries.items; limit = h.limit } };
 
-    ghost invariant = { λ h. (vec_len h.entries ≤ h.limit) × (h.limit ≤ vec_capacity h.entries) × (h.limit < 2 ^ 32) };
+    ghost invariant = { λ h. (vec_len h.entries ≤ h.limit) × (h.limit ≤ vec_capacity h.entries) × (h.limit < 2 ^ 32)
+        × (vec_len h.whole ≤ vec_len h.entries) × (h.limit ≤ vec_capacity h.whole) × All (Fits (vec_len h.whole)) h.entries.items };
 }
 
 impl History {
@@ -32,13 +37,18 @@ impl History {
         ensures entries { IfOk result (λ h. h.entries ≡ []) }
         ensures limit { IfOk result (λ h. h.limit ≡ units) }
     {
-        match Vec::with_capacity(alloc, units as usize) {
-            Ok(entries) => Ok(History {
-                entries,
-                limit: units,
-            }),
-            Err(_) => Err(NoMemory),
-        }
+        // Both have room for all units. What isn't used of it is never touched, and takes no memory.
+        let Ok(entries) = Vec::with_capacity(alloc, units as usize) else {
+            return Err(NoMemory);
+        };
+        let Ok(whole) = Vec::with_capacity(alloc, units as usize) else {
+            return Err(NoMemory);
+        };
+        Ok(History {
+            entries,
+            whole,
+            limit: units,
+        })
     }
 
     /// How many entries there are.
@@ -69,9 +79,12 @@ impl History {
         ensures entries { self.new.entries ≡ entry ∷ self.old.entries }
         ensures limit { self.new.limit ≡ self.old.limit }
     {
-        match self.entries.push(entry) {
-            Ok(()) => {}
-            Err(_) => unreachable!(),
+        if let Some(short) = pack(entry) {
+            self.entries.push_reserved(short);
+        } else {
+            let at = self.whole.len() as u32;
+            self.whole.push_reserved(entry);
+            self.entries.push_reserved(Short::Whole { at });
         }
     }
 
@@ -80,6 +93,6 @@ impl History {
         requires { place.0 < length self.now.entries }
         ensures { entry_at self.now.entries place.0 ≡ Some result }
     {
-        self.entries[place.0 as usize]
+        unpack(self.whole.as_slice(), self.entries[place.0 as usize])
     }
 }

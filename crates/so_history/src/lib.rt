@@ -3,8 +3,8 @@
 
 mod entry;
 mod history;
-pub mod laws;
 mod lines;
+mod packed;
 mod trace;
 mod words;
 

@@ -2,7 +2,7 @@
 
 ghost use Rattle.std.specs.Prelude.{◌≡◌, ◌+◌, ◌≤◌, ◌++◌};
 ghost use Rattle.arrayvec.specs.ArrayVec.{array_vec_len};
-ghost use Rattle.so_history.specs.Trace.{demand_words, chosen_words, opening_words, target_words, fail_words, fault_words, refusal_words, reason_words, keep_words, first_words, sent_words, put_words, plan_words, ended_words};
+ghost use Rattle.so_history.specs.Trace.{demand_words, chosen_words, opening_words, target_words, fail_words, rule_words, refusal_words, reason_words, keep_words, first_words, sent_words, put_words, plan_words, ended_words};
 
 use so_code::FailKind;
 use so_ids::{
@@ -93,7 +93,7 @@ pub(crate) fn put_fail(buf: &mut LineBuf, kind: FailKind)
 /// Appends the definition rule that is broken.
 pub(crate) fn put_fault(buf: &mut LineBuf, fault: DefFault)
     requires { array_vec_len buf.old + 11 ≤ 512 }
-    ensures items { buf.new.items ≡ buf.old.items ++ fault_words fault }
+    ensures items { buf.new.items ≡ buf.old.items ++ rule_words fault }
     ensures len { array_vec_len buf.new ≤ array_vec_len buf.old + 11 }
 {
     match fault {

@@ -11,10 +11,10 @@ use std::time::Duration;
 use std::{env, fs, io, process};
 
 /// A stream that takes at most two bytes a call, is interrupted at call 1, and from `ends` on takes none or fails. It
-/// counts the bytes that it took.
+/// keeps the bytes that it took.
 #[derive(Drop)]
 struct Slow<'a> {
-    taken: &'a Cell<usize>,
+    taken: &'a mut Vec<u8>,
     calls: u32,
     ends: u32,
     end: Option<ErrorKind>,
@@ -34,7 +34,7 @@ impl<'a> Write for Slow<'a> {
             };
         }
         let count = buf.len().min(2);
-        self.taken.set(self.taken.get().saturating_add(count));
+        self.taken.extend_from_slice(&buf[..count])?;
         Ok(count)
     }
 
@@ -43,25 +43,25 @@ impl<'a> Write for Slow<'a> {
     }
 }
 
-/// At which call the stream ends and how, whether `hello` was written, and how many bytes of it were taken.
-static SLOW: [(u32, Option<ErrorKind>, bool, usize); 3] = [
-    (9, None, true, 5),
-    (3, None, false, 4),
-    (2, Some(ErrorKind::BrokenPipe), false, 2),
+/// At which call the stream ends and how, whether `hello` was written, and which bytes were taken.
+static SLOW: [(u32, Option<ErrorKind>, bool, &str); 3] = [
+    (9, None, true, "hello"),
+    (3, None, false, "hell"),
+    (2, Some(ErrorKind::BrokenPipe), false, "he"),
 ];
 
 #[test]
 fn a_short_write_goes_on_and_a_failed_one_leaves_a_part(rt: HostRuntime) {
-    for (ends, end, is_whole, count) in SLOW.iter() {
-        let taken = Cell::new(0);
+    for (ends, end, is_whole, text) in SLOW.iter() {
+        let mut taken = Vec::new(rt.alloc());
         let mut sink = RealSink::new(Slow {
-            taken: &taken,
+            taken: &mut taken,
             calls: 0,
             ends: *ends,
             end: *end,
         });
         assert!(rt; put_all(&mut sink, b"hello").is_ok() == *is_whole);
-        assert!(rt; taken.get() == *count);
+        assert!(rt; taken.as_slice() == text.as_bytes());
     }
 }
 

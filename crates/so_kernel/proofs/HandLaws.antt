@@ -11,7 +11,7 @@ use Rattle.so_code.specs.declared.effect.Effect.{Effect}
 use Rattle.so_code.specs.declared.effect.Move.{Move}
 use Rattle.so_code.specs.declared.effect.Move.TheVariants.{Do}
 use Rattle.so_code.specs.declared.frame.Frame.{Frame}
-use Rattle.so_code.specs.Openings.{begun}
+use Rattle.so_code.specs.Openings.{first_frame}
 use Rattle.so_code.specs.Answers.{answered}
 use Rattle.so_scene.specs.declared.parts.SceneParts.{SceneParts}
 use Rattle.so_scene.specs.Checked.{IsScene}
@@ -35,7 +35,7 @@ use Rattle.so_history.specs.Steps.{Legal}
 use Rattle.so_history.specs.Chain.{registering, registration}
 use Rattle.so_history.proofs.TurnLaws.{turn_found, turn-begun, turn-spared, turn_of, turn_looked_up, turn_agent}
 use Rattle.so_history.proofs.CourseLaws.{course-acted, course-begun, has_course}
-use Rattle.so_history.proofs.ChainLaws.{registered, IsTidying}
+use Rattle.so_history_laws.proofs.ChainLaws.{registered, IsTidying}
 use Rattle.so_kernel.specs.declared.answers.Turn.{Turn}
 use Rattle.so_tables.specs.declared.found.Found.TheVariants as what
 use Rattle.so_tables.specs.AfterEvents.{IsSent}
@@ -63,7 +63,7 @@ opens_finish s h a (Event mbox msg payload) = refl
 
 -- the turn that a Begin hands out is held
 pub held_begun : (s : SceneParts) (h : List Entry) (e : Entry) (lane : LaneId) (d : Demand) → Legal s h → e.kind ≡ Begin lane (Some d.id) (opening_of s h d) d.agent →
-    IsHeld s (e ∷ h) (record { begun = record { 0 = length h }; by = e.by; lane = lane; agent = d.agent; safe = is_safe s d.agent (opening_of s h d); finishes = is_finish d; event = event_of s h (Some d.id); frame = begun (opening_of s h d) (vars s h d.agent) (message_of s h (Some d.id)) })
+    IsHeld s (e ∷ h) (record { begun = record { 0 = length h }; by = e.by; lane = lane; agent = d.agent; safe = is_safe s d.agent (opening_of s h d); finishes = is_finish d; event = event_of s h (Some d.id); frame = first_frame (opening_of s h d) (vars s h d.agent) (message_of s h (Some d.id)) })
 held_begun s h e lane d legal is =
     record {
       turn = record { place = length h; by = e.by; lane = lane; agent = d.agent; opening = opening_of s h d };

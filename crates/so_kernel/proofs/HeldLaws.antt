@@ -1,5 +1,5 @@
 -- The turns in hand after one more entry.
-use Rattle.std.proofs.Common.{◌≡◌, ℕ, ◌<◌, List, [], ◌∷◌, length, true, false, Option, Some, None, arith, refl, sym, ◌∙◌, ap, inl, inr, get_or, subst, Result, Ok, Err, zero, suc}
+use Rattle.std.proofs.Common.{◌≡◌, ℕ, ◌<◌, ◌≤◌, List, [], ◌∷◌, length, true, false, Option, Some, None, arith, refl, sym, ◌∙◌, ap, inl, inr, get_or, subst, Result, Ok, Err, zero, suc}
 use Rattle.std.specs.Prelude.{◌==◌, slice_set, is_some}
 use Rattle.std.specs.Option.{option_map}
 use Rattle.std.proofs.lemmas.List.{length-set, get_or-set_same, get_or-set_other, set-get_or}
@@ -36,18 +36,21 @@ use Rattle.so_history.specs.Chain.{registering, registration, tidying, turn_on, 
 use Rattle.so_ledger.proofs.GateLaws.{gated_first}
 use Rattle.so_history.proofs.TurnLaws.{running_at-begun, running_at-same, running_at-ended, alone, turn_found, turn-spared, lanes_free}
 use Rattle.so_history.proofs.CourseLaws.{acts_for, course-spared}
-use Rattle.so_history.proofs.ChainLaws.{answered_named, registered, tidied, IsTidying, first-turn, lane_entry-turn, lane_entry-free, has_move}
+use Rattle.so_history_laws.proofs.ChainLaws.{answered_named, registered, tidied, IsTidying, first-turn, lane_entry-turn, lane_entry-free, has_move}
 use Rattle.so_kernel.specs.declared.answers.Turn.{Turn}
-use Rattle.so_ledger.specs.declared.gate.Refused.{Refused}
-use Rattle.so_ledger.specs.declared.gate.Refused.TheVariants.{Nothing, Full, Over}
+use Rattle.so_kernel.specs.declared.answers.Turned.{Turned}
+use Rattle.so_kernel.specs.declared.answers.Turned.TheVariants as turned_answer
+use Rattle.so_ledger.specs.declared.gate.Barred.{Barred}
+use Rattle.so_ledger.specs.declared.gate.Barred.TheVariants.{Nothing, Full, Over}
 use Rattle.so_kernel.specs.declared.answers.Acted.TheVariants as acted_answer
+use Rattle.so_kernel.specs.declared.answers.Stepped.{Stepped}
 use Rattle.so_kernel.specs.declared.answers.Stepped.TheVariants as stepped_answer
 use Rattle.so_kernel.specs.declared.answers.Begun.TheVariants as begun_answer
 use Rattle.so_ledger.specs.Shapes.{Core}
 use Rattle.so_kernel.specs.Hands.{is_skip, IsHeld, HasMoved, IsBegun, act_entry, end_entry, fail_entry, turn_after}
 use Rattle.so_ledger.specs.Gates.{gated, core_after, begin_by}
-use Rattle.so_kernel.specs.Answers.{acted, ended, failed, added, stepped}
-use Rattle.so_kernel.specs.Held.{IsLaneHeld, AreHeld, HasStepped, Moves, turn_move, stepped_by_act, stepped_by_end, turn_kept, handed_back}
+use Rattle.so_kernel.specs.Answers.{act_answers, end_answers, fail_answers, added, step_answers}
+use Rattle.so_kernel.specs.Held.{IsLaneHeld, AreHeld, HasStepped, Moves, turn_move, stepped_by_act, stepped_by_end, turn_kept, left_by_end, said, left, turns_left, HasTurned, HasAdvanced, AreWithin}
 use Rattle.so_kernel.proofs.ActLaws.{moved_named}
 use Rattle.so_ledger.proofs.GateLaws.{gated_next, nothing_gated, ok_going, same_over}
 use Rattle.so_kernel.proofs.HandLaws.{begins_turn, looked_up}
@@ -140,11 +143,8 @@ lane_held k ts lane t in_range held =
     let within : lane < length ts = omega (arith, held.size, length-set ts lane (Some t)) in
     subst P (get_or-set_same ts lane (Some t) None within) (held.each lane in_range)
 
-pub lane_moved : (k : Core) (ts : List (Option Turn)) (lane : ℕ) (t : Turn) (before : Frame) (move : Move) → lane < lanes k.scene → AreHeld k (slice_set ts lane (Some (record t { frame = before }))) → Moves k t before move → HasMoved k.scene k.history t move
-lane_moved k ts lane t before move in_range held moves = record { before = before; held = (lane_held k ts lane (record t { frame = before }) in_range held).0; moves = moves }
-
 -- an entry of main has nothing to do with a lane
-main_spared : (k : Core) (g : Result Entry Refused) (ts : List (Option Turn)) → Legal k.scene k.history → ((e : Entry) → g ≡ Ok e → aborted k.history ≡ false) → ((e : Entry) → g ≡ Ok e → (j : ℕ) → Spares k.history e.kind j) → AreHeld k ts → AreHeld (core_after k g) ts
+main_spared : (k : Core) (g : Result Entry Barred) (ts : List (Option Turn)) → Legal k.scene k.history → ((e : Entry) → g ≡ Ok e → aborted k.history ≡ false) → ((e : Entry) → g ≡ Ok e → (j : ℕ) → Spares k.history e.kind j) → AreHeld k ts → AreHeld (core_after k g) ts
 main_spared k (Ok e) ts legal going spares held = held_spared k e ts legal (going e refl) (spares e refl) held
 main_spared k (Err Nothing) ts legal going spares held = held
 main_spared k (Err Full) ts legal going spares held = record { size = held.size; each = held.each }
@@ -203,9 +203,9 @@ held_acted_on k ts lane t u v effect legal going in_range same held uheld on =
     subst P (set-set ts lane (Some v) (Some u))
     (held_set k (act_entry k t effect) (slice_set ts lane (Some v)) lane (Some u) legal going in_range spares (uheld, on) held)
 
-held_ended_on : (k : Core) (ts : List (Option Turn)) (lane : ℕ) (t v : Turn) → Legal k.scene k.history → aborted k.history ≡ false → lane < lanes k.scene → v.begun ≡ t.begun → get_or ts lane None ≡ None →
-    AreHeld k (slice_set ts lane (Some v)) → AreHeld (record k { history = end_entry t ∷ k.history }) ts
-held_ended_on k ts lane t v legal going in_range same none held =
+held_ended_on : (k : Core) (ts : List (Option Turn)) (lane : ℕ) (t v : Turn) → Legal k.scene k.history → aborted k.history ≡ false → lane < lanes k.scene → v.begun ≡ t.begun →
+    AreHeld k (slice_set ts lane (Some v)) → AreHeld (record k { history = end_entry t ∷ k.history }) (slice_set ts lane None)
+held_ended_on k ts lane t v legal going in_range same held =
     let mine = lane_held k ts lane v in_range held in
     let P : List (Option Turn) → Type 0 = λ l. AreHeld (record k { history = end_entry t ∷ k.history }) l in
     let on : mine.0.turn.lane.0 ≡ lane = ap (λ (l : LaneId). l.0) mine.0.lane ∙ mine.1 in
@@ -214,26 +214,26 @@ held_ended_on k ts lane t v legal going in_range same none held =
     let itself : (t.begun.0 == mine.0.turn.place) ≡ true = eq-eqb t.begun.0 mine.0.turn.place (place ∙ sym (turn_found k.history v.begun.0 mine.0.turn mine.0.runs).0) in
     let spares : (j : ℕ) → (j ≡ lane → ⊥) → (x : Started) → turn_at k.history t.begun.0 ≡ Some x → x.lane.0 ≡ j → ⊥ =
     λ j other x runs here. own_spares k.scene k.history v lane j mine.0 mine.1 other x (ap (λ (p : Place). turn_at k.history p.0) same ∙ runs) here in
-    subst P (set-set ts lane (Some v) None ∙ (ap (slice_set ts lane) (sym none) ∙ set-get_or ts lane None))
+    subst P (set-set ts lane (Some v) None)
     (held_set k (end_entry t) (slice_set ts lane (Some v)) lane None legal going in_range spares
     (λ _. rw (running_at-ended lane_number k.history (end_entry t) lane refl, alone_there, itself) refl) held)
 
-held_failed_on : (k : Core) (ts : List (Option Turn)) (lane : ℕ) (t v : Turn) (kind : FailKind) → Legal k.scene k.history → aborted k.history ≡ false → lane < lanes k.scene → get_or ts lane None ≡ None →
-    AreHeld k (slice_set ts lane (Some v)) → AreHeld (record k { history = fail_entry t kind ∷ k.history }) ts
+held_failed_on : (k : Core) (ts : List (Option Turn)) (lane : ℕ) (t v : Turn) (kind : FailKind) → Legal k.scene k.history → aborted k.history ≡ false → lane < lanes k.scene →
+    AreHeld k (slice_set ts lane (Some v)) → AreHeld (record k { history = fail_entry t kind ∷ k.history }) (slice_set ts lane None)
 unfolding aborted
-held_failed_on k ts lane t v kind legal going in_range none held =
+held_failed_on k ts lane t v kind legal going in_range held =
     let P : List (Option Turn) → Type 0 = λ l. AreHeld (record k { history = fail_entry t kind ∷ k.history }) l in
-    subst P (set-set ts lane (Some v) None ∙ (ap (slice_set ts lane) (sym none) ∙ set-get_or ts lane None))
+    subst P (set-set ts lane (Some v) None)
     (held_set k (fail_entry t kind) (slice_set ts lane (Some v)) lane None legal going in_range (λ j other. tt) (λ e. absurd cc) held)
 
 -- ---- a step of a turn in hand
 
 -- the turns where its entry was added, and where it wasn't
-abbrev if_ok : Result Entry Refused → List (Option Turn) → List (Option Turn) → List (Option Turn)
+abbrev if_ok : Result Entry Barred → List (Option Turn) → List (Option Turn) → List (Option Turn)
 if_ok (Ok e) ts back = ts
 if_ok (Err why) ts back = back
 
-gated_held : (k l : Core) (e : Entry) (ts back : List (Option Turn)) (g : Result Entry Refused) → gated k (Some e) ≡ g → l ≡ core_after k g → AreHeld k back → (gated k (Some e) ≡ Ok e → AreHeld (record k { history = e ∷ k.history }) ts) → AreHeld l (if_ok g ts back)
+gated_held : (k l : Core) (e : Entry) (ts back : List (Option Turn)) (g : Result Entry Barred) → gated k (Some e) ≡ g → l ≡ core_after k g → AreHeld k back → (gated k (Some e) ≡ Ok e → AreHeld (record k { history = e ∷ k.history }) ts) → AreHeld l (if_ok g ts back)
 gated_held k l e ts back (Ok x) is after held added =
     let same : x ≡ e = sym (same_Some e x (gated_next k (Some e) x is)) in
     let l_is : l ≡ record k { history = e ∷ k.history } = after ∙ ap (λ (y : Entry). record k { history = y ∷ k.history }) same in
@@ -245,41 +245,41 @@ gated_held k l e ts back (Err Over) is after held added = let Q : Core → Type 
 
 -- what it answers
 module _ (k : Core) (e : Entry) where
-  answer_added : (x : Entry) → gated k (Some e) ≡ Ok x → added e.kind ≡ stepped (gated k (Some e))
-  answer_added x is = ap (λ (y : Entry). added y.kind) (same_Some e x (gated_next k (Some e) x is)) ∙ ap stepped (sym is)
+  answer_added : (x : Entry) → gated k (Some e) ≡ Ok x → added e.kind ≡ step_answers (gated k (Some e))
+  answer_added x is = ap (λ (y : Entry). added y.kind) (same_Some e x (gated_next k (Some e) x is)) ∙ ap step_answers (sym is)
 
-  answered_acted : (g : Result Entry Refused) → gated k (Some e) ≡ g → stepped_answer.Added ≡ added e.kind → stepped_by_act (acted g) ≡ stepped (gated k (Some e))
+  answered_acted : (g : Result Entry Barred) → gated k (Some e) ≡ g → stepped_answer.Added ≡ added e.kind → stepped_by_act (act_answers g) ≡ step_answers (gated k (Some e))
   answered_acted (Ok x) is adds = adds ∙ answer_added x is
   answered_acted (Err Nothing) is adds = let none : Some e ≡ None = nothing_gated k (Some e) is in cc
-  answered_acted (Err Full) is adds = ap stepped (sym is)
-  answered_acted (Err Over) is adds = ap stepped (sym is)
+  answered_acted (Err Full) is adds = ap step_answers (sym is)
+  answered_acted (Err Over) is adds = ap step_answers (sym is)
 
-  answered_ended : (t : Turn) (g : Result Entry Refused) → gated k (Some e) ≡ g → stepped_answer.Added ≡ added e.kind → stepped_by_end (ended g t) ≡ stepped (gated k (Some e))
-  answered_ended t (Ok x) is adds = adds ∙ answer_added x is
-  answered_ended t (Err Nothing) is adds = let none : Some e ≡ None = nothing_gated k (Some e) is in cc
-  answered_ended t (Err Full) is adds = ap stepped (sym is)
-  answered_ended t (Err Over) is adds = ap stepped (sym is)
+  answered_ended : (g : Result Entry Barred) → gated k (Some e) ≡ g → stepped_answer.Added ≡ added e.kind → stepped_by_end (end_answers g) ≡ step_answers (gated k (Some e))
+  answered_ended (Ok x) is adds = adds ∙ answer_added x is
+  answered_ended (Err Nothing) is adds = let none : Some e ≡ None = nothing_gated k (Some e) is in cc
+  answered_ended (Err Full) is adds = ap step_answers (sym is)
+  answered_ended (Err Over) is adds = ap step_answers (sym is)
 
-  answered_failed : (t : Turn) (g : Result Entry Refused) → gated k (Some e) ≡ g → stepped_answer.Aborted ≡ added e.kind → stepped_by_end (failed g t) ≡ stepped (gated k (Some e))
-  answered_failed t (Ok x) is adds = adds ∙ answer_added x is
-  answered_failed t (Err Nothing) is adds = let none : Some e ≡ None = nothing_gated k (Some e) is in cc
-  answered_failed t (Err Full) is adds = ap stepped (sym is)
-  answered_failed t (Err Over) is adds = ap stepped (sym is)
+  answered_failed : (g : Result Entry Barred) → gated k (Some e) ≡ g → stepped_answer.Aborted ≡ added e.kind → stepped_by_end (fail_answers g) ≡ step_answers (gated k (Some e))
+  answered_failed (Ok x) is adds = adds ∙ answer_added x is
+  answered_failed (Err Nothing) is adds = let none : Some e ≡ None = nothing_gated k (Some e) is in cc
+  answered_failed (Err Full) is adds = ap step_answers (sym is)
+  answered_failed (Err Over) is adds = ap step_answers (sym is)
 
--- where the turn is put back
-back_ended : (g : Result Entry Refused) (t : Turn) (before : Frame) (ts : List (Option Turn)) (lane : ℕ) → handed_back lane before (ended g t) ts ≡ if_ok g ts (slice_set ts lane (Some (record t { frame = before })))
+-- what is left of the turn
+back_ended : (g : Result Entry Barred) (t : Turn) (before : Frame) (ts : List (Option Turn)) (lane : ℕ) → slice_set ts lane (left_by_end (end_answers g) before t) ≡ if_ok g (slice_set ts lane None) (slice_set ts lane (Some (record t { frame = before })))
 back_ended (Ok e) t before ts lane = refl
 back_ended (Err Nothing) t before ts lane = refl
 back_ended (Err Full) t before ts lane = refl
 back_ended (Err Over) t before ts lane = refl
 
-back_failed : (g : Result Entry Refused) (t : Turn) (before : Frame) (ts : List (Option Turn)) (lane : ℕ) → handed_back lane before (failed g t) ts ≡ if_ok g ts (slice_set ts lane (Some (record t { frame = before })))
+back_failed : (g : Result Entry Barred) (t : Turn) (before : Frame) (ts : List (Option Turn)) (lane : ℕ) → slice_set ts lane (left_by_end (fail_answers g) before t) ≡ if_ok g (slice_set ts lane None) (slice_set ts lane (Some (record t { frame = before })))
 back_failed (Ok e) t before ts lane = refl
 back_failed (Err Nothing) t before ts lane = refl
 back_failed (Err Full) t before ts lane = refl
 back_failed (Err Over) t before ts lane = refl
 
-back_acted : (k : Core) (g : Result Entry Refused) (t u : Turn) (before : Frame) (effect : Effect) (ts : List (Option Turn)) (lane : ℕ) → u ≡ turn_after k g t effect → slice_set ts lane (Some (turn_kept (acted g) before u)) ≡ if_ok g (slice_set ts lane (Some u)) (slice_set ts lane (Some (record t { frame = before })))
+back_acted : (k : Core) (g : Result Entry Barred) (t u : Turn) (before : Frame) (effect : Effect) (ts : List (Option Turn)) (lane : ℕ) → u ≡ turn_after k g t effect → slice_set ts lane (Some (turn_kept (act_answers g) before u)) ≡ if_ok g (slice_set ts lane (Some u)) (slice_set ts lane (Some (record t { frame = before })))
 back_acted k (Ok e) t u before effect ts lane is = refl
 back_acted k (Err Nothing) t u before effect ts lane is = ap (λ (x : Turn). slice_set ts lane (Some (record x { frame = before }))) is
 back_acted k (Err Full) t u before effect ts lane is = ap (λ (x : Turn). slice_set ts lane (Some (record x { frame = before }))) is
@@ -297,55 +297,74 @@ move_is_fail k t before kind moves = rw moves refl
 
 -- the whole step
 module _ (k l : Core) (ts : List (Option Turn)) (lane : ℕ) (t : Turn) (before : Frame) (scene : IsScene k.scene) (legal : Legal k.scene k.history) (in_range : lane < lanes k.scene) (held : AreHeld k (slice_set ts lane (Some (record t { frame = before })))) where
-  pub act_stepped : (u : Turn) (effect : Effect) → Moves k t before (Do effect) → l ≡ core_after k (gated k (Some (act_entry k t effect))) → u ≡ turn_after k (gated k (Some (act_entry k t effect))) t effect → (acted (gated k (Some (act_entry k t effect))) ≡ acted_answer.Went → IsHeld l.scene l.history u) →
-      HasStepped k (turn_move k.scene k.history (record t { frame = before })) (stepped_by_act (acted (gated k (Some (act_entry k t effect))))) l (slice_set ts lane (Some (turn_kept (acted (gated k (Some (act_entry k t effect)))) before u)))
+  pub act_stepped : (u : Turn) (effect : Effect) → Moves k t before (Do effect) → l ≡ core_after k (gated k (Some (act_entry k t effect))) → u ≡ turn_after k (gated k (Some (act_entry k t effect))) t effect → (act_answers (gated k (Some (act_entry k t effect))) ≡ acted_answer.Went → IsHeld l.scene l.history u) →
+      HasStepped k (turn_move k.scene k.history (record t { frame = before })) (stepped_by_act (act_answers (gated k (Some (act_entry k t effect))))) l (slice_set ts lane (Some (turn_kept (act_answers (gated k (Some (act_entry k t effect)))) before u)))
   act_stepped u effect moves after next uheld =
       let e : Entry = act_entry k t effect in
-      let g : Result Entry Refused = gated k (Some e) in
-      let moved = lane_moved k ts lane t before (Do effect) in_range held moves in
+      let g : Result Entry Barred = gated k (Some e) in
+      let moved : HasMoved k.scene k.history t (Do effect) = record { before = before; held = (lane_held k ts lane (record t { frame = before }) in_range held).0; moves = moves } in
       let answers = answered_named k.scene k.history t.agent t.event effect (moved_named k t effect scene legal moved) in
-      let P : Option Entry → Type 0 = λ x. HasStepped k x (stepped_by_act (acted g)) l (slice_set ts lane (Some (turn_kept (acted g) before u))) in
+      let P : Option Entry → Type 0 = λ x. HasStepped k x (stepped_by_act (act_answers g)) l (slice_set ts lane (Some (turn_kept (act_answers g) before u))) in
       let Q : List (Option Turn) → Type 0 = λ x. AreHeld l x in
       let went : gated k (Some e) ≡ Ok e → AreHeld (record k { history = e ∷ k.history }) (slice_set ts lane (Some u)) =
       λ ok. let H : Core → Type 0 = λ x. IsHeld x.scene x.history u in
       let on : u.lane.0 ≡ lane = ap (λ (x : Turn). x.lane.0) (next ∙ ap (λ y. turn_after k y t effect) ok) ∙ (lane_held k ts lane (record t { frame = before }) in_range held).1 in
-      held_acted_on k ts lane t u (record t { frame = before }) effect legal (ok_going k (Some e) e ok) in_range refl held (subst H (after ∙ ap (core_after k) ok) (uheld (ap acted ok))) on in
+      held_acted_on k ts lane t u (record t { frame = before }) effect legal (ok_going k (Some e) e ok) in_range refl held (subst H (after ∙ ap (core_after k) ok) (uheld (ap act_answers ok))) on in
       subst P (move_is_act k t before effect answers.0 moves answers.1) record {
         answer = answered_acted k e g refl refl;
         after = after;
         held = subst Q (sym (back_acted k g t u before effect ts lane next)) (gated_held k l e (slice_set ts lane (Some u)) (slice_set ts lane (Some (record t { frame = before }))) g refl after held went);
       }
 
-  pub end_stepped : get_or ts lane None ≡ None → Moves k t before Done → l ≡ core_after k (gated k (Some (end_entry t))) →
-      HasStepped k (turn_move k.scene k.history (record t { frame = before })) (stepped_by_end (ended (gated k (Some (end_entry t))) t)) l (handed_back lane before (ended (gated k (Some (end_entry t))) t) ts)
-  end_stepped none moves after =
+  pub end_stepped : Moves k t before Done → l ≡ core_after k (gated k (Some (end_entry t))) →
+      HasStepped k (turn_move k.scene k.history (record t { frame = before })) (stepped_by_end (end_answers (gated k (Some (end_entry t))))) l (slice_set ts lane (left_by_end (end_answers (gated k (Some (end_entry t)))) before t))
+  end_stepped moves after =
       let e : Entry = end_entry t in
-      let g : Result Entry Refused = gated k (Some e) in
-      let P : Option Entry → Type 0 = λ x. HasStepped k x (stepped_by_end (ended g t)) l (handed_back lane before (ended g t) ts) in
+      let g : Result Entry Barred = gated k (Some e) in
+      let P : Option Entry → Type 0 = λ x. HasStepped k x (stepped_by_end (end_answers g)) l (slice_set ts lane (left_by_end (end_answers g) before t)) in
       let Q : List (Option Turn) → Type 0 = λ x. AreHeld l x in
       subst P (move_is_end k t before moves) record {
-        answer = answered_ended k e t g refl refl;
+        answer = answered_ended k e g refl refl;
         after = after;
-        held = subst Q (sym (back_ended g t before ts lane)) (gated_held k l e ts (slice_set ts lane (Some (record t { frame = before }))) g refl after held (λ ok. held_ended_on k ts lane t (record t { frame = before }) legal (ok_going k (Some e) e ok) in_range refl none held));
+        held = subst Q (sym (back_ended g t before ts lane)) (gated_held k l e (slice_set ts lane None) (slice_set ts lane (Some (record t { frame = before }))) g refl after held (λ ok. held_ended_on k ts lane t (record t { frame = before }) legal (ok_going k (Some e) e ok) in_range refl held));
       }
 
-  pub fail_stepped : (kind : FailKind) → get_or ts lane None ≡ None → Moves k t before (Fail kind) → l ≡ core_after k (gated k (Some (fail_entry t kind))) →
-      HasStepped k (turn_move k.scene k.history (record t { frame = before })) (stepped_by_end (failed (gated k (Some (fail_entry t kind))) t)) l (handed_back lane before (failed (gated k (Some (fail_entry t kind))) t) ts)
-  fail_stepped kind none moves after =
+  pub fail_stepped : (kind : FailKind) → Moves k t before (Fail kind) → l ≡ core_after k (gated k (Some (fail_entry t kind))) →
+      HasStepped k (turn_move k.scene k.history (record t { frame = before })) (stepped_by_end (fail_answers (gated k (Some (fail_entry t kind))))) l (slice_set ts lane (left_by_end (fail_answers (gated k (Some (fail_entry t kind)))) before t))
+  fail_stepped kind moves after =
       let e : Entry = fail_entry t kind in
-      let g : Result Entry Refused = gated k (Some e) in
-      let P : Option Entry → Type 0 = λ x. HasStepped k x (stepped_by_end (failed g t)) l (handed_back lane before (failed g t) ts) in
+      let g : Result Entry Barred = gated k (Some e) in
+      let P : Option Entry → Type 0 = λ x. HasStepped k x (stepped_by_end (fail_answers g)) l (slice_set ts lane (left_by_end (fail_answers g) before t)) in
       let Q : List (Option Turn) → Type 0 = λ x. AreHeld l x in
       subst P (move_is_fail k t before kind moves) record {
-        answer = answered_failed k e t g refl refl;
+        answer = answered_failed k e g refl refl;
         after = after;
-        held = subst Q (sym (back_failed g t before ts lane)) (gated_held k l e ts (slice_set ts lane (Some (record t { frame = before }))) g refl after held (λ ok. held_failed_on k ts lane t (record t { frame = before }) kind legal (ok_going k (Some e) e ok) in_range none held));
+        held = subst Q (sym (back_failed g t before ts lane)) (gated_held k l e (slice_set ts lane None) (slice_set ts lane (Some (record t { frame = before }))) g refl after held (λ ok. held_failed_on k ts lane t (record t { frame = before }) kind legal (ok_going k (Some e) e ok) in_range held));
       }
+
+-- ---- a turn that steps in its place
+
+-- a lane that has a turn stays where it is among the others
+pub within_set : (from below : ℕ) (ts : List (Option Turn)) (lane : ℕ) (x : Option Turn) → AreWithin from below ts → is_some (get_or ts lane None) ≡ true → AreWithin from below (slice_set ts lane x)
+within_set from below ts lane x within some l there =
+    elim (cases_eq l lane) [
+      | inl same ↦ (let Q : ℕ → Type 0 = λ i. (from ≤ i) × (i < below) in subst Q (sym same) (within lane some))
+      | inr other ↦ within l (ap is_some (sym (get_or-set_other ts lane l x None other)) ∙ there)
+    ]
+
+-- the whole step, of the turns among which it stands
+pub turned_on : (k : Core) (ts : List (Option Turn)) (lane : ℕ) (t u : Turn) (answer : Stepped) (l : Core) (rest : Option Turn) → AreHeld k ts → get_or ts lane None ≡ Some t → HasTurned k lane t answer l rest →
+    HasStepped k (turn_move k.scene k.history t) answer l (slice_set (slice_set ts lane (Some u)) lane rest)
+turned_on k ts lane t u answer l rest held here turned =
+    let P : List (Option Turn) → Type 0 = λ x. AreHeld k x in
+    let Q : List (Option Turn) → Type 0 = λ x. HasStepped k (turn_move k.scene k.history t) answer l x in
+    let same : slice_set ts lane (Some t) ≡ ts = ap (slice_set ts lane) (sym here) ∙ set-get_or ts lane None in
+    subst Q (sym (set-set ts lane (Some u) rest)) (turned ts (subst P (sym same) held))
 
 -- ---- a step that takes a demand
 
 -- a turn that begins
-begun_parts : (l : Core) (by : PartyId) (lane : LaneId) (g : Result Entry Refused) (t : Turn) → IsBegun l by lane g (begun_answer.Turn t) → (e : Entry) × (g ≡ Ok e) × IsHeld l.scene l.history t × (t.lane ≡ lane) × (is_skip e.kind ≡ false)
+begun_parts : (l : Core) (by : PartyId) (lane : LaneId) (g : Result Entry Barred) (t : Turn) → IsBegun l by lane g (begun_answer.Turn t) → (e : Entry) × (g ≡ Ok e) × IsHeld l.scene l.history t × (t.lane ≡ lane) × (is_skip e.kind ≡ false)
 begun_parts l by lane (Ok e) t b = (e, refl, b.1, b.3, b.0)
 begun_parts l by lane (Err Nothing) t b = cc
 begun_parts l by lane (Err Full) t b = cc
@@ -380,24 +399,24 @@ added_taking : (kind : EntryKind) (lane : LaneId) (d : Demand) (o : Opening) (w 
 added_taking kind lane d o None is = ap added (sym is)
 added_taking kind lane d o (Some why) is = ap added (sym is)
 
-taking_added : (k : Core) (by : PartyId) (lane : LaneId) (e : Entry) → gated k (begin_by k by lane) ≡ Ok e → stepped_answer.Added ≡ stepped (gated k (begin_by k by lane))
+taking_added : (k : Core) (by : PartyId) (lane : LaneId) (e : Entry) → gated k (begin_by k by lane) ≡ Ok e → stepped_answer.Added ≡ step_answers (gated k (begin_by k by lane))
 taking_added k by lane e g =
     let d = picked_entry k.scene k.history by lane (pick k.scene k.history lane) e (gated_next k (begin_by k by lane) e g) in
-    added_taking e.kind lane d.0 (opening_of k.scene k.history d.0) (skipped (opening_of k.scene k.history d.0)) d.1 ∙ ap stepped (sym g)
+    added_taking e.kind lane d.0 (opening_of k.scene k.history d.0) (skipped (opening_of k.scene k.history d.0)) d.1 ∙ ap step_answers (sym g)
 
-pub begun_added : (k l : Core) (by : PartyId) (lane : LaneId) (t : Turn) → IsBegun l by lane (gated k (begin_by k by lane)) (begun_answer.Turn t) → stepped_answer.Added ≡ stepped (gated k (begin_by k by lane))
+pub begun_added : (k l : Core) (by : PartyId) (lane : LaneId) (t : Turn) → IsBegun l by lane (gated k (begin_by k by lane)) (begun_answer.Turn t) → stepped_answer.Added ≡ step_answers (gated k (begin_by k by lane))
 begun_added k l by lane t b =
     let p = begun_parts l by lane (gated k (begin_by k by lane)) t b in
     taking_added k by lane p.0 p.1
 
 -- a demand that was skipped
-skipped_parts : (l : Core) (by : PartyId) (lane : LaneId) (g : Result Entry Refused) → IsBegun l by lane g begun_answer.Skipped → (e : Entry) × (g ≡ Ok e) × (is_skip e.kind ≡ true)
+skipped_parts : (l : Core) (by : PartyId) (lane : LaneId) (g : Result Entry Barred) → IsBegun l by lane g begun_answer.Skipped → (e : Entry) × (g ≡ Ok e) × (is_skip e.kind ≡ true)
 skipped_parts l by lane (Ok e) b = (e, refl, b)
 skipped_parts l by lane (Err Nothing) b = cc
 skipped_parts l by lane (Err Full) b = cc
 skipped_parts l by lane (Err Over) b = cc
 
-pub skip_added : (k l : Core) (by : PartyId) (lane : LaneId) → IsBegun l by lane (gated k (begin_by k by lane)) begun_answer.Skipped → stepped_answer.Added ≡ stepped (gated k (begin_by k by lane))
+pub skip_added : (k l : Core) (by : PartyId) (lane : LaneId) → IsBegun l by lane (gated k (begin_by k by lane)) begun_answer.Skipped → stepped_answer.Added ≡ step_answers (gated k (begin_by k by lane))
 skip_added k l by lane b =
     let p = skipped_parts l by lane (gated k (begin_by k by lane)) b in
     taking_added k by lane p.0 p.1
@@ -451,6 +470,26 @@ lane_free k lane held =
       | inl y ↦ same_over k _ _ y
       | inr f ↦ ap (gated k) (lane_entry-free k.scene k.history lane (held f))
     ]
+
+-- the turns in hand after the step of one that stands among them
+turned_left : (turned : Turned) (u : Turn) (ts : List (Option Turn)) (lane : ℕ) → slice_set (slice_set ts lane (Some u)) lane (left turned u) ≡ turns_left turned lane (slice_set ts lane (Some u))
+turned_left (turned_answer.On answer) u ts lane = set-set ts lane (Some u) (Some u)
+turned_left (turned_answer.Over answer) u ts lane = refl
+
+pub advanced : (k : Core) (ts : List (Option Turn)) (lane : LaneId) (x : Option Turn) (turned : Turned) (l : Core) (new : List (Option Turn)) → IsScene k.scene → Legal k.scene k.history → lane.0 < lanes k.scene → AreHeld k ts → get_or ts lane.0 None ≡ x → HasAdvanced k ts lane.0 x (Some turned) l new →
+    HasStepped k (lane_entry k.scene k.history lane) (said turned) l (turns_left turned lane.0 new)
+advanced k ts lane None turned l new scene legal in_range held here h = absurd h
+advanced k ts lane (Some t) turned l new scene legal in_range held here h =
+    let L : Option Turn → Type 0 = λ y. IsLaneHeld k.scene k.history lane.0 y in
+    let mine : IsLaneHeld k.scene k.history lane.0 (Some t) = subst L here (held.each lane.0 in_range) in
+    let P : List (Option Turn) → Type 0 = λ y. HasStepped k (turn_move k.scene k.history t) (said turned) l y in
+    let Q : Option Entry → Type 0 = λ y. HasStepped k y (said turned) l (turns_left turned lane.0 new) in
+    let same : slice_set (slice_set ts lane.0 (Some h.0)) lane.0 (left turned h.0) ≡ turns_left turned lane.0 new = turned_left turned h.0 ts lane.0 ∙ ap (turns_left turned lane.0) (sym h.1) in
+    subst Q (sym (lane_move k t lane scene legal mine.0 mine.1)) (subst P same (turned_on k ts lane.0 t h.0 (said turned) l (left turned h.0) held here h.2))
+
+pub none_advanced : (k : Core) (ts : List (Option Turn)) (lane : ℕ) (x : Option Turn) (l : Core) (new : List (Option Turn)) → HasAdvanced k ts lane x None l new → (l ≡ k) × (new ≡ ts) × (x ≡ None)
+none_advanced k ts lane None l new h = (h.0, h.1, refl)
+none_advanced k ts lane (Some t) l new h = absurd h
 
 first_case : (k : Core) (lane : LaneId) (x : Option Turn) → IsScene k.scene → Legal k.scene k.history → lane.0 < lanes k.scene → IsLaneHeld k.scene k.history lane.0 x → is_some x ≡ true → ((l : ℕ) → l < lane.0 → running_at lane_number k.history l ≡ []) →
     first_entry k.scene k.history ≡ lane_entry k.scene k.history lane

@@ -3,8 +3,8 @@ use Rattle.std.specs.Prelude.{ℕ, Result, Ok, Err}
 use Rattle.so_history.specs.declared.entry.Entry.{Entry}
 use Rattle.so_history.specs.declared.entry.EntryKind.{EntryKind}
 use Rattle.so_history.specs.declared.entry.EntryKind.TheVariants.{Abort}
-use Rattle.so_ledger.specs.declared.gate.Refused.{Refused}
-use Rattle.so_ledger.specs.declared.gate.Refused.TheVariants.{Nothing, Full, Over}
+use Rattle.so_ledger.specs.declared.gate.Barred.{Barred}
+use Rattle.so_ledger.specs.declared.gate.Barred.TheVariants.{Nothing, Full, Over}
 use Rattle.so_kernel.specs.declared.answers.Stepped.{Stepped}
 use Rattle.so_kernel.specs.declared.answers.Stepped.TheVariants as stepped_answer
 use Rattle.so_kernel.specs.declared.answers.Begun.{Begun}
@@ -13,18 +13,17 @@ use Rattle.so_kernel.specs.declared.answers.Acted.{Acted}
 use Rattle.so_kernel.specs.declared.answers.Acted.TheVariants as acted_answer
 use Rattle.so_kernel.specs.declared.answers.Ended.{Ended}
 use Rattle.so_kernel.specs.declared.answers.Ended.TheVariants as ended_answer
-use Rattle.so_kernel.specs.declared.answers.Turn.{Turn}
 
 abbrev pub added : EntryKind → Stepped
 added (Abort cause) = stepped_answer.Aborted
 added other = stepped_answer.Added
 
 -- what a step answers
-abbrev pub stepped : Result Entry Refused → Stepped
-stepped (Ok e) = added e.kind
-stepped (Err Nothing) = stepped_answer.Nothing
-stepped (Err Full) = stepped_answer.Full
-stepped (Err Over) = stepped_answer.Over
+abbrev pub step_answers : Result Entry Barred → Stepped
+step_answers (Ok e) = added e.kind
+step_answers (Err Nothing) = stepped_answer.Nothing
+step_answers (Err Full) = stepped_answer.Full
+step_answers (Err Over) = stepped_answer.Over
 
 -- how many entries a step with this answer added
 abbrev pub entries : Stepped → ℕ
@@ -32,29 +31,29 @@ entries stepped_answer.Added = 1
 entries stepped_answer.Aborted = 1
 entries other = 0
 
-abbrev pub begun : Result Entry Refused → Begun
-begun (Ok e) = begun_answer.Nothing
-begun (Err Nothing) = begun_answer.Nothing
-begun (Err Full) = begun_answer.Full
-begun (Err Over) = begun_answer.Over
+abbrev pub begin_answers : Result Entry Barred → Begun
+begin_answers (Ok e) = begun_answer.Nothing
+begin_answers (Err Nothing) = begun_answer.Nothing
+begin_answers (Err Full) = begun_answer.Full
+begin_answers (Err Over) = begun_answer.Over
 
 -- what an act answers
-abbrev pub acted : Result Entry Refused → Acted
-acted (Ok e) = acted_answer.Went
-acted (Err Nothing) = acted_answer.Full
-acted (Err Full) = acted_answer.Full
-acted (Err Over) = acted_answer.Over
+abbrev pub act_answers : Result Entry Barred → Acted
+act_answers (Ok e) = acted_answer.Went
+act_answers (Err Nothing) = acted_answer.Full
+act_answers (Err Full) = acted_answer.Full
+act_answers (Err Over) = acted_answer.Over
 
 -- what an end answers
-abbrev pub ended : Result Entry Refused → Turn → Ended
-ended (Ok e) t = ended_answer.Done
-ended (Err Nothing) t = ended_answer.Full t
-ended (Err Full) t = ended_answer.Full t
-ended (Err Over) t = ended_answer.Over t
+abbrev pub end_answers : Result Entry Barred → Ended
+end_answers (Ok e) = ended_answer.Done
+end_answers (Err Nothing) = ended_answer.Full
+end_answers (Err Full) = ended_answer.Full
+end_answers (Err Over) = ended_answer.Over
 
 -- what a failure answers
-abbrev pub failed : Result Entry Refused → Turn → Ended
-failed (Ok e) t = ended_answer.Aborted
-failed (Err Nothing) t = ended_answer.Full t
-failed (Err Full) t = ended_answer.Full t
-failed (Err Over) t = ended_answer.Over t
+abbrev pub fail_answers : Result Entry Barred → Ended
+fail_answers (Ok e) = ended_answer.Aborted
+fail_answers (Err Nothing) = ended_answer.Full
+fail_answers (Err Full) = ended_answer.Full
+fail_answers (Err Over) = ended_answer.Over

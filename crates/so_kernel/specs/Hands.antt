@@ -22,11 +22,11 @@ use Rattle.so_history.specs.Finishing.{finishes}
 use Rattle.so_history.specs.Steps.{answer_of}
 use Rattle.so_tables.specs.declared.found.FoundTurn.{FoundTurn}
 use Rattle.so_ledger.specs.Shapes.{Core}
-use Rattle.so_ledger.specs.declared.gate.Refused.{Refused}
+use Rattle.so_ledger.specs.declared.gate.Barred.{Barred}
 use Rattle.so_kernel.specs.declared.answers.Begun.{Begun}
 use Rattle.so_kernel.specs.declared.answers.Begun.TheVariants as begun_answer
 use Rattle.so_kernel.specs.declared.answers.Turn.{Turn}
-use Rattle.so_kernel.specs.Answers.{begun}
+use Rattle.so_kernel.specs.Answers.{begin_answers}
 
 -- a turn that is held is running, is thread-safe and finishes its agent as it began, and has the frame that the history gives
 pub record IsHeld (s : SceneParts) (h : List Entry) (t : Turn) : Type 0 where
@@ -49,11 +49,11 @@ is_skip (Skip lane demand why) = true
 is_skip other = false
 
 -- what a begin answers: a turn that is held, that the demand was skipped, or why nothing was taken
-abbrev pub IsBegun : Core → PartyId → LaneId → Result Entry Refused → Begun → Type 0
+abbrev pub IsBegun : Core → PartyId → LaneId → Result Entry Barred → Begun → Type 0
 IsBegun k by lane (Ok e) (begun_answer.Turn t) = (is_skip e.kind ≡ false) × IsHeld k.scene k.history t × (t.by ≡ by) × (t.lane ≡ lane)
 IsBegun k by lane (Ok e) begun_answer.Skipped = is_skip e.kind ≡ true
 IsBegun k by lane (Ok e) _ = ⊥
-IsBegun k by lane (Err why) r = r ≡ begun (Err why)
+IsBegun k by lane (Err why) r = r ≡ begin_answers (Err why)
 
 -- the answer to an effect, which has one where its turn moved
 abbrev pub answer_for : Core → Turn → Effect → Answer
@@ -63,7 +63,7 @@ abbrev pub act_entry : Core → Turn → Effect → Entry
 act_entry k t effect = record { by = t.by; kind = Act t.begun effect (answer_for k t effect) }
 
 -- an act that went gives the frame its answer
-abbrev pub turn_after : Core → Result Entry Refused → Turn → Effect → Turn
+abbrev pub turn_after : Core → Result Entry Barred → Turn → Effect → Turn
 turn_after k (Ok e) t effect = record t { frame = answered (answer_for k t effect) t.frame }
 turn_after k (Err why) t effect = t
 

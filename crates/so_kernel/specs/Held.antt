@@ -1,5 +1,5 @@
 -- The turns that are in hand, and a row of picks.
-use Rattle.std.specs.Prelude.{◌≡◌, ℕ, ◌<◌, List, [], ◌∷◌, length, false, Option, Some, None, slice_index_or, slice_set}
+use Rattle.std.specs.Prelude.{◌≡◌, ℕ, ◌<◌, ◌≤◌, List, [], ◌∷◌, length, true, false, Option, Some, None, is_some, slice_index_or, slice_set}
 use Rattle.std.specs.Option.{option_map}
 use Rattle.so_code.specs.declared.effect.Move.{Move}
 use Rattle.so_code.specs.declared.frame.Frame.{Frame}
@@ -23,7 +23,23 @@ use Rattle.so_kernel.specs.declared.answers.Acted.{Acted}
 use Rattle.so_kernel.specs.declared.answers.Acted.TheVariants as acted_answer
 use Rattle.so_kernel.specs.declared.answers.Ended.{Ended}
 use Rattle.so_kernel.specs.declared.answers.Ended.TheVariants as ended_answer
-use Rattle.so_kernel.specs.Answers.{stepped}
+use Rattle.so_kernel.specs.declared.answers.Turned.{Turned}
+use Rattle.so_kernel.specs.declared.answers.Turned.TheVariants as turned_answer
+use Rattle.so_kernel.specs.Answers.{step_answers}
+
+-- no turn is in hand below a lane
+abbrev pub NoneBelow : List (Option Turn) → ℕ → Type 0
+NoneBelow ts n = (l : ℕ) → l < n → slice_index_or ts l None ≡ None
+
+-- the first turn in hand is that of a lane
+pub record IsFirstHeld (ts : List (Option Turn)) (n lane : ℕ) : Type 0 where
+  pub in_range : lane < n
+  pub holds : is_some (slice_index_or ts lane None) ≡ true
+  pub none_before : NoneBelow ts lane
+
+-- each turn in hand is that of a lane from one on and below another
+abbrev pub AreWithin : ℕ → ℕ → List (Option Turn) → Type 0
+AreWithin from below ts = (l : ℕ) → is_some (slice_index_or ts l None) ≡ true → (from ≤ l) × (l < below)
 
 -- the lane's running turn is in hand, or none runs there. After an abort a turn may run that nobody has
 abbrev pub IsLaneHeld : SceneParts → List Entry → ℕ → Option Turn → Type 0
@@ -50,21 +66,21 @@ Moves k t before move = after (code_of k.scene t.agent) before ≡ (move, t.fram
 
 -- what a step with this entry comes to: its answer, the kernel after it, and the turns in hand
 pub record HasStepped (k : Core) (next : Option Entry) (said : Stepped) (l : Core) (ts : List (Option Turn)) : Type 0 where
-  pub answer : said ≡ stepped (gated k next)
+  pub answer : said ≡ step_answers (gated k next)
   pub after : l ≡ core_after k (gated k next)
   pub held : AreHeld l ts
 
--- a step by what its end or failure answered, and the turns with the one that was handed back, as it was before its move
+-- a step by what its end or failure answered, and the turn that is left: as it was before its move, or none where it is over
 abbrev pub stepped_by_end : Ended → Stepped
 stepped_by_end ended_answer.Done = stepped_answer.Added
 stepped_by_end ended_answer.Aborted = stepped_answer.Aborted
-stepped_by_end (ended_answer.Full t) = stepped_answer.Full
-stepped_by_end (ended_answer.Over t) = stepped_answer.Over
+stepped_by_end ended_answer.Full = stepped_answer.Full
+stepped_by_end ended_answer.Over = stepped_answer.Over
 
-abbrev pub handed_back : ℕ → Frame → Ended → List (Option Turn) → List (Option Turn)
-handed_back lane before (ended_answer.Full t) ts = slice_set ts lane (Some (record t { frame = before }))
-handed_back lane before (ended_answer.Over t) ts = slice_set ts lane (Some (record t { frame = before }))
-handed_back lane before other ts = ts
+abbrev pub left_by_end : Ended → Frame → Turn → Option Turn
+left_by_end ended_answer.Done before t = None
+left_by_end ended_answer.Aborted before t = None
+left_by_end other before t = Some (record t { frame = before })
 
 -- a step by what its act answered, and the turn, as it was before its move where it didn't go
 abbrev pub stepped_by_act : Acted → Stepped
@@ -75,3 +91,27 @@ stepped_by_act acted_answer.Over = stepped_answer.Over
 abbrev pub turn_kept : Acted → Frame → Turn → Turn
 turn_kept acted_answer.Went before t = t
 turn_kept other before t = record t { frame = before }
+
+-- what the step of a turn answers, and the turn that is left of it
+abbrev pub said : Turned → Stepped
+said (turned_answer.On answer) = answer
+said (turned_answer.Over answer) = answer
+
+abbrev pub left : Turned → Turn → Option Turn
+left (turned_answer.On answer) t = Some t
+left (turned_answer.Over answer) t = None
+
+-- the turns in hand without the lane's, where it is over
+abbrev pub turns_left : Turned → ℕ → List (Option Turn) → List (Option Turn)
+turns_left (turned_answer.On answer) lane ts = ts
+turns_left (turned_answer.Over answer) lane ts = slice_set ts lane None
+
+-- what a step of a lane's turn comes to, whatever other turns are in hand
+abbrev pub HasTurned : Core → ℕ → Turn → Stepped → Core → Option Turn → Type 0
+HasTurned k lane t answer l rest = (ts : List (Option Turn)) → AreHeld k (slice_set ts lane (Some t)) → HasStepped k (turn_move k.scene k.history t) answer l (slice_set ts lane rest)
+
+-- the lane's turn, where it has one, made its step in its place
+abbrev pub HasAdvanced : Core → List (Option Turn) → ℕ → Option Turn → Option Turned → Core → List (Option Turn) → Type 0
+HasAdvanced k ts lane None None l new = (l ≡ k) × (new ≡ ts)
+HasAdvanced k ts lane (Some t) (Some turned) l new = (u : Turn) × (new ≡ slice_set ts lane (Some u)) × HasTurned k lane t (said turned) l (left turned u)
+HasAdvanced k ts lane x y l new = ⊥

@@ -9,7 +9,7 @@ ghost use Rattle.so_history.specs.Steps.{answer_of};
 ghost use Rattle.so_tables.specs.AfterEvents.{IsSentBy};
 ghost use Rattle.so_ledger.specs.Classes.{found_demand};
 ghost use Rattle.so_ledger.specs.Gates.{core_after};
-ghost use Rattle.so_ledger.specs.Kept.{IsReady};
+ghost use Rattle.so_ledger.specs.Kept.{MayAdd};
 ghost use Rattle.so_kernel.specs.Hands.{IsHeld, HasMoved, IsBegun, act_entry, found_turn, is_skip, turn_after};
 
 use crate::answers::{Begun, Turn};
@@ -31,7 +31,7 @@ pub(crate) fn add_taking(
 ) -> Begun
     requires picked { pick ledger.old.scene ledger.old.history lane ≡ Some demand }
     requires is { entry.kind ≡ taking ledger.old.scene ledger.old.history lane demand }
-    requires ready { IsReady ledger.old entry }
+    requires ready { MayAdd ledger.old entry }
     ensures answer { IsBegun ledger.new entry.by lane (Ok entry) result }
     ensures after { ledger.new ≡ core_after ledger.old (Ok entry) }
 {
@@ -57,7 +57,7 @@ fn add_begin(
     requires is { entry.kind ≡ taking ledger.old.scene ledger.old.history lane taken.demand }
     requires begins { is_skip entry.kind ≡ false }
     requires taken { taken ≡ found_demand ledger.old.scene ledger.old.history taken.demand }
-    requires ready { IsReady ledger.old entry }
+    requires ready { MayAdd ledger.old entry }
     ensures turn { IsHeld ledger.new.scene ledger.new.history result }
     ensures by { result.by ≡ entry.by }
     ensures lane { result.lane ≡ lane }
@@ -92,7 +92,7 @@ pub(crate) fn add_act(
     requires moved { HasMoved ledger.old.scene ledger.old.history turn.old (Do effect) }
     requires answer { answer_of ledger.old.scene ledger.old.history turn.old.agent turn.old.event effect ≡ Some answer }
     requires is { entry ≡ act_entry ledger.old turn.old effect }
-    requires ready { IsReady ledger.old entry }
+    requires ready { MayAdd ledger.old entry }
     requires sent { IsSentBy ledger.old.scene ledger.old.history effect sent.now.queued }
     ensures turn { turn.new ≡ turn_after ledger.old (Ok entry) turn.old effect }
     ensures held { IsHeld ledger.new.scene ledger.new.history turn.new }

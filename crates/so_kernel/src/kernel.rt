@@ -1,6 +1,7 @@
 //! The kernel and its steps. Each adds at most one entry, the one that its definition gives.
 
-ghost use Rattle.std.specs.Prelude.{◌≡◌, ◌<◌, ◌≤◌, ◌↔◌, [], true, false, IfOk, Some};
+ghost use Rattle.std.specs.Prelude.{◌≡◌, ℕ, ◌<◌, ◌≤◌, ◌↔◌, [], true, false, IfOk, Some, None};
+ghost use Rattle.so_ids.specs.Limits.{most_units};
 ghost use Rattle.so_scene.specs.Checked.{IsScene};
 ghost use Rattle.so_scene.specs.Lanes.{lanes};
 ghost use Rattle.so_code.specs.declared.effect.Move.TheVariants.{Do, Done, Fail};
@@ -8,9 +9,10 @@ ghost use Rattle.so_history.specs.Units.{units};
 ghost use Rattle.so_history.specs.Steps.{finished, is_over, IsSigner, Legal};
 ghost use Rattle.so_history.specs.Coops.{aborted};
 ghost use Rattle.so_history.specs.Chain.{registration, tidying};
+ghost use Rattle.so_history.specs.Order.{pick};
 ghost use Rattle.so_ledger.specs.Gates.{gated, core_after, begin_by};
 ghost use Rattle.so_ledger.specs.Kept.{HasTooLarge};
-ghost use Rattle.so_kernel.specs.Answers.{stepped, acted, ended, failed};
+ghost use Rattle.so_kernel.specs.Answers.{step_answers, act_answers, end_answers, fail_answers};
 ghost use Rattle.so_kernel.specs.Hands.{IsHeld, HasMoved, IsBegun, act_entry, end_entry, fail_entry, turn_after};
 
 use crate::answers::{Acted, Begun, Ended, RunState, Stepped, Turn};
@@ -19,7 +21,7 @@ use so_code::{Effect, FailKind};
 use so_deliver::Outcomes;
 use so_history::{AbortCause, Entry, EntryKind, History};
 use so_ids::{LaneId, NoMemory, PartyId};
-use so_ledger::{Ledger, Refused};
+use so_ledger::{Barred, Ledger};
 use so_scene::Scene;
 use so_tables::Found;
 use std::alloc::Global;
@@ -47,7 +49,7 @@ impl<'a> Model for Kernel<'a> {
 impl<'a> Kernel<'a> {
     /// A kernel with an empty history, which may spend so many units. Nothing after it takes memory.
     pub fn make(alloc: Global, scene: &'a Scene, units: u32) -> Result<Kernel<'a>, NoMemory>
-        requires { units ≤ 1000000 }
+        requires { units ≤ most_units }
         ensures { IfOk result (λ k. k ≡ record { scene = scene.now; limit = units; history = []; full = false }) }
     {
         Ok(Kernel {
@@ -63,7 +65,7 @@ impl<'a> Kernel<'a> {
         ensures scene { IsScene self.now.scene }
         ensures legal { Legal self.now.scene self.now.history }
         ensures within { units self.now.scene self.now.history ≤ self.now.limit }
-        ensures few { self.now.limit ≤ 1000000 }
+        ensures few { self.now.limit ≤ most_units }
         ensures full { self.now.full ≡ true → HasTooLarge self.now.scene self.now.limit self.now.history }
     {
         self.ledger.scene()
@@ -75,6 +77,13 @@ impl<'a> Kernel<'a> {
         ensures limit { result.now.limit ≡ self.now.limit }
     {
         self.ledger.history()
+    }
+
+    /// The units that the history has cost.
+    pub fn spent(&self) -> u32
+        ensures { result ≡ units self.now.scene self.now.history }
+    {
+        self.ledger.spent()
     }
 
     /// Gives the history up.
@@ -109,7 +118,7 @@ impl<'a> Kernel<'a> {
 
     /// Main's next registration: a Register or a Refuse. Nothing where none is left.
     pub fn register_next(&mut self) -> Stepped
-        ensures answer { result ≡ stepped (gated self.old (registration self.old.scene self.old.history)) }
+        ensures answer { result ≡ step_answers (gated self.old (registration self.old.scene self.old.history)) }
         ensures after { self.new ≡ core_after self.old (gated self.old (registration self.old.scene self.old.history)) }
     {
         let next = self.ledger.registration();
@@ -125,7 +134,7 @@ impl<'a> Kernel<'a> {
     /// The first of: the run stops since a turn asked for it, it stops since all cooperations are gone, the least cooperation
     /// with a reason leaves, the least that may leave has left, the run stops since nothing is left to do.
     pub fn tidy(&mut self) -> Stepped
-        ensures answer { result ≡ stepped (gated self.old (tidying self.old.scene self.old.history)) }
+        ensures answer { result ≡ step_answers (gated self.old (tidying self.old.scene self.old.history)) }
         ensures after { self.new ≡ core_after self.old (gated self.old (tidying self.old.scene self.old.history)) }
     {
         let next = self.ledger.tidying();
@@ -136,6 +145,14 @@ impl<'a> Kernel<'a> {
             }
             Err(why) => Stepped::refused(why),
         }
+    }
+
+    /// A lane before which no lane may take a demand, at most one past the last.
+    pub fn first_lane(&self) -> u32
+        ensures within { result ≤ lanes self.now.scene }
+        ensures none { (l : ℕ) → l < result → pick self.now.scene self.now.history (record { 0 = l }) ≡ None }
+    {
+        self.ledger.first_lane()
     }
 
     /// Takes the first demand that a free lane may take: its turn begins, or it is skipped.
@@ -159,7 +176,7 @@ impl<'a> Kernel<'a> {
     /// Carries out the effect of the turn's move. A turn that went has the answer in its frame.
     pub fn act(&mut self, turn: &mut Turn, effect: Effect) -> Acted
         requires moved { HasMoved self.old.scene self.old.history turn.old (Do effect) }
-        ensures answer { result ≡ acted (gated self.old (Some (act_entry self.old turn.old effect))) }
+        ensures answer { result ≡ act_answers (gated self.old (Some (act_entry self.old turn.old effect))) }
         ensures after { self.new ≡ core_after self.old (gated self.old (Some (act_entry self.old turn.old effect))) }
         ensures turn { turn.new ≡ turn_after self.old (gated self.old (Some (act_entry self.old turn.old effect))) turn.old effect }
         ensures held { result ≡ Acted.Went → IsHeld self.new.scene self.new.history turn.new }
@@ -193,12 +210,12 @@ impl<'a> Kernel<'a> {
     }
 
     /// Ends a turn whose code is over.
-    pub fn end(&mut self, turn: Turn) -> Ended
-        requires moved { HasMoved self.old.scene self.old.history turn Done }
-        ensures answer { result ≡ ended (gated self.old (Some (end_entry turn))) turn }
-        ensures after { self.new ≡ core_after self.old (gated self.old (Some (end_entry turn))) }
+    pub fn end(&mut self, turn: &Turn) -> Ended
+        requires moved { HasMoved self.old.scene self.old.history turn.now Done }
+        ensures answer { result ≡ end_answers (gated self.old (Some (end_entry turn.now))) }
+        ensures after { self.new ≡ core_after self.old (gated self.old (Some (end_entry turn.now))) }
     {
-        let found = found_turn(self.ledger.scene(), &turn);
+        let found = found_turn(self.ledger.scene(), turn);
         let entry = Entry {
             by: turn.by,
             kind: EntryKind::End { turn: turn.begun },
@@ -208,16 +225,16 @@ impl<'a> Kernel<'a> {
                 self.ledger.add(entry, Found::Turn(found), &self.outcomes);
                 Ended::Done
             }
-            Err(Refused::Over) => Ended::Over(turn),
-            Err(_) => Ended::Full(turn),
+            Err(Barred::Over) => Ended::Over,
+            Err(_) => Ended::Full,
         }
     }
 
     /// Fails a turn by its exception. Every agent's reaction is to abort, so far.
-    pub fn fail(&mut self, turn: Turn, kind: FailKind) -> Ended
-        requires moved { HasMoved self.old.scene self.old.history turn (Fail kind) }
-        ensures answer { result ≡ failed (gated self.old (Some (fail_entry turn kind))) turn }
-        ensures after { self.new ≡ core_after self.old (gated self.old (Some (fail_entry turn kind))) }
+    pub fn fail(&mut self, turn: &Turn, kind: FailKind) -> Ended
+        requires moved { HasMoved self.old.scene self.old.history turn.now (Fail kind) }
+        ensures answer { result ≡ fail_answers (gated self.old (Some (fail_entry turn.now kind))) }
+        ensures after { self.new ≡ core_after self.old (gated self.old (Some (fail_entry turn.now kind))) }
     {
         let entry = Entry {
             by: turn.by,
@@ -230,8 +247,8 @@ impl<'a> Kernel<'a> {
                 self.ledger.add(entry, Found::Nothing, &self.outcomes);
                 Ended::Aborted
             }
-            Err(Refused::Over) => Ended::Over(turn),
-            Err(_) => Ended::Full(turn),
+            Err(Barred::Over) => Ended::Over,
+            Err(_) => Ended::Full,
         }
     }
 }

@@ -11,10 +11,10 @@ use Rattle.so_tables.specs.Found.{IsFound}
 use Rattle.so_tables.specs.AfterEvents.{IsSent}
 use Rattle.so_tables.specs.AfterEntry.{after_entry, MayAbsorb}
 use Rattle.so_tables.proofs.Joined.{tables-absorbed, tables-may}
-use Rattle.so_ledger.specs.Kept.{IsKept, IsReady}
+use Rattle.so_ledger.specs.Kept.{IsKept, MayAdd}
 use Rattle.so_ledger.proofs.KeptLaws.{demands-units, has_place, kept_after}
 
-module _ {s : SceneParts} {limit : ℕ} {h : List Entry} {t : Tables} {full : Bool} (e : Entry) (found : Found) (sent : List Queued) (kept : IsKept s limit h t full) (ready : IsReady (record { scene = s; limit = limit; history = h; full = full }) e) (its : IsFound s h e.kind found) (is_sent : IsSent s h e.kind sent) where
+module _ {s : SceneParts} {limit : ℕ} {h : List Entry} {t : Tables} {full : Bool} (e : Entry) (found : Found) (sent : List Queued) (kept : IsKept s limit h t full) (ready : MayAdd (record { scene = s; limit = limit; history = h; full = full }) e) (its : IsFound s h e.kind found) (is_sent : IsSent s h e.kind sent) where
   within : units s h + cost s h e ≤ limit
   within = leb-true _ _ ready.fits
 

@@ -40,7 +40,7 @@ use Rattle.so_history.specs.Delivery.{registered, active_rows, active_filters, p
 use Rattle.so_history.specs.Demands.{ask, asked_by_effect}
 use Rattle.so_history.specs.Leaves.{switch_of}
 use Rattle.so_history.specs.Order.{pick, opening_of, skipped, taking_as, taking}
-use Rattle.so_history.specs.Steps.{NamesEffect, IsSigner, IsTaking, IsRow, Legal, answer_of, answer_to_register, answer_to_switch, choice_for, yes_where, may_subscribe, is_active}
+use Rattle.so_history.specs.Steps.{NamesEffect, IsSigner, IsTaking, MayFollow, Legal, answer_of, answer_to_register, answer_to_switch, choice_for, yes_where, may_subscribe, is_active}
 use Rattle.so_history.specs.Turns.{move_of}
 use Rattle.so_history.specs.Units.{cost}
 use Rattle.so_history.proofs.DemandLaws.{length-asked, registered_of}
@@ -54,11 +54,11 @@ use Rattle.so_ledger.specs.Gates.{NamesCoop, queued_by_act}
 
 -- ---- what is taken
 
-row_as : (s : SceneParts) (h : List Entry) (by : PartyId) (lane : LaneId) (d : Demand) (w : Option SkipWhy) → skipped (opening_of s h d) ≡ w → IsTaking s h by lane (taking_as lane d (opening_of s h d) w) → IsRow s h by (taking_as lane d (opening_of s h d) w)
+row_as : (s : SceneParts) (h : List Entry) (by : PartyId) (lane : LaneId) (d : Demand) (w : Option SkipWhy) → skipped (opening_of s h d) ≡ w → IsTaking s h by lane (taking_as lane d (opening_of s h d) w) → MayFollow s h by (taking_as lane d (opening_of s h d) w)
 row_as s h by lane d None is row = row
 row_as s h by lane d (Some why) is row = row
 
-pub taking_row : (s : SceneParts) (h : List Entry) (by : PartyId) (lane : LaneId) (d : Demand) → IsSigner by lane → lane.0 < lanes s → pick s h lane ≡ Some d → IsRow s h by (taking s h lane d)
+pub taking_row : (s : SceneParts) (h : List Entry) (by : PartyId) (lane : LaneId) (d : Demand) → IsSigner by lane → lane.0 < lanes s → pick s h lane ≡ Some d → MayFollow s h by (taking s h lane d)
 taking_row s h by lane d signed in_range picked =
     row_as s h by lane d (skipped (opening_of s h d)) refl (record { signed = signed; in_range = in_range; demand = d; picked = picked; is = refl })
 
@@ -138,7 +138,7 @@ is_queued s h a event effect.Stop said scene legal named e = none_queued s h eff
 is_queued s h a event other said scene legal named e = absurd named
 
 -- of an entry
-module _ (s : SceneParts) (h : List Entry) (by : PartyId) (turn : Place) (x : Effect) (said : Answer) (scene : IsScene s) (legal : Legal s h) (row : IsRow s h by (Act turn x said)) where
+module _ (s : SceneParts) (h : List Entry) (by : PartyId) (turn : Place) (x : Effect) (said : Answer) (scene : IsScene s) (legal : Legal s h) (row : MayFollow s h by (Act turn x said)) where
   act_named : NamesEffect s row.reached.agent row.reached.event x
   act_named =
       let so = acts_so s h row.reached.agent row.reached.event turn.0 (move_of s row.reached).0 turn x said row.is in
@@ -153,13 +153,13 @@ its_coop : (s : SceneParts) (a : AgentId) (event : Option EventSource) (x : Effe
 its_coop s a event (effect.Register coop) named = named
 its_coop s a event other named = tt
 
-pub act_coop : (s : SceneParts) (h : List Entry) (e : Entry) (turn : Place) (x : Effect) (said : Answer) → IsScene s → Legal s h → IsRow s h e.by e.kind → e.kind ≡ Act turn x said → NamesCoop s x
+pub act_coop : (s : SceneParts) (h : List Entry) (e : Entry) (turn : Place) (x : Effect) (said : Answer) → IsScene s → Legal s h → MayFollow s h e.by e.kind → e.kind ≡ Act turn x said → NamesCoop s x
 act_coop s h e turn x said scene legal row is =
-    let move : IsRow s h e.by (Act turn x said) = subst (IsRow s h e.by) is row in
+    let move : MayFollow s h e.by (Act turn x said) = subst (MayFollow s h e.by) is row in
     its_coop s move.reached.agent move.reached.event x (act_named s h e.by turn x said scene legal move)
 
 -- an act costs what its answer tells
-pub cost_told : (s : SceneParts) (h : List Entry) (e : Entry) (turn : Place) (x : Effect) (said : Answer) → IsScene s → Legal s h → IsRow s h e.by e.kind → e.kind ≡ Act turn x said → (cost s h e ≡ 1 + queued_by_act s x said) × (queued_by_act s x said ≤ 4096)
+pub cost_told : (s : SceneParts) (h : List Entry) (e : Entry) (turn : Place) (x : Effect) (said : Answer) → IsScene s → Legal s h → MayFollow s h e.by e.kind → e.kind ≡ Act turn x said → (cost s h e ≡ 1 + queued_by_act s x said) × (queued_by_act s x said ≤ 4096)
 cost_told s h e turn x said scene legal row is =
-    let it = act_queued s h e.by turn x said scene legal (subst (IsRow s h e.by) is row) in
+    let it = act_queued s h e.by turn x said scene legal (subst (MayFollow s h e.by) is row) in
     (rw is (ap (λ n. 1 + n) (length-demands_from (length h) 0 (asked_by_effect s h x said) ∙ it.count)), it.few)

@@ -14,7 +14,7 @@ use Rattle.so_coop.specs.Coops.{answer_to}
 use Rattle.so_history.specs.declared.entry.Entry.{Entry}
 use Rattle.so_history.specs.declared.entry.EntryKind.TheVariants.{Refuse}
 use Rattle.so_history.specs.Coops.{next_coop, standing}
-use Rattle.so_history.specs.Steps.{answer_to_register, left_at, left_next, may_leave, IsRow}
+use Rattle.so_history.specs.Steps.{answer_to_register, left_at, left_next, may_leave, MayFollow}
 use Rattle.so_history.specs.Chain.{registering, registration_of, registration, leaving_for, leaving_entry, left_for, left_entry}
 
 -- ---- registration
@@ -27,11 +27,11 @@ pub registration_over : (s : SceneParts) (h : List Entry) → next_coop s h ≡ 
 unfolding registration
 registration_over s h is = ap (option_map (registration_of s h)) is
 
-registering_as : (s : SceneParts) (h : List Entry) (c : CoopId) (o : Option Refusal) → next_coop s h ≡ Some c → admission s (standing h) c ≡ o → IsRow s h main_party (registering c o)
+registering_as : (s : SceneParts) (h : List Entry) (c : CoopId) (o : Option Refusal) → next_coop s h ≡ Some c → admission s (standing h) c ≡ o → MayFollow s h main_party (registering c o)
 registering_as s h c None next is = record { signed = refl; next = next; admitted = is }
 registering_as s h c (Some cause) next is = record { signed = refl; next = next; admitted = is }
 
-pub registering_row : (s : SceneParts) (h : List Entry) (c : CoopId) → next_coop s h ≡ Some c → IsRow s h main_party (registering c (admission s (standing h) c))
+pub registering_row : (s : SceneParts) (h : List Entry) (c : CoopId) → next_coop s h ≡ Some c → MayFollow s h main_party (registering c (admission s (standing h) c))
 registering_row s h c next = registering_as s h c (admission s (standing h) c) next refl
 
 -- what is refused by the table is refused
@@ -56,7 +56,7 @@ answered_as (Some why) r cause said is = ap (λ x. Refused (why_in cause x)) (sy
 
 module _ (s : SceneParts) (h : List Entry) where
   abbrev Row : Entry → Type 0
-  Row e = IsRow s h e.by e.kind
+  Row e = MayFollow s h e.by e.kind
 
   -- a cooperation with a reason
   reason_case : (c : CoopId) (o : Option Reason) (why : CoopId × Reason) → reason_of s (standing h) c ≡ o → option_map (with_reason c) o ≡ Some why → reason_of s (standing h) why.0 ≡ Some why.1

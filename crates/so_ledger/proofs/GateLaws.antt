@@ -8,10 +8,10 @@ use Rattle.so_history.specs.Coops.{aborted}
 use Rattle.so_history.specs.Steps.{finished, is_over}
 use Rattle.so_history.specs.declared.entry.Pick.{Pick}
 use Rattle.so_history.specs.Chain.{pick_entry, step_of, first_entry, fitting, first, next_entry}
-use Rattle.so_history.proofs.ChainLaws.{first-over}
+use Rattle.so_history_laws.proofs.ChainLaws.{first-over}
 use Rattle.so_history.proofs.DemandLaws.{waiting-units}
-use Rattle.so_ledger.specs.declared.gate.Refused.{Refused}
-use Rattle.so_ledger.specs.declared.gate.Refused.TheVariants.{Nothing, Full, Over}
+use Rattle.so_ledger.specs.declared.gate.Barred.{Barred}
+use Rattle.so_ledger.specs.declared.gate.Barred.TheVariants.{Nothing, Full, Over}
 use Rattle.so_ledger.specs.Shapes.{Core}
 use Rattle.so_ledger.specs.Gates.{gated, gated_entry}
 
@@ -103,7 +103,7 @@ chain_fits : (x e : Entry) (b : Bool) → cond b (Ok x) (Err Full) ≡ Ok e → 
 chain_fits x e true h = cc
 chain_fits x e false h = cc
 
-stops_fits : (x : Entry) (why : Refused) (b : Bool) → cond b (Ok x) (Err Full) ≡ Err why → cond b (Some x) None ≡ None
+stops_fits : (x : Entry) (why : Barred) (b : Bool) → cond b (Ok x) (Err Full) ≡ Err why → cond b (Some x) None ≡ None
 stops_fits x why true h = cc
 stops_fits x why false h = refl
 
@@ -112,7 +112,7 @@ chain_cond k a true e h = cc
 chain_cond k None false e h = cc
 chain_cond k (Some x) false e h = chain_fits x e (fits k.scene k.limit k.history x) h
 
-stops_cond : (k : Core) (a : Option Entry) (over : Bool) (why : Refused) → (over ≡ true → a ≡ None) → cond over (Err Over) (gated_entry k a) ≡ Err why → fitting k.scene k.limit k.history a ≡ None
+stops_cond : (k : Core) (a : Option Entry) (over : Bool) (why : Barred) → (over ≡ true → a ≡ None) → cond over (Err Over) (gated_entry k a) ≡ Err why → fitting k.scene k.limit k.history a ≡ None
 stops_cond k a true why none h = ap (fitting k.scene k.limit k.history) (none refl)
 stops_cond k None false why none h = refl
 stops_cond k (Some x) false why none h = stops_fits x why (fits k.scene k.limit k.history x) h
@@ -125,7 +125,7 @@ pub goes_on : (k : Core) (e : Entry) → k.full ≡ false → gated k (first k.s
 unfolding next_entry
 goes_on k e f h = chain_cond k (first k.scene k.history) (is_over k.scene k.history) e (sym (unmarked_gate k (first k.scene k.history) f) ∙ h)
 
-pub stops : (k : Core) (why : Refused) → k.full ≡ false → gated k (first k.scene k.history) ≡ Err why → next_entry k.scene k.limit k.history ≡ None
+pub stops : (k : Core) (why : Barred) → k.full ≡ false → gated k (first k.scene k.history) ≡ Err why → next_entry k.scene k.limit k.history ≡ None
 unfolding next_entry
 stops k why f h = stops_cond k (first k.scene k.history) (is_over k.scene k.history) why (first-over k.scene k.history) (sym (unmarked_gate k (first k.scene k.history) f) ∙ h)
 

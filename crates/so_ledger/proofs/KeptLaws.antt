@@ -10,10 +10,10 @@ use Rattle.so_history.specs.Demands.{demands, queued_by}
 use Rattle.so_history.proofs.DemandLaws.{waiting-units}
 use Rattle.so_tables.specs.declared.tables.Tables.{Tables}
 use Rattle.so_tables.specs.Tables.{tables_of}
-use Rattle.so_ledger.specs.Kept.{IsKept, IsReady}
+use Rattle.so_ledger.specs.Kept.{IsKept, MayAdd}
 
 pub kept_after : {s : SceneParts} {limit : ℕ} {h : List Entry} {t : Tables} {full : Bool} (e : Entry) (u : Tables) → IsKept s limit h t full →
-    IsReady (record { scene = s; limit = limit; history = h; full = full }) e → u ≡ tables_of s limit (e ∷ h) → IsKept s limit (e ∷ h) u full
+    MayAdd (record { scene = s; limit = limit; history = h; full = full }) e → u ≡ tables_of s limit (e ∷ h) → IsKept s limit (e ∷ h) u full
 unfolding units
 kept_after e u kept ready tables =
     record {
@@ -25,7 +25,7 @@ kept_after e u kept ready tables =
       full = λ f. absurd (false≢true (sym ready.unmarked ∙ f));
     }
 
-pub next_legal : {s : SceneParts} {limit : ℕ} {h : List Entry} {t : Tables} {full : Bool} (e : Entry) → IsKept s limit h t full → IsReady (record { scene = s; limit = limit; history = h; full = full }) e → Legal s (e ∷ h)
+pub next_legal : {s : SceneParts} {limit : ℕ} {h : List Entry} {t : Tables} {full : Bool} (e : Entry) → IsKept s limit h t full → MayAdd (record { scene = s; limit = limit; history = h; full = full }) e → Legal s (e ∷ h)
 next_legal e kept ready = (kept.legal, ready.step)
 
 -- the demands and the entries cost just what all cost
@@ -35,7 +35,7 @@ demands-units s [] = refl
 demands-units s (e ∷ h) = omega (arith, demands-units s h, length-append (demands s h) (queued_by s h e.kind))
 
 pub has_place : {s : SceneParts} {limit : ℕ} {h : List Entry} {t : Tables} {full : Bool} (e : Entry) → IsKept s limit h t full →
-    IsReady (record { scene = s; limit = limit; history = h; full = full }) e → length h < limit
+    MayAdd (record { scene = s; limit = limit; history = h; full = full }) e → length h < limit
 has_place {s} {limit} {h} e kept ready =
     let within : units s h + cost s h e ≤ limit = leb-true _ _ ready.fits in
     omega (arith, waiting-units s h)

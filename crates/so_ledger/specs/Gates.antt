@@ -14,20 +14,20 @@ use Rattle.so_history.specs.Units.{fits}
 use Rattle.so_history.specs.Order.{pick, taking}
 use Rattle.so_history.specs.Steps.{is_over}
 use Rattle.so_ledger.specs.Shapes.{Core}
-use Rattle.so_ledger.specs.declared.gate.Refused.{Refused}
-use Rattle.so_ledger.specs.declared.gate.Refused.TheVariants.{Nothing, Full, Over}
+use Rattle.so_ledger.specs.declared.gate.Barred.{Barred}
+use Rattle.so_ledger.specs.declared.gate.Barred.TheVariants.{Nothing, Full, Over}
 
 -- the entry that may be added, where the step would add this one, or why none may
-abbrev pub gated_entry : Core → Option Entry → Result Entry Refused
+abbrev pub gated_entry : Core → Option Entry → Result Entry Barred
 gated_entry k None = Err Nothing
 gated_entry k (Some e) = if fits k.scene k.limit k.history e then Ok e else Err Full
 
 -- in the order of the answers: the run is over, an earlier step didn't fit, there is no step, this one doesn't fit
-unfoldable pub gated : Core → Option Entry → Result Entry Refused
+unfoldable pub gated : Core → Option Entry → Result Entry Barred
 gated k next = if is_over k.scene k.history then Err Over else (if k.full then Err Full else gated_entry k next)
 
 -- the ledger after that
-abbrev pub core_after : Core → Result Entry Refused → Core
+abbrev pub core_after : Core → Result Entry Barred → Core
 core_after k (Ok e) = record k { history = e ∷ k.history }
 core_after k (Err Full) = record k { full = true }
 core_after k (Err Nothing) = k

@@ -1,5 +1,6 @@
 -- What the ledger keeps.
 use Rattle.std.specs.Prelude.{◌≡◌, ℕ, ◌≤◌, List, Bool, true, false}
+use Rattle.so_ids.specs.Limits.{most_units}
 use Rattle.so_scene.specs.declared.parts.SceneParts.{SceneParts}
 use Rattle.so_scene.specs.Checked.{IsScene}
 use Rattle.so_history.specs.declared.entry.Entry.{Entry}
@@ -16,7 +17,7 @@ pub record HasTooLarge (s : SceneParts) (limit : ℕ) (h : List Entry) : Type 0 
   pub too_large : fits s limit h entry ≡ false
 
 -- an entry may be added: it is a legal step that fits, and the mark of Full does not stand
-pub record IsReady (k : Core) (e : Entry) : Type 0 where
+pub record MayAdd (k : Core) (e : Entry) : Type 0 where
   pub step : IsStep k.scene k.history e
   pub fits : fits k.scene k.limit k.history e ≡ true
   pub unmarked : k.full ≡ false
@@ -25,7 +26,7 @@ pub record IsReady (k : Core) (e : Entry) : Type 0 where
 -- and the mark of Full stands only where a legal step doesn't fit
 pub record IsKept (s : SceneParts) (limit : ℕ) (h : List Entry) (t : Tables) (mark : Bool) : Type 0 where
   pub scene : IsScene s
-  pub few : limit ≤ 1000000
+  pub few : limit ≤ most_units
   pub legal : Legal s h
   pub within : units s h ≤ limit
   pub tables : t ≡ tables_of s limit h

@@ -7,7 +7,7 @@ ghost use Rattle.so_history.specs.Coops.{roster, next_coop, all_tried, standing}
 ghost use Rattle.so_history.specs.Demands.{waiting};
 ghost use Rattle.so_history.specs.Turns.{running};
 ghost use Rattle.so_history.specs.Units.{cost};
-ghost use Rattle.so_history.specs.Steps.{left_next, finished, is_over, is_auto, is_idle, may_stop, IsRow};
+ghost use Rattle.so_history.specs.Steps.{left_next, finished, is_over, is_auto, is_idle, may_stop, MayFollow};
 ghost use Rattle.so_history.specs.Chain.{by_main, registering, registration, stop_entry, leaving_entry, left_entry, tidying};
 ghost use Rattle.so_coop.specs.Coops.{answer_to};
 ghost use Rattle.so_ledger.specs.Gates.{queued_by_act, NamesCoop};
@@ -22,7 +22,7 @@ impl<'a> Ledger<'a> {
     #[tactic(auto, unfolding(so_history::specs::Chain::registration))]
     pub fn registration(&self) -> Option<Entry>
         ensures value { result ≡ registration self.now.scene self.now.history }
-        ensures row { IfSome result (λ e. IsRow self.now.scene self.now.history e.by e.kind) }
+        ensures row { IfSome result (λ e. MayFollow self.now.scene self.now.history e.by e.kind) }
     {
         match self.next_coop() {
             Some(coop) => Some(by_main(self.registering(coop))),
@@ -53,14 +53,16 @@ impl<'a> Ledger<'a> {
         requires { coop.0 < length self.now.scene.coops }
         ensures { result ≡ answer_to (admission self.now.scene (standing self.now.history) coop) }
     {
-        self.tables.coops.admit(coop, self.tables.marks.stopped)
+        self.tables
+            .coops
+            .admit(coop, self.tables.milestones.stopped)
     }
 
     /// Tells whether nothing follows.
     pub(crate) fn is_over(&self) -> bool
         ensures { result ≡ is_over self.now.scene self.now.history }
     {
-        self.is_finished() || self.tables.marks.aborted
+        self.is_finished() || self.tables.milestones.aborted
     }
 
     /// Tells whether the run is finished.
@@ -68,7 +70,7 @@ impl<'a> Ledger<'a> {
     pub fn is_finished(&self) -> bool
         ensures { result ≡ finished self.now.scene self.now.history }
     {
-        self.tables.marks.stopped && self.none_present() && self.none_waits()
+        self.tables.milestones.stopped && self.none_present() && self.none_waits()
     }
 
     /// Tells whether no cooperation is registered.
@@ -80,7 +82,7 @@ impl<'a> Ledger<'a> {
 
     /// What an entry costs.
     pub(crate) fn cost(&self, entry: Entry) -> u32
-        requires { IsRow self.now.scene self.now.history entry.by entry.kind }
+        requires { MayFollow self.now.scene self.now.history entry.by entry.kind }
         ensures value { result ≡ cost self.now.scene self.now.history entry }
         ensures few { result ≤ 4097 }
     {
@@ -115,7 +117,7 @@ impl<'a> Ledger<'a> {
     #[tactic(auto, unfolding(so_history::specs::Chain::tidying))]
     pub fn tidying(&self) -> Option<Entry>
         ensures value { result ≡ tidying self.now.scene self.now.history }
-        ensures row { IfSome result (λ e. IsRow self.now.scene self.now.history e.by e.kind) }
+        ensures row { IfSome result (λ e. MayFollow self.now.scene self.now.history e.by e.kind) }
     {
         if let Some(entry) = self.stop_entry(StopCause::Asked) {
             return Some(entry);
@@ -147,12 +149,12 @@ impl<'a> Ledger<'a> {
     fn may_stop(&self, cause: StopCause) -> bool
         ensures { result ≡ may_stop self.now.scene self.now.history cause }
     {
-        let marks = self.tables.marks;
+        let milestones = self.tables.milestones;
         match cause {
-            StopCause::Asked => !marks.stopped && marks.asked,
-            StopCause::Auto => !marks.stopped && !marks.asked && self.is_auto(),
+            StopCause::Asked => !milestones.stopped && milestones.asked,
+            StopCause::Auto => !milestones.stopped && !milestones.asked && self.is_auto(),
             StopCause::Idle => {
-                !marks.stopped && !marks.asked && !self.is_auto() && self.is_idle()
+                !milestones.stopped && !milestones.asked && !self.is_auto() && self.is_idle()
             }
         }
     }
@@ -181,7 +183,9 @@ impl<'a> Ledger<'a> {
     fn leaving_next(&self) -> Option<(CoopId, Reason)>
         ensures { result ≡ leaving_next self.now.scene (standing self.now.history) }
     {
-        self.tables.coops.leaving_next(self.tables.marks.stopped)
+        self.tables
+            .coops
+            .leaving_next(self.tables.milestones.stopped)
     }
 
     /// The least cooperation that may leave for good.
@@ -198,7 +202,7 @@ impl<'a> Ledger<'a> {
     {
         self.scene.autoshutdown()
             && self.all_tried()
-            && self.tables.marks.left
+            && self.tables.milestones.left
             && self.none_present()
     }
 

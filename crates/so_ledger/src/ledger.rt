@@ -1,6 +1,7 @@
 //! The ledger, what it keeps, and what is read of it as it stands.
 
 ghost use Rattle.std.specs.Prelude.{◌≡◌, ◌≤◌, [], true, false, IfOk};
+ghost use Rattle.so_ids.specs.Limits.{most_units};
 ghost use Rattle.so_scene.specs.Checked.{IsScene};
 ghost use Rattle.so_history.specs.Units.{units};
 ghost use Rattle.so_history.specs.Steps.{Legal};
@@ -40,7 +41,7 @@ impl<'a> Model for Ledger<'a> {
 impl<'a> Ledger<'a> {
     /// An empty history, which may spend so many units, with its tables. Nothing after it takes memory.
     pub fn make(alloc: Global, scene: &'a Scene, units: u32) -> Result<Ledger<'a>, NoMemory>
-        requires { units ≤ 1000000 }
+        requires { units ≤ most_units }
         ensures { IfOk result (λ k. k ≡ record { scene = scene.now; limit = units; history = []; full = false }) }
     {
         let _parts = scene.parts();
@@ -60,7 +61,7 @@ impl<'a> Ledger<'a> {
         ensures scene { IsScene self.now.scene }
         ensures legal { Legal self.now.scene self.now.history }
         ensures within { units self.now.scene self.now.history ≤ self.now.limit }
-        ensures few { self.now.limit ≤ 1000000 }
+        ensures few { self.now.limit ≤ most_units }
         ensures full { self.now.full ≡ true → HasTooLarge self.now.scene self.now.limit self.now.history }
     {
         self.scene
@@ -72,6 +73,13 @@ impl<'a> Ledger<'a> {
         ensures limit { result.now.limit ≡ self.now.limit }
     {
         &self.history
+    }
+
+    /// The units that the history has cost.
+    pub fn spent(&self) -> u32
+        ensures { result ≡ units self.now.scene self.now.history }
+    {
+        self.tables.units
     }
 
     /// Gives the history up.
@@ -101,6 +109,6 @@ impl<'a> Ledger<'a> {
     pub fn is_aborted(&self) -> bool
         ensures { result ≡ aborted self.now.history }
     {
-        self.tables.marks.aborted
+        self.tables.milestones.aborted
     }
 }

@@ -12,5 +12,5 @@ mod gate;
 mod ledger;
 mod takes;
 
-pub use gate::Refused;
+pub use gate::Barred;
 pub use ledger::Ledger;

@@ -1,12 +1,12 @@
 //! What a lane takes, read off the tables: which demand, and how its turn begins.
 
-ghost use Rattle.std.specs.Prelude.{◌≡◌, ◌<◌, IfSome, length};
-ghost use Rattle.so_code.specs.Openings.{begun};
+ghost use Rattle.std.specs.Prelude.{◌≡◌, ℕ, ◌<◌, ◌≤◌, None, IfSome, length};
+ghost use Rattle.so_code.specs.Openings.{first_frame};
 ghost use Rattle.so_scene.specs.Lanes.{lanes};
 ghost use Rattle.so_history.specs.Delivery.{chosen_for};
 ghost use Rattle.so_history.specs.Demands.{payload_of};
 ghost use Rattle.so_history.specs.Order.{pick, opening_of, skipped, taking};
-ghost use Rattle.so_history.specs.Steps.{IsRow, IsSigner};
+ghost use Rattle.so_history.specs.Steps.{MayFollow, IsSigner};
 ghost use Rattle.so_history.specs.Turns.{vars};
 ghost use Rattle.so_ledger.specs.Classes.{found_demand};
 ghost use Rattle.so_ledger.specs.Gates.{begin_by};
@@ -32,13 +32,22 @@ impl<'a> Ledger<'a> {
         }
     }
 
+    /// A lane before which no lane may take a demand, at most one past the last.
+    #[tactic(auto, unfolding(so_history::specs::Order::pick))]
+    pub fn first_lane(&self) -> u32
+        ensures within { result ≤ lanes self.now.scene }
+        ensures none { (l : ℕ) → l < result → pick self.now.scene self.now.history (record { 0 = l }) ≡ None }
+    {
+        self.tables.events.first_lane()
+    }
+
     /// The entry that takes the demand that was picked, if there is one.
     pub fn taking(&self, by: PartyId, lane: LaneId, picked: Option<Demand>) -> Option<Entry>
         requires lane { lane.0 < lanes self.now.scene }
         requires signer { IsSigner by lane }
         requires picked { picked ≡ pick self.now.scene self.now.history lane }
         ensures value { result ≡ begin_by self.now by lane }
-        ensures row { IfSome result (λ e. IsRow self.now.scene self.now.history e.by e.kind) }
+        ensures row { IfSome result (λ e. MayFollow self.now.scene self.now.history e.by e.kind) }
     {
         let _scene = self.scene();
         match picked {
@@ -113,7 +122,7 @@ impl<'a> Ledger<'a> {
     /// The frame of a turn that begins with a demand.
     pub fn begin_frame(&self, demand: Demand) -> Frame
         requires { demand.agent.0 < length self.now.scene.agents }
-        ensures { result ≡ begun (opening_of self.now.scene self.now.history demand) (vars self.now.scene self.now.history demand.agent) (payload_of demand.kind) }
+        ensures { result ≡ first_frame (opening_of self.now.scene self.now.history demand) (vars self.now.scene self.now.history demand.agent) (payload_of demand.kind) }
     {
         let _scene = self.scene();
         let vars = self.tables.variables.of(demand.agent);

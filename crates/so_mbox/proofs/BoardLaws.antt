@@ -22,7 +22,7 @@ use Rattle.so_scene.specs.declared.parts.SceneParts.{SceneParts}
 use Rattle.so_scene.specs.Checked.{IsScene, IsRow}
 use Rattle.so_scene.specs.Parts.{agents_from, mboxes, rows_of, agent_of, no_agent}
 use Rattle.so_mbox.specs.Table.{same_agent, has_row}
-use Rattle.so_mbox.specs.Boards.{Listing, none_listed, with_agents, with_room, is_of, IsAbsent, looked_up, agents_in, room_in, listed, room_of, StandsAt, is_type, listed_at, AreWithin, once, agents_below, holders, is_it, is_last, noted}
+use Rattle.so_mbox.specs.Boards.{Listing, none_listed, with_agents, with_room, is_of, IsAbsent, looked_up, agents_in, room_in, listed, room_of, IsListedAt, is_type, listed_at, AreWithin, once, agents_below, holders, is_it, is_last, noted}
 
 -- ---- one board
 
@@ -49,27 +49,27 @@ pub none_found : {X : Type 0} (f : Listing → X) (d : X) (msg : MsgId) (xs : Li
 none_found f d msg [] a = refl
 none_found f d msg (x ∷ xs) a = rw (a.0) (none_found f d msg xs a.1)
 
-pub stands_last : (msg : MsgId) (xs : List Listing) (y : Listing) → IsAbsent msg xs → is_of msg y ≡ true → StandsAt msg (xs ++ y ∷ []) (length xs)
+pub stands_last : (msg : MsgId) (xs : List Listing) (y : Listing) → IsAbsent msg xs → is_of msg y ≡ true → IsListedAt msg (xs ++ y ∷ []) (length xs)
 stands_last msg [] y a e = e
 stands_last msg (x ∷ xs) y a e = (a.0, stands_last msg xs y a.1 e)
 
-stands_by : (msg : MsgId) (xs : List Listing) (k : ℕ) → k < length xs → ((d : Listing) → is_of msg (get_or xs k d) ≡ true) → ((d : Listing) (j : ℕ) → j < k → is_of msg (get_or xs j d) ≡ false) → StandsAt msg xs k
+stands_by : (msg : MsgId) (xs : List Listing) (k : ℕ) → k < length xs → ((d : Listing) → is_of msg (get_or xs k d) ≡ true) → ((d : Listing) (j : ℕ) → j < k → is_of msg (get_or xs j d) ≡ false) → IsListedAt msg xs k
 stands_by msg [] k l here before = absurd (omega (arith, l))
 stands_by msg (x ∷ xs) zero l here before = here x
 stands_by msg (x ∷ xs) (suc k) l here before = (before x 0 (omega arith), stands_by msg xs k (omega (arith, l)) here (λ d j m. before d (suc j) (omega (arith, m))))
 
-pub stands_at : (msg : MsgId) (xs : List Listing) (k : ℕ) → position (is_of msg) xs ≡ Some k → StandsAt msg xs k
+pub stands_at : (msg : MsgId) (xs : List Listing) (k : ℕ) → position (is_of msg) xs ≡ Some k → IsListedAt msg xs k
 stands_at msg xs k e =
     stands_by msg xs k (position-Some (is_of msg) xs k (none_listed msg) e).0
     (λ d. (position-Some (is_of msg) xs k d e).1)
     (λ d j l. (position-Some (is_of msg) xs k d e).2 j l)
 
-pub stands_within : (msg : MsgId) (xs : List Listing) (k : ℕ) → StandsAt msg xs k → k < length xs
+pub stands_within : (msg : MsgId) (xs : List Listing) (k : ℕ) → IsListedAt msg xs k → k < length xs
 stands_within msg [] k s = elim s [ ]
 stands_within msg (x ∷ xs) zero s = omega arith
 stands_within msg (x ∷ xs) (suc k) s = let w = stands_within msg xs k s.1 in omega (arith, w)
 
-pub found_there : {X : Type 0} (f : Listing → X) (d : X) (msg : MsgId) (xs : List Listing) (k : ℕ) (e : Listing) → StandsAt msg xs k → looked_up f d xs msg ≡ f (get_or xs k e)
+pub found_there : {X : Type 0} (f : Listing → X) (d : X) (msg : MsgId) (xs : List Listing) (k : ℕ) (e : Listing) → IsListedAt msg xs k → looked_up f d xs msg ≡ f (get_or xs k e)
 found_there f d msg [] k e s = elim s [ ]
 found_there f d msg (x ∷ xs) zero e s = rw s refl
 found_there f d msg (x ∷ xs) (suc k) e s = rw (s.0) (found_there f d msg xs k e s.1)
@@ -86,7 +86,7 @@ other_type : (n k m : ℕ) → eqb n k ≡ false → eqb k m ≡ true → eqb n 
 other_type n k m e f = let s : k ≡ m = eqb-true k m f in rw (← s) e
 
 -- the listing there, of the same type, is another
-pub found_put : {X : Type 0} (f : Listing → X) (d : X) (msg m : MsgId) (xs : List Listing) (k : ℕ) (y : Listing) → y.msg ≡ msg → StandsAt msg xs k →
+pub found_put : {X : Type 0} (f : Listing → X) (d : X) (msg m : MsgId) (xs : List Listing) (k : ℕ) (y : Listing) → y.msg ≡ msg → IsListedAt msg xs k →
     looked_up f d (slice_set xs k y) m ≡ cond (is_type msg m) (f y) (looked_up f d xs m)
 found_put f d msg m [] k y e s = elim s [ ]
 found_put f d msg m (x ∷ xs) zero y e s =
@@ -103,11 +103,11 @@ same_case g msg m true e = let s : msg.0 ≡ m.0 = eqb-true msg.0 m.0 e in ap (�
 same_case g msg m false e = refl
 
 -- and has the same there
-pub found_same : {X : Type 0} (f : Listing → X) (d : X) (msg m : MsgId) (xs : List Listing) (k : ℕ) (y : Listing) → y.msg ≡ msg → f y ≡ looked_up f d xs msg → StandsAt msg xs k →
+pub found_same : {X : Type 0} (f : Listing → X) (d : X) (msg m : MsgId) (xs : List Listing) (k : ℕ) (y : Listing) → y.msg ≡ msg → f y ≡ looked_up f d xs msg → IsListedAt msg xs k →
     looked_up f d (slice_set xs k y) m ≡ looked_up f d xs m
 found_same f d msg m xs k y e same s = found_put f d msg m xs k y e s ∙ (ap (λ v. cond (is_type msg m) v (looked_up f d xs m)) same ∙ same_case (looked_up f d xs) msg m (is_type msg m) refl)
 
-type_there : (msg : MsgId) (xs : List Listing) (k : ℕ) (x : Listing) → StandsAt msg xs k → x ≡ get_or xs k x → x.msg ≡ msg
+type_there : (msg : MsgId) (xs : List Listing) (k : ℕ) (x : Listing) → IsListedAt msg xs k → x ≡ get_or xs k x → x.msg ≡ msg
 type_there msg [] k x s e = elim s [ ]
 type_there msg (z ∷ xs) zero x s e = let same : z.msg.0 ≡ msg.0 = eqb-true z.msg.0 msg.0 s in ap (λ (l : Listing). l.msg) e ∙ ap (λ n. record { 0 = n }) same
 type_there msg (z ∷ xs) (suc k) x s e = type_there msg xs k x s.1 e
@@ -117,35 +117,35 @@ type_case : {X : Type 0} (h : X → X) (g : MsgId → X) (msg m : MsgId) (b : Bo
 type_case h g msg m true e = ap (λ n. h (g (record { 0 = n }))) (eqb-true msg.0 m.0 e)
 type_case h g msg m false e = refl
 
-pub put_agents : (h : List AgentId → List AgentId) (msg : MsgId) (xs : List Listing) (k : ℕ) (x y : Listing) → StandsAt msg xs k → x ≡ get_or xs k x → y ≡ with_agents (h x.agents) x → (m : MsgId) →
+pub put_agents : (h : List AgentId → List AgentId) (msg : MsgId) (xs : List Listing) (k : ℕ) (x y : Listing) → IsListedAt msg xs k → x ≡ get_or xs k x → y ≡ with_agents (h x.agents) x → (m : MsgId) →
     listed (slice_set xs k y) m ≡ cond (is_type msg m) (h (listed xs m)) (listed xs m)
 put_agents h msg xs k x y s e is m =
     found_put agents_in [] msg m xs k y (ap (λ (l : Listing). l.msg) is ∙ type_there msg xs k x s e) s ∙
     (ap (λ a. cond (is_type msg m) a (listed xs m)) (ap (λ (l : Listing). l.agents) is ∙ ap h (ap (λ (l : Listing). l.agents) e ∙ sym (found_there agents_in [] msg xs k x s))) ∙
     type_case h (listed xs) msg m (is_type msg m) refl)
 
-pub same_room : (msg : MsgId) (agents : List AgentId) (xs : List Listing) (k : ℕ) (x y : Listing) → StandsAt msg xs k → x ≡ get_or xs k x → y ≡ with_agents agents x → (m : MsgId) →
+pub same_room : (msg : MsgId) (agents : List AgentId) (xs : List Listing) (k : ℕ) (x y : Listing) → IsListedAt msg xs k → x ≡ get_or xs k x → y ≡ with_agents agents x → (m : MsgId) →
     room_of (slice_set xs k y) m ≡ room_of xs m
 same_room msg agents xs k x y s e is m =
     found_same room_in 0 msg m xs k y (ap (λ (l : Listing). l.msg) is ∙ type_there msg xs k x s e) (ap (λ (l : Listing). l.room) is ∙ (ap (λ (l : Listing). l.room) e ∙ sym (found_there room_in 0 msg xs k x s))) s
 
-pub put_room : (msg : MsgId) (xs : List Listing) (k : ℕ) (x y : Listing) → StandsAt msg xs k → x ≡ get_or xs k x → y ≡ with_room (x.room + 1) x → (m : MsgId) →
+pub put_room : (msg : MsgId) (xs : List Listing) (k : ℕ) (x y : Listing) → IsListedAt msg xs k → x ≡ get_or xs k x → y ≡ with_room (x.room + 1) x → (m : MsgId) →
     room_of (slice_set xs k y) m ≡ cond (is_type msg m) (room_of xs m + 1) (room_of xs m)
 put_room msg xs k x y s e is m =
     found_put room_in 0 msg m xs k y (ap (λ (l : Listing). l.msg) is ∙ type_there msg xs k x s e) s ∙
     (ap (λ a. cond (is_type msg m) a (room_of xs m)) (ap (λ (l : Listing). l.room) is ∙ ap (λ n. n + 1) (ap (λ (l : Listing). l.room) e ∙ sym (found_there room_in 0 msg xs k x s))) ∙
     type_case (λ n. n + 1) (room_of xs) msg m (is_type msg m) refl)
 
-pub same_agents : (msg : MsgId) (xs : List Listing) (k : ℕ) (x y : Listing) → StandsAt msg xs k → x ≡ get_or xs k x → y ≡ with_room (x.room + 1) x → (m : MsgId) →
+pub same_agents : (msg : MsgId) (xs : List Listing) (k : ℕ) (x y : Listing) → IsListedAt msg xs k → x ≡ get_or xs k x → y ≡ with_room (x.room + 1) x → (m : MsgId) →
     listed (slice_set xs k y) m ≡ listed xs m
 same_agents msg xs k x y s e is m =
     found_same agents_in [] msg m xs k y (ap (λ (l : Listing). l.msg) is ∙ type_there msg xs k x s e) (ap (λ (l : Listing). l.agents) is ∙ (ap (λ (l : Listing). l.agents) e ∙ sym (found_there agents_in [] msg xs k x s))) s
 
 -- there
-pub agents_there : (msg : MsgId) (xs : List Listing) (k : ℕ) (x : Listing) → StandsAt msg xs k → x ≡ get_or xs k x → listed xs msg ≡ x.agents
+pub agents_there : (msg : MsgId) (xs : List Listing) (k : ℕ) (x : Listing) → IsListedAt msg xs k → x ≡ get_or xs k x → listed xs msg ≡ x.agents
 agents_there msg xs k x s e = found_there agents_in [] msg xs k x s ∙ ap (λ (l : Listing). l.agents) (sym e)
 
-pub room_there : (msg : MsgId) (xs : List Listing) (k : ℕ) (x : Listing) → StandsAt msg xs k → x ≡ get_or xs k x → room_of xs msg ≡ x.room
+pub room_there : (msg : MsgId) (xs : List Listing) (k : ℕ) (x : Listing) → IsListedAt msg xs k → x ≡ get_or xs k x → room_of xs msg ≡ x.room
 room_there msg xs k x s e = found_there room_in 0 msg xs k x s ∙ ap (λ (l : Listing). l.room) (sym e)
 
 -- where none is of the type, no agent is taken out

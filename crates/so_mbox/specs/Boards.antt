@@ -52,10 +52,10 @@ abbrev pub IsAbsent : MsgId → List Listing → Type 0
 IsAbsent msg xs = AllByRecursion (λ x. is_of msg x ≡ false) xs
 
 -- the first listing of the type stands here
-abbrev pub StandsAt : MsgId → List Listing → ℕ → Type 0
-StandsAt msg [] k = ⊥
-StandsAt msg (x ∷ xs) zero = is_of msg x ≡ true
-StandsAt msg (x ∷ xs) (suc k) = (is_of msg x ≡ false) × StandsAt msg xs k
+abbrev pub IsListedAt : MsgId → List Listing → ℕ → Type 0
+IsListedAt msg [] k = ⊥
+IsListedAt msg (x ∷ xs) zero = is_of msg x ≡ true
+IsListedAt msg (x ∷ xs) (suc k) = (is_of msg x ≡ false) × IsListedAt msg xs k
 
 abbrev pub is_type : MsgId → MsgId → Bool
 is_type msg other = msg.0 == other.0

@@ -7,7 +7,7 @@ ghost use Rattle.so_ids.specs.declared.MsgId.{MsgId as MsgNumber};
 ghost use Rattle.so_state.specs.Choice.{is_for};
 ghost use Rattle.so_scene.specs.Parts.{mboxes, agents_from, rows_of};
 ghost use Rattle.so_mbox.specs.Table.{is_none_of, same_agent, has_row};
-ghost use Rattle.so_mbox.specs.Boards.{none_listed, with_agents, with_room, is_of, StandsAt, listed, room_of, is_type, listed_at, room_at, AreWithin, once, is_last, noted, HaveRoom};
+ghost use Rattle.so_mbox.specs.Boards.{none_listed, with_agents, with_room, is_of, IsListedAt, listed, room_of, is_type, listed_at, room_at, AreWithin, once, is_last, noted, HaveRoom};
 
 use so_ids::{AgentId, MboxId, MsgId, NoMemory};
 use so_scene::Scene;
@@ -152,7 +152,7 @@ impl Board {
 
     /// Where the list of a type stands, which is made if there is none.
     fn place(&mut self, alloc: Global, msg: MsgId) -> Result<usize, NoMemory>
-        ensures place { IfOk result (StandsAt msg self.new) }
+        ensures place { IfOk result (IsListedAt msg self.new) }
         ensures within { IfOk result (λ at. at < length self.new) }
         ensures agents { OnOk result ((m : MsgNumber) → listed self.new m ≡ listed self.old m) }
         ensures room { OnOk result ((m : MsgNumber) → room_of self.new m ≡ room_of self.old m) }

@@ -5,7 +5,7 @@ use Rattle.std.proofs.lemmas.Bool.{cases_eq, cases_lt, cases_Bool, and_parts, eq
 use Rattle.std.proofs.Math.Bridge.{le_prop}
 use Rattle.so_ids.specs.declared.Priority.{Priority}
 use Rattle.so_scene.specs.declared.round.Round.{Round}
-use Rattle.so_scene.specs.Rounds.{next_lower, level_below, down_from, priorities_after, has_demand, next_priority, has_left, begun, moved, one_used, after_taking, HasSome, TakesOne}
+use Rattle.so_scene.specs.Rounds.{next_lower, level_below, down_from, priorities_after, has_demand, next_priority, has_left, new_round, moved, one_used, after_taking, HasSome, TakesOne}
 
 -- priorities of one level are the same
 pub same_priority : (a b : Priority) → a.level ≡ b.level → a ≡ b
@@ -73,7 +73,7 @@ moved_has quotes has r some =
     ]
 
 -- and after the taking, one more of the moved round is used
-moves_on : (quotes : List ℕ) (has : ℕ → Bool) (r : Round) (p : Priority) → (has_left quotes r && has r.priority.level) ≡ false → has p.level ≡ true → after_taking quotes p r ≡ one_used (begun p)
+moves_on : (quotes : List ℕ) (has : ℕ → Bool) (r : Round) (p : Priority) → (has_left quotes r && has r.priority.level) ≡ false → has p.level ≡ true → after_taking quotes p r ≡ one_used (new_round p)
 moves_on quotes has r p stops some =
     elim (cases_eq p.level r.priority.level) [
       | inl e ↦

@@ -1,6 +1,8 @@
 -- What a checked scene keeps.
 use Rattle.std.specs.Prelude.{◌≡◌, ℕ, zero, suc, ◌+◌, ◌++◌, replicate, ◌<◌, ◌≤◌, List, [], ◌∷◌, length, map, slice_index_or, bytes_eq, Bool, false, true, if◌then◌else◌, Option, Some, None, is_some}
 use Rattle.std.specs.List.{All, IsDistinct, filter_map}
+use Rattle.so_ids.specs.Limits.{most_slots, most_rows, most_messages, most_mboxes, most_lanes, most_coops, most_agents, most_texts}
+use Rattle.so_ids.specs.Ids.{default_state}
 use Rattle.so_ids.specs.declared.AgentId.{AgentId}
 use Rattle.so_ids.specs.declared.CoopId.{CoopId}
 use Rattle.so_ids.specs.declared.DispId.{DispId}
@@ -24,7 +26,6 @@ use Rattle.so_state.specs.declared.choice.RowKind.TheVariants.{Run, Switch, Tran
 use Rattle.so_state.specs.declared.states.State.{State}
 use Rattle.so_state.specs.Fault.{IsTree}
 use Rattle.so_ids.specs.declared.StateId.{StateId}
-use Rattle.so_state.specs.States.{default_state}
 use Rattle.so_scene.specs.declared.parts.AgentDef.{AgentDef}
 use Rattle.so_scene.specs.declared.parts.SceneParts.{SceneParts}
 use Rattle.so_scene.specs.Parts.{message_name, mbox_names, mboxes, agent_of, coop_of, coop_name, disp_of, disp_name, groups_of, default_disp}
@@ -93,7 +94,7 @@ IsQuote n = (1 ≤ n) × (n ≤ 1000)
 pub record IsDisp (d : DispDef) : Type 0 where
   pub named : is_name d.name ≡ true
   pub some_slots : 1 ≤ d.slots
-  pub few_slots : d.slots ≤ 4096
+  pub few_slots : d.slots ≤ most_slots
   pub some_threads : 1 ≤ d.threads
   pub few_threads : d.threads ≤ 64
   pub no_pool : is_pool d.kind ≡ false → (d.threads ≡ 4) × (d.fifo ≡ Cooperation)
@@ -231,7 +232,7 @@ pub record IsAgent (s : SceneParts) (a : AgentDef) : Type 0 where
   pub states_named : All (λ name. is_state_name name ≡ true) a.state_names
   pub initial : All HasParent a.tree
   pub each_state_once : IsDistinct bytes_eq a.state_names
-  pub few_rows : length a.rows ≤ 128
+  pub few_rows : length a.rows ≤ most_rows
   pub rows : All (IsRow s (length a.tree)) a.rows
   pub row_ids : length a.row_ids ≡ length a.rows
   pub rows_named : All (λ name. is_name name ≡ true) (given a.row_ids)
@@ -250,10 +251,10 @@ pub record IsAgent (s : SceneParts) (a : AgentDef) : Type 0 where
 -- the parts are those of a scene: no name stands twice in its space, and the cooperations have all agents, each those of its own.
 -- A cooperation may be empty, and one that can't be registered may stand there
 pub record IsScene (s : SceneParts) : Type 0 where
-  pub few_messages : length s.messages ≤ 256
+  pub few_messages : length s.messages ≤ most_messages
   pub messages_named : All (λ name. is_name name ≡ true) (map message_name s.messages)
   pub message_names : IsDistinct bytes_eq (map message_name s.messages)
-  pub few_mboxes : length s.mboxes ≤ 256
+  pub few_mboxes : length s.mboxes ≤ most_mboxes
   pub mboxes_named : All (λ name. is_name name ≡ true) s.mboxes
   pub default : head s.dispatchers ≡ Some default_disp
   pub few_dispatchers : length s.dispatchers ≤ 64
@@ -261,16 +262,16 @@ pub record IsScene (s : SceneParts) : Type 0 where
   pub dispatcher_names : IsDistinct bytes_eq (map disp_name s.dispatchers)
   pub all_groups : length s.groups ≡ length s.dispatchers
   pub groups : (d : DispId) → d.0 < length s.dispatchers → AreGroups s d
-  pub few_lanes : lanes s ≤ 256
-  pub few_coops : length s.coops ≤ 1024
+  pub few_lanes : lanes s ≤ most_lanes
+  pub few_coops : length s.coops ≤ most_coops
   pub coops : All (IsCoop s) s.coops
   pub coop_names : IsDistinct bytes_eq (map coop_name s.coops)
   pub consecutive : AreConsecutive 0 (length s.agents) s.coops
   pub members : (a : AgentId) → a.0 < length s.agents → IsMember (coop_of s (agent_of s a).coop) a
-  pub few_agents : length s.agents ≤ 4096
+  pub few_agents : length s.agents ≤ most_agents
   pub agents : All (IsAgent s) s.agents
   pub names : IsDistinct bytes_eq (mbox_names s)
-  pub few_texts : length s.texts ≤ 4096
+  pub few_texts : length s.texts ≤ most_texts
   pub texts : All (λ t. is_text t ≡ true) s.texts
   pub texts_numbered : AreNumbered (texts_to s (length s.agents)) (length s.texts)
   pub each_text_once : IsDistinct bytes_eq s.texts

@@ -1,6 +1,7 @@
 -- On which lanes agents run, and which events stand in one queue.
 use Rattle.std.specs.Prelude.{◌≡◌, ◌<◌, ◌≤◌, ℕ, zero, suc, ◌-◌, List, [], ◌∷◌, ◌++◌, length, map, replicate, slice_index_or, Bool, true, false, ◌==◌, ◌&&◌, Option, Some, None, unwrap_or}
 use Rattle.std.specs.List.{filter, position}
+use Rattle.so_ids.specs.Limits.{most_agents}
 use Rattle.so_ids.specs.declared.AgentId.{AgentId}
 use Rattle.so_ids.specs.declared.DispId.{DispId}
 use Rattle.so_ids.specs.declared.LaneId.{LaneId}
@@ -89,7 +90,7 @@ keys s = length s.agents
 
 -- each agent is bound to a dispatcher, and each dispatcher has its groups
 pub record AreBound (s : SceneParts) : Type 0 where
-  pub few : length s.agents ≤ 4096
+  pub few : length s.agents ≤ most_agents
   pub few_dispatchers : length s.dispatchers ≤ 64
   pub groups : length s.groups ≡ length s.dispatchers
   pub few_groups : (d : DispId) → d.0 < length s.dispatchers → length (groups_of s d) ≤ 4096

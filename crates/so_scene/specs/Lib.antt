@@ -2,7 +2,6 @@ pub mod Checked
 pub mod Cooperations
 pub mod Definition
 pub mod Delivery
-pub mod Faults
 pub mod Lanes
 pub mod Names
 pub mod Parts

@@ -52,13 +52,13 @@ abbrev pub has_left : List ℕ → Round → Bool
 has_left quotes r = nat_lt r.used (quote_of quotes r.priority)
 
 -- a priority with a new quote
-abbrev pub begun : Priority → Round
-begun p = record { priority = p; used = 0 }
+abbrev pub new_round : Priority → Round
+new_round p = record { priority = p; used = 0 }
 
 -- the round before the next taking: it stays where its quote isn't used up and its priority has a demand, else the next
 -- priority that has one begins with a new quote
 unfoldable pub moved : List ℕ → (ℕ → Bool) → Round → Round
-moved quotes has r = if has_left quotes r && has r.priority.level then r else begun (next_priority has r.priority)
+moved quotes has r = if has_left quotes r && has r.priority.level then r else new_round (next_priority has r.priority)
 
 -- one more is used
 abbrev pub one_used : Round → Round
@@ -67,7 +67,7 @@ one_used r = record r { used = r.used + 1 }
 -- the round after a taking of a priority: one more of the quote is used where it is the round's and there is some left, else
 -- one of a new quote
 abbrev pub after_taking : List ℕ → Priority → Round → Round
-after_taking quotes p r = if (p.level == r.priority.level) && has_left quotes r then one_used r else one_used (begun p)
+after_taking quotes p r = if (p.level == r.priority.level) && has_left quotes r then one_used r else one_used (new_round p)
 
 -- some priority has a demand
 pub record HasSome (has : ℕ → Bool) : Type 0 where

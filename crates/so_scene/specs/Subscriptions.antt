@@ -1,11 +1,11 @@
 -- Which rows and filters of an agent are active: a list with one Bool for each row, and one with one for each filter.
 use Rattle.std.specs.Prelude.{ℕ, pos, List, [], ◌∷◌, map, zip, slice_set, slice_index_or, Bool, true, false, not, ◌&&◌, None}
 use Rattle.std.specs.List.{list_any}
+use Rattle.so_ids.specs.Ids.{default_state}
 use Rattle.so_ids.specs.declared.AgentId.{AgentId}
 use Rattle.so_ids.specs.declared.RowId.{RowId}
 use Rattle.so_ids.specs.declared.FilterId.{FilterId}
 use Rattle.so_code.specs.declared.instr.Cmp.TheVariants.{Eq}
-use Rattle.so_state.specs.States.{default_state}
 use Rattle.so_state.specs.declared.choice.Row.{Row}
 use Rattle.so_state.specs.declared.choice.RowKind.TheVariants.{Run}
 use Rattle.so_scene.specs.declared.parts.FilterDef.{FilterDef}

@@ -34,9 +34,9 @@ HasParent state = state.initial ≡ true → is_some state.parent ≡ true
 abbrev pub IsNumber : ℤ → Type 0
 IsNumber z = fits z ≡ true
 
-abbrev pub IsOperand : Operand → Type 0
-IsOperand (operand.Num z) = IsNumber z
-IsOperand other = Unit {0}
+abbrev pub IsWrittenOperand : Operand → Type 0
+IsWrittenOperand (operand.Num z) = IsNumber z
+IsWrittenOperand other = Unit {0}
 
 abbrev pub is_zero : Operand → Bool
 is_zero (operand.Num (pos n)) = n == 0
@@ -45,7 +45,7 @@ is_zero other = false
 -- so many operands, and then numbers 0
 abbrev pub ArePadded : ℕ → List Operand → Type 0
 ArePadded used [] = Unit {0}
-ArePadded (suc used) (a ∷ list) = IsOperand a × ArePadded used list
+ArePadded (suc used) (a ∷ list) = IsWrittenOperand a × ArePadded used list
 ArePadded zero (a ∷ list) = (is_zero a ≡ true) × ArePadded zero list
 
 pub record AreOperands (args : Args) : Type 0 where
@@ -54,12 +54,12 @@ pub record AreOperands (args : Args) : Type 0 where
 
 -- an act among these messages; a signal is sent without operands
 abbrev pub IsWrittenAmong : List MessageDef → Instr → Type 0
-IsWrittenAmong messages (instr.Set to a) = IsOperand a
-IsWrittenAmong messages (instr.Add to a b) = IsOperand a × IsOperand b
-IsWrittenAmong messages (instr.Sub to a b) = IsOperand a × IsOperand b
-IsWrittenAmong messages (instr.Mul to a b) = IsOperand a × IsOperand b
-IsWrittenAmong messages (instr.If a cmp b count) = IsOperand a × IsOperand b
-IsWrittenAmong messages (instr.Throw a) = IsOperand a
+IsWrittenAmong messages (instr.Set to a) = IsWrittenOperand a
+IsWrittenAmong messages (instr.Add to a b) = IsWrittenOperand a × IsWrittenOperand b
+IsWrittenAmong messages (instr.Sub to a b) = IsWrittenOperand a × IsWrittenOperand b
+IsWrittenAmong messages (instr.Mul to a b) = IsWrittenOperand a × IsWrittenOperand b
+IsWrittenAmong messages (instr.If a cmp b count) = IsWrittenOperand a × IsWrittenOperand b
+IsWrittenAmong messages (instr.Throw a) = IsWrittenOperand a
 IsWrittenAmong messages (instr.Log text args) = AreOperands args
 IsWrittenAmong messages (instr.Send target msg args) = AreOperands args × ((slice_index_or messages msg.0 no_message).signal ≡ true → args.used ≡ 0)
 IsWrittenAmong messages other = Unit {0}

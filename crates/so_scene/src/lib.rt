@@ -2,25 +2,19 @@
 #![tactic(auto)]
 
 mod definition;
-mod fault;
 mod items;
 mod lanes;
 mod names;
 mod parts;
-mod place;
-mod print;
 mod round;
 mod scene;
 mod words;
 
 pub use definition::is_twice;
-pub use fault::{SceneFault, SceneRefusal};
 pub use items::Items;
 pub use lanes::{Lane, Part, Queue};
 pub use names::Names;
 pub use parts::{AgentDef, CoopDef, DispDef, DispKind, Fifo, FilterDef, MessageDef, SceneParts};
-pub use place::{Field, PlaceStep, ScenePlace};
-pub use print::{put_fault, put_place};
 pub use round::{Round, next_lower};
 pub use scene::{Scene, direct_mbox};
 pub use words::{Name, Text, is_name, is_text};

@@ -1,7 +1,7 @@
 //! The round of quoted_round_robin: whose turn it is, and how much of the quote is used.
 
 ghost use Rattle.std.specs.Prelude.{◌≡◌};
-ghost use Rattle.so_scene.specs.Rounds.{first_round, quote_of, has_left, next_lower, one_used, begun, after_taking, TakesOne};
+ghost use Rattle.so_scene.specs.Rounds.{first_round, quote_of, has_left, next_lower, one_used, new_round, after_taking, TakesOne};
 
 use so_ids::Priority;
 

@@ -19,7 +19,7 @@ use Rattle.so_code.specs.declared.instr.Args.{Args}
 use Rattle.so_code.specs.declared.instr.Body.{Body}
 use Rattle.so_code.specs.declared.instr.Body.TheVariants as body
 use Rattle.so_code.specs.Bodies.{bodies_in}
-use Rattle.so_code.specs.Shape.{IsActBefore, AreActsBefore, Part, plain, acts_code, flatten, may_switch, IsPart, IsCode, AreInOrder, AreAgentBodies, body_of, agent_bodies, state_bodies, row_number as number_of_row}
+use Rattle.so_code.specs.Shape.{IsActBefore, AreActsBefore, WholeBody, plain, acts_code, flatten, may_switch, IsWholeBody, IsCode, AreInOrder, AreAgentBodies, body_of, agent_bodies, state_bodies, row_number as number_of_row}
 use Rattle.so_code.proofs.BuildLaws.{structured, plain_code, plain_acts, bodies_in-flatten}
 use Rattle.so_lists.specs.Lists.{given_after}
 use Rattle.so_lists.proofs.Filters.{each-append, each-weaker}
@@ -50,10 +50,10 @@ use Rattle.so_scene_fields.specs.declared.act_table.Word.TheVariants as word
 use Rattle.so_scene_fields.specs.declared.values.Trouble.{Trouble}
 use Rattle.so_scene_fields.specs.declared.values.Trouble.TheVariants.{OutOfRange}
 use Rattle.so_scene_passes.specs.declared.declare.Declared.{Declared}
-use Rattle.so_scene_build.specs.declared.code_writer.CodeWriter.{CodeWriter}
+use Rattle.so_scene_build.specs.declared.code_builder.CodeBuilder.{CodeBuilder}
 use Rattle.so_scene_fields.specs.Values.{◌or◌, ◌else◌, ◌then◌, numbered, small_number, operand_named, operand_or_number, operand_of, dest_named, dest_of, named, integer_of, natural_up_to, count_of, ok_or, read_or, is_safe, text_or_empty}
 use Rattle.so_scene_fields.specs.Visits.{narrow, list_of}
-use Rattle.so_scene_build.specs.CodeWriter.{operand_at, dest_at, count_at, args_from, send_instr, state_id, state_at, row_id, filter_number, coop_id, row_at, filter_at, coop_at, or_idle, text_at, string_at, texts_with, number_or_next, with_instr, word_written, parts_written, if_allowed, act_written, acts_written, idle}
+use Rattle.so_scene_build.specs.CodeBuilder.{operand_at, dest_at, count_at, args_from, send_instr, state_id, state_at, row_id, filter_number, coop_id, row_at, filter_at, coop_at, or_idle, text_at, string_at, texts_with, number_or_next, with_instr, word_written, parts_written, if_allowed, act_written, acts_written, idle}
 
 -- ---- operands
 
@@ -217,7 +217,7 @@ pub record HasFewIds (scope : Scope) : Type 0 where
   pub filters : length scope.filters ≤ 32
 
 -- an act writes one instruction, which may stand before so many others, is safe where it must, and names what there is
-record Wrote (names : Declared) (may must : Bool) (rest : ℕ) (w v : CodeWriter) : Type 0 where
+record Wrote (names : Declared) (may must : Bool) (rest : ℕ) (w v : CodeBuilder) : Type 0 where
   one : Instr
   same : v.code ≡ w.code ++ one ∷ []
   fine : IsActBefore may one rest
@@ -228,7 +228,7 @@ record Wrote (names : Declared) (may must : Bool) (rest : ℕ) (w v : CodeWriter
   numbered : length v.texts ≤ 4096 → given_after (length w.texts) (text_uses (one ∷ [])) ≡ Some (length v.texts)
   texts : AllByRecursion (λ t. is_text t ≡ true) w.texts → AllByRecursion (λ t. is_text t ≡ true) v.texts
 
-simple : (names : Declared) (may must : Bool) (rest : ℕ) (w : CodeWriter) (i : Instr) → IsQuiet i → IsActBefore may i rest → (must ≡ true → may_be_safe i ≡ true) → (HasFewIds w.scope → NamesWithin (allows names w.scope (length w.texts)) i) → Wrote names may must rest w (with_instr i w)
+simple : (names : Declared) (may must : Bool) (rest : ℕ) (w : CodeBuilder) (i : Instr) → IsQuiet i → IsActBefore may i rest → (must ≡ true → may_be_safe i ≡ true) → (HasFewIds w.scope → NamesWithin (allows names w.scope (length w.texts)) i) → Wrote names may must rest w (with_instr i w)
 simple names may must rest w i q f s n = record { one = i; same = refl; fine = f; safe = s; grows = omega arith; scope = refl; named = n; numbered = λ l. none_given (length w.texts) i q; texts = λ a. a }
 
 -- what is no switch
@@ -295,13 +295,13 @@ filter_there ids name None filter few e f = absurd cc
 filter_there ids name (Some k) filter few e f = let its : filter_number k ≡ filter = cc in subst (λ (r : FilterId). HasId ids r.0) its (id_there ids name k few e)
 
 -- an act on a row of the agent, and on a filter
-row_wrote : (names : Declared) (may must : Bool) (rest : ℕ) (w : CodeWriter) (ds : Items) (f : RowId → Instr) → (must ≡ true → false ≡ true) → ((row : RowId) → IsQuiet (f row)) → ((row : RowId) → IsActBefore may (f row) rest) → ((n : Named) (row : RowId) → HasId n.rows row.0 → NamesWithin n (f row)) → Wrote names may must rest w (with_instr (or_idle f (row_at w.scope ds)) w)
+row_wrote : (names : Declared) (may must : Bool) (rest : ℕ) (w : CodeBuilder) (ds : Items) (f : RowId → Instr) → (must ≡ true → false ≡ true) → ((row : RowId) → IsQuiet (f row)) → ((row : RowId) → IsActBefore may (f row) rest) → ((n : Named) (row : RowId) → HasId n.rows row.0 → NamesWithin n (f row)) → Wrote names may must rest w (with_instr (or_idle f (row_at w.scope ds)) w)
 row_wrote names may must rest w ds f safe quiet fine names_it =
     simple names may must rest w _ (or_fine IsQuiet f (row_at w.scope ds) refl (λ row e. quiet row)) (or_fine (λ i. IsActBefore may i rest) f (row_at w.scope ds) (idle_fine may rest) (λ row e. fine row))
     (λ e. absurd (true≢false (sym (safe e))))
     (λ few. or_fine (NamesWithin (allows names w.scope (length w.texts))) f (row_at w.scope ds) tt (λ row e. names_it (allows names w.scope (length w.texts)) row (row_there w.scope.rows (string_at 0 ds) (number_with w.scope.rows (string_at 0 ds)) row few.rows refl e)))
 
-filter_wrote : (names : Declared) (may must : Bool) (rest : ℕ) (w : CodeWriter) (ds : Items) (f : FilterId → Instr) → (must ≡ true → false ≡ true) → ((filter : FilterId) → IsQuiet (f filter)) → ((filter : FilterId) → IsActBefore may (f filter) rest) → ((n : Named) (filter : FilterId) → HasId n.filters filter.0 → NamesWithin n (f filter)) → Wrote names may must rest w (with_instr (or_idle f (filter_at w.scope ds)) w)
+filter_wrote : (names : Declared) (may must : Bool) (rest : ℕ) (w : CodeBuilder) (ds : Items) (f : FilterId → Instr) → (must ≡ true → false ≡ true) → ((filter : FilterId) → IsQuiet (f filter)) → ((filter : FilterId) → IsActBefore may (f filter) rest) → ((n : Named) (filter : FilterId) → HasId n.filters filter.0 → NamesWithin n (f filter)) → Wrote names may must rest w (with_instr (or_idle f (filter_at w.scope ds)) w)
 filter_wrote names may must rest w ds f safe quiet fine names_it =
     simple names may must rest w _ (or_fine IsQuiet f (filter_at w.scope ds) refl (λ filter e. quiet filter)) (or_fine (λ i. IsActBefore may i rest) f (filter_at w.scope ds) (idle_fine may rest) (λ filter e. fine filter))
     (λ e. absurd (true≢false (sym (safe e))))
@@ -316,7 +316,7 @@ coop_there : (names : List (List ℕ)) (name : List ℕ) (o : Option ℕ) (coop 
 coop_there names name None coop e f = absurd cc
 coop_there names name (Some k) coop e f = let its : coop_id k ≡ coop = cc in subst (λ (c : CoopId). c.0 < length names) its (coop_below names name k e)
 
-coop_wrote : (names : Declared) (may must : Bool) (rest : ℕ) (w : CodeWriter) (ds : Items) (f : CoopId → Instr) → ((coop : CoopId) → IsQuiet (f coop)) → ((coop : CoopId) → IsActBefore may (f coop) rest) → ((coop : CoopId) → may_be_safe (f coop) ≡ true) → ((n : Named) (coop : CoopId) → coop.0 < n.coops → NamesWithin n (f coop)) → Wrote names may must rest w (with_instr (or_idle f (coop_at names ds)) w)
+coop_wrote : (names : Declared) (may must : Bool) (rest : ℕ) (w : CodeBuilder) (ds : Items) (f : CoopId → Instr) → ((coop : CoopId) → IsQuiet (f coop)) → ((coop : CoopId) → IsActBefore may (f coop) rest) → ((coop : CoopId) → may_be_safe (f coop) ≡ true) → ((n : Named) (coop : CoopId) → coop.0 < n.coops → NamesWithin n (f coop)) → Wrote names may must rest w (with_instr (or_idle f (coop_at names ds)) w)
 coop_wrote names may must rest w ds f quiet fine safe names_it =
     simple names may must rest w _ (or_fine IsQuiet f (coop_at names ds) refl (λ coop e. quiet coop)) (or_fine (λ i. IsActBefore may i rest) f (coop_at names ds) (idle_fine may rest) (λ coop e. fine coop))
     (λ m. or_fine (λ i. may_be_safe i ≡ true) f (coop_at names ds) refl (λ coop e. safe coop))
@@ -332,7 +332,7 @@ state_there : (scope : Scope) (name : List ℕ) (o : Option ℕ) (s : StateId) �
 state_there scope name None s e f = absurd cc
 state_there scope name (Some k) s e f = let its : state_id k ≡ s = cc in subst (λ (r : StateId). r.0 ≤ length scope.states) its (state_below scope name k e)
 
-switch_wrote : (names : Declared) (may must : Bool) (rest : ℕ) (w : CodeWriter) (ds : Items) → may ≡ true → (must ≡ true → false ≡ true) → Wrote names may must rest w (with_instr (or_idle instr.Switch (state_at w.scope ds)) w)
+switch_wrote : (names : Declared) (may must : Bool) (rest : ℕ) (w : CodeBuilder) (ds : Items) → may ≡ true → (must ≡ true → false ≡ true) → Wrote names may must rest w (with_instr (or_idle instr.Switch (state_at w.scope ds)) w)
 switch_wrote names may must rest w ds h safe =
     simple names may must rest w _ (or_fine IsQuiet instr.Switch (state_at w.scope ds) refl (λ s e. refl)) (or_fine (λ i. IsActBefore may i rest) instr.Switch (state_at w.scope ds) (idle_fine may rest) (λ s e. record { act = refl; switch = λ q. h; parts = tt; jumps = omega arith }))
     (λ e. absurd (true≢false (sym (safe e))))
@@ -346,7 +346,7 @@ next_text n m e few =
     let its : narrow n ≡ n = omega (arith, e, few) in
     ap (λ k. given_after n (k ∷ [])) its ∙ (given-next n ∙ ap Some (sym e))
 
-text_wrote : (names : Declared) (may must : Bool) (rest : ℕ) (w : CodeWriter) (t : List ℕ) (args : Args) (o : Option ℕ) → OnSome (λ k. k < length w.texts) o → is_text t ≡ true → AreArgs args
+text_wrote : (names : Declared) (may must : Bool) (rest : ℕ) (w : CodeBuilder) (t : List ℕ) (args : Args) (o : Option ℕ) → OnSome (λ k. k < length w.texts) o → is_text t ≡ true → AreArgs args
     → Wrote names may must rest w (with_instr (instr.Log (record { 0 = number_or_next o w.texts }) args) (record w { texts = texts_with o t w.texts }))
 unfolding OnSome
 text_wrote names may must rest w t args (Some n) h is are = record {
@@ -389,7 +389,7 @@ record Fits (may must : Bool) (wd : Word) (ds : Items) : Type 0 where
   switch : MaySwitch may wd
   safe : must ≡ true → is_safe_act wd ds ≡ true
 
-wrote_word : (names : Declared) (may must : Bool) (rest : ℕ) (w : CodeWriter) (wd : Word) (ds : Items) → Fits may must wd ds → Wrote names may must rest w (word_written names rest w wd ds)
+wrote_word : (names : Declared) (may must : Bool) (rest : ℕ) (w : CodeBuilder) (wd : Word) (ds : Items) → Fits may must wd ds → Wrote names may must rest w (word_written names rest w wd ds)
 unfolding MaySwitch
 wrote_word names may must rest w word.Set ds h = simple names may must rest w _ refl (record { act = refl; switch = never may; parts = (dest_fine 0 ds, operand_fine 1 ds); jumps = omega arith }) h.safe (λ few. tt)
 wrote_word names may must rest w word.Add ds h = simple names may must rest w _ refl (record { act = refl; switch = never may; parts = (dest_fine 0 ds, operand_fine 1 ds, operand_fine 2 ds); jumps = omega arith }) h.safe (λ few. tt)
@@ -436,15 +436,15 @@ stands_safe AnyAct wd ds e m = absurd (true≢false (sym m))
 stands_safe NoSwitch wd ds e m = absurd (true≢false (sym m))
 stands_safe Safe wd ds e m = e
 
-wrote_if : (names : Declared) (allowed : Allowed) (rest : ℕ) (w : CodeWriter) (p : Word × Items) (b : Bool) → is_allowed allowed p.0 p.1 ≡ b → Wrote names (switches allowed) (restrains allowed) rest w (parts_written names rest w (if b then Some p else None))
+wrote_if : (names : Declared) (allowed : Allowed) (rest : ℕ) (w : CodeBuilder) (p : Word × Items) (b : Bool) → is_allowed allowed p.0 p.1 ≡ b → Wrote names (switches allowed) (restrains allowed) rest w (parts_written names rest w (if b then Some p else None))
 wrote_if names allowed rest w p true e = wrote_word names (switches allowed) (restrains allowed) rest w p.0 p.1 (record { switch = may_stand allowed p.0 p.1 e; safe = stands_safe allowed p.0 p.1 e })
 wrote_if names allowed rest w p false e = simple names (switches allowed) (restrains allowed) rest w _ refl (idle_fine (switches allowed) rest) (λ m. refl) (λ few. tt)
 
-wrote_parts : (names : Declared) (allowed : Allowed) (rest : ℕ) (w : CodeWriter) (o : Option (Word × Items)) → Wrote names (switches allowed) (restrains allowed) rest w (parts_written names rest w (if_allowed allowed o))
+wrote_parts : (names : Declared) (allowed : Allowed) (rest : ℕ) (w : CodeBuilder) (o : Option (Word × Items)) → Wrote names (switches allowed) (restrains allowed) rest w (parts_written names rest w (if_allowed allowed o))
 wrote_parts names allowed rest w None = simple names (switches allowed) (restrains allowed) rest w _ refl (idle_fine (switches allowed) rest) (λ m. refl) (λ few. tt)
 wrote_parts names allowed rest w (Some p) = wrote_if names allowed rest w p (is_allowed allowed p.0 p.1) refl
 
-wrote_act : (names : Declared) (allowed : Allowed) (rest : ℕ) (w : CodeWriter) (d : Data) → Wrote names (switches allowed) (restrains allowed) rest w (act_written names allowed rest w d)
+wrote_act : (names : Declared) (allowed : Allowed) (rest : ℕ) (w : CodeBuilder) (d : Data) → Wrote names (switches allowed) (restrains allowed) rest w (act_written names allowed rest w d)
 wrote_act names allowed rest w d = wrote_parts names allowed rest w (act_parts d)
 
 -- ---- a list of acts
@@ -487,7 +487,7 @@ texts_grow names scope other t u e l = record {
   filters = ap (λ (x : Scope). x.filters) (sym e);
 }
 
-pub record WroteActs (names : Declared) (may must : Bool) (w v : CodeWriter) (n : ℕ) : Type 0 where
+pub record WroteActs (names : Declared) (may must : Bool) (w v : CodeBuilder) (n : ℕ) : Type 0 where
   pub acts : List Instr
   pub same : v.code ≡ w.code ++ acts
   pub long : length acts ≡ n
@@ -502,7 +502,7 @@ pub record WroteActs (names : Declared) (may must : Bool) (w v : CodeWriter) (n 
 same_few : (s t : Scope) → t ≡ s → HasFewIds s → HasFewIds t
 same_few s t e h = subst HasFewIds (sym e) h
 
-one_more : (names : Declared) (may must : Bool) (w u v : CodeWriter) (rest n : ℕ) → rest ≡ n → Wrote names may must rest w u → WroteActs names may must u v n → WroteActs names may must w v (suc n)
+one_more : (names : Declared) (may must : Bool) (w u v : CodeBuilder) (rest n : ℕ) → rest ≡ n → Wrote names may must rest w u → WroteActs names may must u v n → WroteActs names may must w v (suc n)
 one_more names may must w u v rest n e one more = record {
   acts = one.one ∷ more.acts;
   same = more.same ∙ (ap (λ c. c ++ more.acts) one.same ∙ append_assoc w.code (one.one ∷ []) more.acts);
@@ -519,25 +519,25 @@ one_more names may must w u v rest n e one more = record {
   texts = λ a. more.texts (one.texts a);
 }
 
-pub wrote_acts : (names : Declared) (allowed : Allowed) (w : CodeWriter) (ds : Items) → WroteActs names (switches allowed) (restrains allowed) w (acts_written names allowed w ds) (items_len ds)
+pub wrote_acts : (names : Declared) (allowed : Allowed) (w : CodeBuilder) (ds : Items) → WroteActs names (switches allowed) (restrains allowed) w (acts_written names allowed w ds) (items_len ds)
 unfolding acts_written
 wrote_acts names allowed w no_items = record { acts = []; same = sym (append-nil w.code); long = refl; fine = tt; safe = λ m. tt; grows = omega arith; scope = refl; named = λ few. tt; numbered = λ few. refl; texts = λ a. a }
 wrote_acts names allowed w (item d ds) = one_more names (switches allowed) (restrains allowed) w _ _ _ _ refl (wrote_act names allowed (items_len ds) w d) (wrote_acts names allowed (act_written names allowed (items_len ds) w d) ds)
 
 -- ---- bodies
 
-record WroteParts (names : Declared) (w v : CodeWriter) (bodies : List Body) : Type 0 where
-  parts : List Part
+record WroteParts (names : Declared) (w v : CodeBuilder) (bodies : List Body) : Type 0 where
+  parts : List WholeBody
   same : v.code ≡ w.code ++ flatten parts
   made : map body_of parts ≡ bodies
-  each : AllByRecursion IsPart parts
+  each : AllByRecursion IsWholeBody parts
   grows : length w.texts ≤ length v.texts
   scope : v.scope ≡ w.scope
   named : HasFewIds w.scope → AllByRecursion (NamesWithin (allows names w.scope (length v.texts))) (flatten parts)
   numbered : length v.texts ≤ 4096 → given_after (length w.texts) (text_uses (flatten parts)) ≡ Some (length v.texts)
   texts : AllByRecursion (λ t. is_text t ≡ true) w.texts → AllByRecursion (λ t. is_text t ≡ true) v.texts
 
-ended : (names : Declared) (may must : Bool) (b : Body) (w u : CodeWriter) (n : ℕ) → may ≡ may_switch b → WroteActs names may must w u n → WroteParts names w (with_instr (instr.End b) u) (b ∷ [])
+ended : (names : Declared) (may must : Bool) (b : Body) (w u : CodeBuilder) (n : ℕ) → may ≡ may_switch b → WroteActs names may must w u n → WroteParts names w (with_instr (instr.End b) u) (b ∷ [])
 ended names may must b w u n e wrote = record {
   parts = record { body = b; acts = map plain wrote.acts } ∷ [];
   same = ap (λ c. c ++ instr.End b ∷ []) wrote.same ∙ (append_assoc w.code wrote.acts (instr.End b ∷ []) ∙ ap (λ c. w.code ++ (c ++ instr.End b ∷ [])) (sym (plain_code wrote.acts)));
@@ -556,23 +556,23 @@ ended names may must b w u n e wrote = record {
 abbrev pub Holds : Allowed → Body → Type 0
 Holds allowed b = switches allowed ≡ may_switch b
 
-wrote_body : (names : Declared) (allowed : Allowed) (b : Body) (w : CodeWriter) (found : Option Data) → Holds allowed b → WroteParts names w (body_written names allowed b w found) (b ∷ [])
+wrote_body : (names : Declared) (allowed : Allowed) (b : Body) (w : CodeBuilder) (found : Option Data) → Holds allowed b → WroteParts names w (body_written names allowed b w found) (b ∷ [])
 wrote_body names allowed b w found h = ended names (switches allowed) (restrains allowed) b w (acts_written names allowed w (list_of found)) _ h (wrote_acts names allowed w (list_of found))
 
-flatten-append : (ps qs : List Part) → flatten (ps ++ qs) ≡ flatten ps ++ flatten qs
+flatten-append : (ps qs : List WholeBody) → flatten (ps ++ qs) ≡ flatten ps ++ flatten qs
 flatten-append [] qs = refl
 flatten-append (p ∷ ps) qs = ap (λ c. acts_code p.acts ++ instr.End p.body ∷ c) (flatten-append ps qs) ∙ sym (append_assoc (acts_code p.acts) (instr.End p.body ∷ flatten ps) (flatten qs))
 
-bodies-append : (ps qs : List Part) → map body_of (ps ++ qs) ≡ map body_of ps ++ map body_of qs
+bodies-append : (ps qs : List WholeBody) → map body_of (ps ++ qs) ≡ map body_of ps ++ map body_of qs
 bodies-append [] qs = refl
 bodies-append (p ∷ ps) qs = ap (λ (l : List Body). p.body ∷ l) (bodies-append ps qs)
 
-joined : (names : Declared) (w u v : CodeWriter) (bs cs : List Body) → WroteParts names w u bs → WroteParts names u v cs → WroteParts names w v (bs ++ cs)
+joined : (names : Declared) (w u v : CodeBuilder) (bs cs : List Body) → WroteParts names w u bs → WroteParts names u v cs → WroteParts names w v (bs ++ cs)
 joined names w u v bs cs a b = record {
   parts = a.parts ++ b.parts;
   same = b.same ∙ (ap (λ c. c ++ flatten b.parts) a.same ∙ (append_assoc w.code (flatten a.parts) (flatten b.parts) ∙ ap (λ c. w.code ++ c) (sym (flatten-append a.parts b.parts))));
   made = bodies-append a.parts b.parts ∙ (ap (λ l. l ++ map body_of b.parts) a.made ∙ ap (λ l. bs ++ l) b.made);
-  each = each-append IsPart a.parts b.parts a.each b.each;
+  each = each-append IsWholeBody a.parts b.parts a.each b.each;
   grows = omega (arith, a.grows, b.grows);
   scope = b.scope ∙ a.scope;
   named = λ few. subst (AllByRecursion (NamesWithin (allows names w.scope (length v.texts)))) (sym (flatten-append a.parts b.parts))
@@ -584,7 +584,7 @@ joined names w u v bs cs a b = record {
   texts = λ t. b.texts (a.texts t);
 }
 
-no_bodies : (names : Declared) (w : CodeWriter) → WroteParts names w w []
+no_bodies : (names : Declared) (w : CodeBuilder) → WroteParts names w w []
 no_bodies names w = record { parts = []; same = sym (append-nil w.code); made = refl; each = tt; grows = omega arith; scope = refl; named = λ few. tt; numbered = λ few. refl; texts = λ a. a }
 
 -- the bodies of so many states from number k on
@@ -592,13 +592,13 @@ states_from : ℕ → ℕ → List Body
 states_from k zero = []
 states_from k (suc n) = body.Enter (state_id k) ∷ body.Exit (state_id k) ∷ states_from (suc k) n
 
-wrote_state : (names : Declared) (k : ℕ) (w : CodeWriter) (d : Data) → WroteParts names w (state_written names k w d) (body.Enter (state_id k) ∷ body.Exit (state_id k) ∷ [])
+wrote_state : (names : Declared) (k : ℕ) (w : CodeBuilder) (d : Data) → WroteParts names w (state_written names k w d) (body.Enter (state_id k) ∷ body.Exit (state_id k) ∷ [])
 wrote_state names k w d =
     joined names w _ _ (body.Enter (state_id k) ∷ []) (body.Exit (state_id k) ∷ [])
     (wrote_body names NoSwitch (body.Enter (state_id k)) w (get (codes "enter") d) refl)
     (wrote_body names NoSwitch (body.Exit (state_id k)) (body_written names NoSwitch (body.Enter (state_id k)) w (get (codes "enter") d)) (get (codes "exit") d) refl)
 
-wrote_states : (names : Declared) (k : ℕ) (w : CodeWriter) (ds : Items) → WroteParts names w (states_written names k w ds) (states_from k (items_len ds))
+wrote_states : (names : Declared) (k : ℕ) (w : CodeBuilder) (ds : Items) → WroteParts names w (states_written names k w ds) (states_from k (items_len ds))
 unfolding states_written states_from
 wrote_states names k w no_items = no_bodies names w
 wrote_states names k w (item d ds) =
@@ -619,12 +619,12 @@ handler_holds : (b : Bool) (k : ℕ) → Holds (if b then Safe else AnyAct) (row
 handler_holds true k = refl
 handler_holds false k = refl
 
-wrote_handler : (names : Declared) (allowed : Allowed) (b : Body) (w : CodeWriter) (found : Option Data) → Holds allowed b → WroteParts names w (handler_written names allowed b w found) (one_if b found)
+wrote_handler : (names : Declared) (allowed : Allowed) (b : Body) (w : CodeBuilder) (found : Option Data) → Holds allowed b → WroteParts names w (handler_written names allowed b w found) (one_if b found)
 unfolding one_if
 wrote_handler names allowed b w None h = no_bodies names w
 wrote_handler names allowed b w (Some d) h = wrote_body names allowed b w (Some d) h
 
-wrote_rows : (names : Declared) (k : ℕ) (w : CodeWriter) (ds : Items) → WroteParts names w (rows_written names k w ds) (rows_from k ds)
+wrote_rows : (names : Declared) (k : ℕ) (w : CodeBuilder) (ds : Items) → WroteParts names w (rows_written names k w ds) (rows_from k ds)
 unfolding rows_written rows_from
 wrote_rows names k w no_items = no_bodies names w
 wrote_rows names k w (item d ds) =
@@ -632,7 +632,7 @@ wrote_rows names k w (item d ds) =
     (wrote_handler names (handler_acts d) (row_body k) w (get (codes "do") d) (handler_holds (is_safe d) k))
     (wrote_rows names (suc k) (handler_written names (handler_acts d) (row_body k) w (get (codes "do") d)) ds)
 
-wrote_start : (names : Declared) (w : CodeWriter) (d : Data) → WroteParts names w (start_written names w d) (body.Start ∷ body.Finish ∷ [])
+wrote_start : (names : Declared) (w : CodeBuilder) (d : Data) → WroteParts names w (start_written names w d) (body.Start ∷ body.Finish ∷ [])
 wrote_start names w d =
     joined names w _ _ (body.Start ∷ []) (body.Finish ∷ [])
     (wrote_body names AnyAct body.Start w (get (codes "start") d) refl)
@@ -641,7 +641,7 @@ wrote_start names w d =
 bodies_of : Data → List Body
 bodies_of d = body.Start ∷ body.Finish ∷ (states_from 1 (items_len (state_items d)) ++ rows_from 0 (row_items d))
 
-wrote_agent : (names : Declared) (w : CodeWriter) (d : Data) → WroteParts names w (agent_written names w d) (bodies_of d)
+wrote_agent : (names : Declared) (w : CodeBuilder) (d : Data) → WroteParts names w (agent_written names w d) (bodies_of d)
 unfolding bodies_of
 wrote_agent names w d =
     joined names w _ _ (body.Start ∷ body.Finish ∷ []) (states_from 1 (items_len (state_items d)) ++ rows_from 0 (row_items d))
@@ -738,7 +738,7 @@ pub record IsShort (d : Data) : Type 0 where
   pub states : items_len (state_items d) ≤ 63
   pub rows : items_len (row_items d) ≤ 128
 
-written_parts : (names : Declared) (w v : CodeWriter) (d : Data) → IsShort d → WroteParts names w v (bodies_of d) → w.code ≡ [] → length v.code ≤ 1024 → IsWritten names w.scope d v.code (length v.texts)
+written_parts : (names : Declared) (w v : CodeBuilder) (d : Data) → IsShort d → WroteParts names w v (bodies_of d) → w.code ≡ [] → length v.code ≤ 1024 → IsWritten names w.scope d v.code (length v.texts)
 unfolding agent_bodies_of
 written_parts names w v d short p e l =
     let same : v.code ≡ flatten p.parts = p.same ∙ ap (λ (c : List Instr). c ++ flatten p.parts) e in
@@ -751,25 +751,25 @@ written_parts names w v d short p e l =
       named = λ few. subst (AllByRecursion (NamesWithin (allows names w.scope (length v.texts)))) (sym same) (p.named few);
     }
 
-pub agent_is_written : (names : Declared) (w : CodeWriter) (d : Data) → IsShort d → w.code ≡ [] → length (agent_written names w d).code ≤ 1024
+pub agent_is_written : (names : Declared) (w : CodeBuilder) (d : Data) → IsShort d → w.code ≡ [] → length (agent_written names w d).code ≤ 1024
     → IsWritten names w.scope d (agent_written names w d).code (length (agent_written names w d).texts)
 agent_is_written names w d short e l = written_parts names w (agent_written names w d) d short (wrote_agent names w d) e l
 
 -- the texts of an agent are numbered in the order of its code, after those before
-pub agent_numbers : (names : Declared) (w : CodeWriter) (d : Data) → w.code ≡ [] → length (agent_written names w d).texts ≤ 4096
+pub agent_numbers : (names : Declared) (w : CodeBuilder) (d : Data) → w.code ≡ [] → length (agent_written names w d).texts ≤ 4096
     → given_after (length w.texts) (text_uses (agent_written names w d).code) ≡ Some (length (agent_written names w d).texts)
 agent_numbers names w d e few =
     let p = wrote_agent names w d in
     let same : (agent_written names w d).code ≡ flatten p.parts = p.same ∙ ap (λ (c : List Instr). c ++ flatten p.parts) e in
     ap (λ c. given_after (length w.texts) (text_uses c)) same ∙ p.numbered few
 
-pub agent_grows : (names : Declared) (w : CodeWriter) (d : Data) → length w.texts ≤ length (agent_written names w d).texts
+pub agent_grows : (names : Declared) (w : CodeBuilder) (d : Data) → length w.texts ≤ length (agent_written names w d).texts
 agent_grows names w d = (wrote_agent names w d).grows
 
-pub agent_scope : (names : Declared) (w : CodeWriter) (d : Data) → (agent_written names w d).scope ≡ w.scope
+pub agent_scope : (names : Declared) (w : CodeBuilder) (d : Data) → (agent_written names w d).scope ≡ w.scope
 agent_scope names w d = (wrote_agent names w d).scope
 
-pub agent_texts : (names : Declared) (w : CodeWriter) (d : Data) → AllByRecursion (λ t. is_text t ≡ true) w.texts → AllByRecursion (λ t. is_text t ≡ true) (agent_written names w d).texts
+pub agent_texts : (names : Declared) (w : CodeBuilder) (d : Data) → AllByRecursion (λ t. is_text t ≡ true) w.texts → AllByRecursion (λ t. is_text t ≡ true) (agent_written names w d).texts
 agent_texts names w d = (wrote_agent names w d).texts
 
 long_if : (a b : Bool) → (a || b) ≡ false → (a ≡ false) × (b ≡ false)
@@ -781,7 +781,7 @@ is_short d e =
     let p = long_if (nat_lt 63 (items_len (state_items d))) (nat_lt 128 (items_len (row_items d))) e in
     record { states = ltb-false 63 (items_len (state_items d)) p.0; rows = ltb-false 128 (items_len (row_items d)) p.1 }
 
-pub code_of_writer : (names : Declared) (w v : CodeWriter) (d : Data) (code : List Instr) → is_long d ≡ false → agent_written names w d ≡ v → w.code ≡ [] → code ≡ v.code → length v.code ≤ 1024 → IsCode code
+pub code_of_writer : (names : Declared) (w v : CodeBuilder) (d : Data) (code : List Instr) → is_long d ≡ false → agent_written names w d ≡ v → w.code ≡ [] → code ≡ v.code → length v.code ≤ 1024 → IsCode code
 code_of_writer names w v d code short written empty same l =
-    subst IsCode (ap (λ (x : CodeWriter). x.code) written ∙ sym same)
-    (agent_is_written names w d (is_short d short) empty (subst (λ (x : CodeWriter). length x.code ≤ 1024) (sym written) l)).code
+    subst IsCode (ap (λ (x : CodeBuilder). x.code) written ∙ sym same)
+    (agent_is_written names w d (is_short d short) empty (subst (λ (x : CodeBuilder). length x.code ≤ 1024) (sym written) l)).code

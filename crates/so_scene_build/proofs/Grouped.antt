@@ -19,7 +19,7 @@ use Rattle.so_scene.specs.declared.parts.AgentDef.{AgentDef}
 use Rattle.so_scene.proofs.Positions.{added_distinct, no_names as no_distinct}
 use Rattle.so_scene_build.specs.declared.groups.Group.{Group}
 use Rattle.so_scene_fields.specs.Visits.{narrow}
-use Rattle.so_scene_build.specs.CodeWriter.{number_or_next}
+use Rattle.so_scene_build.specs.CodeBuilder.{number_or_next}
 use Rattle.so_scene_build.specs.Groups.{is_of, group_name, names_for, names_at, group_lists, with_name, with_group, number_for, group_number}
 use Rattle.so_scene_build.specs.Kept.{agent_group, is_on, uses_on}
 use Rattle.so_scene_fields.proofs.Ends.{length_map}

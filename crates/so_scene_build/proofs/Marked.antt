@@ -19,13 +19,13 @@ use Rattle.so_scene.specs.Written.{may_be_safe, is_safe_row, is_marked, is_marke
 use Rattle.so_scene_fields.specs.declared.act_table.Allowed.{Allowed}
 use Rattle.so_scene_fields.specs.declared.act_table.Allowed.TheVariants.{AnyAct, NoSwitch, Safe}
 use Rattle.so_scene_passes.specs.declared.declare.Declared.{Declared}
-use Rattle.so_scene_build.specs.declared.code_writer.CodeWriter.{CodeWriter}
+use Rattle.so_scene_build.specs.declared.code_builder.CodeBuilder.{CodeBuilder}
 use Rattle.so_scene_fields.specs.ActTable.{handler_acts}
 use Rattle.so_scene_build.specs.Build.{body_written, start_written, state_written, states_written, row_body, handler_written, rows_written, agent_written}
 use Rattle.so_scene_passes.specs.Scope.{state_items, row_items}
 use Rattle.so_scene_fields.specs.Values.{is_safe}
 use Rattle.so_scene_fields.specs.Visits.{narrow, list_of, listed}
-use Rattle.so_scene_build.specs.CodeWriter.{acts_written, state_id}
+use Rattle.so_scene_build.specs.CodeBuilder.{acts_written, state_id}
 use Rattle.so_scene_build.proofs.Codes.{switches, restrains, wrote_acts}
 
 -- ---- one body
@@ -49,7 +49,7 @@ body_safe rows may (i ∷ acts) b more h safe a = (
 abbrev KeepsSafe : List Row → List Instr → Type 0
 KeepsSafe rows code = (more : List Instr) → AreSafe rows more → AreSafe rows (code ++ more)
 
-body_keeps : (names : Declared) (rows : List Row) (allowed : Allowed) (b : Body) (w : CodeWriter) (found : Option Data) → (is_marked rows b ≡ true → restrains allowed ≡ true) → KeepsSafe rows w.code → KeepsSafe rows (body_written names allowed b w found).code
+body_keeps : (names : Declared) (rows : List Row) (allowed : Allowed) (b : Body) (w : CodeBuilder) (found : Option Data) → (is_marked rows b ≡ true → restrains allowed ≡ true) → KeepsSafe rows w.code → KeepsSafe rows (body_written names allowed b w found).code
 body_keeps names rows allowed b w found h keeps more a =
     let wrote = wrote_acts names allowed w (list_of found) in
     let same : ((acts_written names allowed w (list_of found)).code ++ instr.End b ∷ []) ++ more ≡ w.code ++ (wrote.acts ++ instr.End b ∷ more) =
@@ -61,17 +61,17 @@ unmarked allowed e = absurd (true≢false (sym e))
 
 -- ---- start, finish and states
 
-start_keeps : (names : Declared) (rows : List Row) (w : CodeWriter) (d : Data) → KeepsSafe rows w.code → KeepsSafe rows (start_written names w d).code
+start_keeps : (names : Declared) (rows : List Row) (w : CodeBuilder) (d : Data) → KeepsSafe rows w.code → KeepsSafe rows (start_written names w d).code
 start_keeps names rows w d k =
     body_keeps names rows AnyAct body.Finish (body_written names AnyAct body.Start w (get (codes "start") d)) (get (codes "finish") d) (unmarked AnyAct)
     (body_keeps names rows AnyAct body.Start w (get (codes "start") d) (unmarked AnyAct) k)
 
-state_keeps : (names : Declared) (rows : List Row) (k : ℕ) (w : CodeWriter) (d : Data) → KeepsSafe rows w.code → KeepsSafe rows (state_written names k w d).code
+state_keeps : (names : Declared) (rows : List Row) (k : ℕ) (w : CodeBuilder) (d : Data) → KeepsSafe rows w.code → KeepsSafe rows (state_written names k w d).code
 state_keeps names rows k w d keeps =
     body_keeps names rows NoSwitch (body.Exit (state_id k)) (body_written names NoSwitch (body.Enter (state_id k)) w (get (codes "enter") d)) (get (codes "exit") d) (unmarked NoSwitch)
     (body_keeps names rows NoSwitch (body.Enter (state_id k)) w (get (codes "enter") d) (unmarked NoSwitch) keeps)
 
-states_keep : (names : Declared) (rows : List Row) (k : ℕ) (w : CodeWriter) (ds : Items) → KeepsSafe rows w.code → KeepsSafe rows (states_written names k w ds).code
+states_keep : (names : Declared) (rows : List Row) (k : ℕ) (w : CodeBuilder) (ds : Items) → KeepsSafe rows w.code → KeepsSafe rows (states_written names k w ds).code
 unfolding states_written
 states_keep names rows k w no_items keeps = keeps
 states_keep names rows k w (item d ds) keeps = states_keep names rows (suc k) (state_written names k w d) ds (state_keeps names rows k w d keeps)
@@ -91,7 +91,7 @@ restrained : (b : Bool) → b ≡ true → restrains (if b then Safe else AnyAct
 restrained true e = refl
 restrained false e = absurd (true≢false (sym e))
 
-handler_keeps : (names : Declared) (rows : List Row) (allowed : Allowed) (b : Body) (w : CodeWriter) (found : Option Data) → (is_marked rows b ≡ true → restrains allowed ≡ true) → KeepsSafe rows w.code → KeepsSafe rows (handler_written names allowed b w found).code
+handler_keeps : (names : Declared) (rows : List Row) (allowed : Allowed) (b : Body) (w : CodeBuilder) (found : Option Data) → (is_marked rows b ≡ true → restrains allowed ≡ true) → KeepsSafe rows w.code → KeepsSafe rows (handler_written names allowed b w found).code
 handler_keeps names rows allowed b w None h keeps = keeps
 handler_keeps names rows allowed b w (Some d) h keeps = body_keeps names rows allowed b w (Some d) h keeps
 
@@ -111,7 +111,7 @@ plus_next k j = omega arith
 few_from : (k n : ℕ) → k + suc n ≤ 128 → narrow k ≡ k
 few_from k n l = omega arith
 
-rows_keep : (names : Declared) (f : Data → Row) → AreAsSaid f → (all : List Data) (k : ℕ) (w : CodeWriter) (ds : Items) → k + items_len ds ≤ 128 → AreFrom k (listed ds) all → KeepsSafe (map f all) w.code → KeepsSafe (map f all) (rows_written names k w ds).code
+rows_keep : (names : Declared) (f : Data → Row) → AreAsSaid f → (all : List Data) (k : ℕ) (w : CodeBuilder) (ds : Items) → k + items_len ds ≤ 128 → AreFrom k (listed ds) all → KeepsSafe (map f all) w.code → KeepsSafe (map f all) (rows_written names k w ds).code
 unfolding rows_written
 rows_keep names f said all k w no_items few from keeps = keeps
 rows_keep names f said all k w (item d ds) few from keeps =
@@ -120,7 +120,7 @@ rows_keep names f said all k w (item d ds) few from keeps =
     rows_keep names f said all (suc k) (handler_written names (handler_acts d) (row_body k) w (get (codes "do") d)) ds (omega (arith, few)) (λ j. from (suc j) ∙ ap (slice_get all) (plus_next k j))
     (handler_keeps names (map f all) (handler_acts d) (row_body k) w (get (codes "do") d) (λ m. restrained (is_safe d) (sym marked ∙ m)) keeps)
 
-pub agent_safe : (names : Declared) (f : Data → Row) (w : CodeWriter) (d : Data) → AreAsSaid f → items_len (row_items d) ≤ 128 → w.code ≡ [] → AreSafe (map f (listed (row_items d))) (agent_written names w d).code
+pub agent_safe : (names : Declared) (f : Data → Row) (w : CodeBuilder) (d : Data) → AreAsSaid f → items_len (row_items d) ≤ 128 → w.code ≡ [] → AreSafe (map f (listed (row_items d))) (agent_written names w d).code
 agent_safe names f w d said few e =
     let rows = map f (listed (row_items d)) in
     let empty : KeepsSafe rows w.code = λ more a. subst (λ c. AreSafe rows (c ++ more)) (sym e) a in

@@ -23,7 +23,7 @@ use Rattle.so_scene.specs.declared.parts.MessageDef.{MessageDef}
 use Rattle.so_scene.specs.Names.{number_in}
 use Rattle.so_scene.specs.Parts.{no_message}
 use Rattle.so_scene.specs.Words.{is_name}
-use Rattle.so_scene.specs.Written.{IsOperand, is_zero, ArePadded, AreOperands, IsWrittenAmong, are_short}
+use Rattle.so_scene.specs.Written.{IsWrittenOperand, is_zero, ArePadded, AreOperands, IsWrittenAmong, are_short}
 use Rattle.so_scene_fields.specs.declared.act_table.Allowed.{Allowed}
 use Rattle.so_scene_fields.specs.declared.act_table.Allowed.TheVariants.{AnyAct, NoSwitch}
 use Rattle.so_scene_fields.specs.declared.act_table.Word.{Word}
@@ -31,7 +31,7 @@ use Rattle.so_scene_fields.specs.declared.act_table.Word.TheVariants as word
 use Rattle.so_scene_passes.specs.declared.declare.Declared.{Declared}
 use Rattle.so_scene_fields.specs.declared.table.Space.TheVariants as space
 use Rattle.so_scene_fields.specs.declared.values.Trouble.TheVariants.{OutOfRange}
-use Rattle.so_scene_build.specs.declared.code_writer.CodeWriter.{CodeWriter}
+use Rattle.so_scene_build.specs.declared.code_builder.CodeBuilder.{CodeBuilder}
 use Rattle.so_scene_fields.specs.ActTable.{word_named, is_allowed, handler_acts}
 use Rattle.so_scene_fields.specs.Acts.{act_parts}
 use Rattle.so_scene_build.specs.Build.{body_written, start_written, state_written, states_written, row_body, handler_written, rows_written, agent_written}
@@ -41,7 +41,7 @@ use Rattle.so_scene_passes.specs.Scope.{state_items, row_items}
 use Rattle.so_scene_passes.specs.Twice.{names_in}
 use Rattle.so_scene_fields.specs.Values.{◌or◌, read_or, text_or_empty, operand_of}
 use Rattle.so_scene_fields.specs.Visits.{narrow, list_of, listed}
-use Rattle.so_scene_build.specs.CodeWriter.{operand_at, args_from, string_at, send_instr, state_at, row_at, filter_at, coop_at, or_idle, idle, with_instr, word_written, parts_written, if_allowed, act_written, acts_written, state_id}
+use Rattle.so_scene_build.specs.CodeBuilder.{operand_at, args_from, string_at, send_instr, state_at, row_at, filter_at, coop_at, or_idle, idle, with_instr, word_written, parts_written, if_allowed, act_written, acts_written, state_id}
 use Rattle.so_scene_build.proofs.Codes.{switches, wrote_acts}
 use Rattle.so_scene_fields.proofs.Ends.{all_of}
 use Rattle.so_scene_fields.proofs.Numbers.{OnSome, get_numbers, item_numbers, list_numbers, operand_read}
@@ -49,7 +49,7 @@ use Rattle.so_scene_passes.proofs.Passed.{IsWordKnown, ArePartsKnown, IsActKnown
 
 -- ---- operands
 
-operand_said : (i : ℕ) (ds : Items) → HaveNumbers ds → IsOperand (operand_at i ds)
+operand_said : (i : ℕ) (ds : Items) → HaveNumbers ds → IsWrittenOperand (operand_at i ds)
 operand_said i ds h = operand_read (get_item i ds) (item_numbers i ds h)
 
 no_item : (i : ℕ) (ds : Items) → items_len ds ≤ i → get_item i ds ≡ None
@@ -60,7 +60,7 @@ no_item (suc i) (item d ds) l = no_item i ds (omega arith)
 beyond : (i : ℕ) (ds : Items) → items_len ds ≤ i → is_zero (operand_at i ds) ≡ true
 beyond i ds l = ap (λ o. is_zero (read_or (operand.Num (pos 0)) operand_of o)) (no_item i ds l)
 
-pads : (u : ℕ) (a b c d : Operand) → IsOperand a → IsOperand b → IsOperand c → IsOperand d
+pads : (u : ℕ) (a b c d : Operand) → IsWrittenOperand a → IsWrittenOperand b → IsWrittenOperand c → IsWrittenOperand d
     → (u < 1 → is_zero a ≡ true) → (u < 2 → is_zero b ≡ true) → (u < 3 → is_zero c ≡ true) → (u < 4 → is_zero d ≡ true) → ArePadded u (a ∷ b ∷ c ∷ d ∷ [])
 pads zero a b c d k l m n e f g h = (e (omega arith), (f (omega arith), (g (omega arith), (h (omega arith), tt))))
 pads (suc zero) a b c d k l m n e f g h = (k, (f (omega arith), (g (omega arith), (h (omega arith), tt))))
@@ -134,14 +134,14 @@ sent messages None m args h k = tt
 abbrev AreWritten : List MessageDef → List Instr → Type 0
 AreWritten messages code = AllByRecursion (IsWrittenAmong messages) code
 
-pushed : (messages : List MessageDef) (w : CodeWriter) (i : Instr) → AreWritten messages w.code → IsWrittenAmong messages i → AreWritten messages (with_instr i w).code
+pushed : (messages : List MessageDef) (w : CodeBuilder) (i : Instr) → AreWritten messages w.code → IsWrittenAmong messages i → AreWritten messages (with_instr i w).code
 pushed messages w i a h = each-append (IsWrittenAmong messages) w.code (i ∷ []) a (h, tt)
 
 or_said : {X : Type 0} (messages : List MessageDef) (f : X → Instr) (o : Option X) → ((x : X) → IsWrittenAmong messages (f x)) → IsWrittenAmong messages (or_idle f o)
 or_said messages f None h = tt
 or_said messages f (Some x) h = h x
 
-word_said : (names : Declared) (messages : List MessageDef) → AreMessages names messages → (rest : ℕ) (w : CodeWriter) (wd : Word) (ds : Items) → IsWordKnown names wd ds → HaveNumbers ds → AreWritten messages w.code → AreWritten messages (word_written names rest w wd ds).code
+word_said : (names : Declared) (messages : List MessageDef) → AreMessages names messages → (rest : ℕ) (w : CodeBuilder) (wd : Word) (ds : Items) → IsWordKnown names wd ds → HaveNumbers ds → AreWritten messages w.code → AreWritten messages (word_written names rest w wd ds).code
 word_said names messages m rest w word.Set ds h n a = pushed messages w _ a (operand_said 1 ds n)
 word_said names messages m rest w word.Add ds h n a = pushed messages w _ a (operand_said 1 ds n, operand_said 2 ds n)
 word_said names messages m rest w word.Sub ds h n a = pushed messages w _ a (operand_said 1 ds n, operand_said 2 ds n)
@@ -160,14 +160,14 @@ word_said names messages m rest w word.Register ds h n a = pushed messages w _ a
 word_said names messages m rest w word.Deregister ds h n a = pushed messages w _ a (or_said messages instr.Deregister (coop_at names ds) (λ x. tt))
 word_said names messages m rest w other ds h n a = pushed messages w _ a tt
 
-if_said : (names : Declared) (messages : List MessageDef) → AreMessages names messages → (rest : ℕ) (w : CodeWriter) (p : Word × Items) (b : Bool) → IsWordKnown names p.0 p.1 → HaveNumbers p.1 → AreWritten messages w.code → AreWritten messages (parts_written names rest w (if b then Some p else None)).code
+if_said : (names : Declared) (messages : List MessageDef) → AreMessages names messages → (rest : ℕ) (w : CodeBuilder) (p : Word × Items) (b : Bool) → IsWordKnown names p.0 p.1 → HaveNumbers p.1 → AreWritten messages w.code → AreWritten messages (parts_written names rest w (if b then Some p else None)).code
 if_said names messages m rest w p true h n a = word_said names messages m rest w p.0 p.1 h n a
 if_said names messages m rest w p false h n a = pushed messages w idle a tt
 
 PartsNumbers : Option (Word × Items) → Type 0
 PartsNumbers o = OnSome (λ p. HaveNumbers p.1) o
 
-parts_said : (names : Declared) (messages : List MessageDef) → AreMessages names messages → (allowed : Allowed) (rest : ℕ) (w : CodeWriter) (o : Option (Word × Items)) → ArePartsKnown names o → PartsNumbers o → AreWritten messages w.code → AreWritten messages (parts_written names rest w (if_allowed allowed o)).code
+parts_said : (names : Declared) (messages : List MessageDef) → AreMessages names messages → (allowed : Allowed) (rest : ℕ) (w : CodeBuilder) (o : Option (Word × Items)) → ArePartsKnown names o → PartsNumbers o → AreWritten messages w.code → AreWritten messages (parts_written names rest w (if_allowed allowed o)).code
 unfolding PartsNumbers
 parts_said names messages m allowed rest w None h n a = pushed messages w idle a tt
 parts_said names messages m allowed rest w (Some p) h n a = if_said names messages m rest w p (is_allowed allowed p.0 p.1) h n a
@@ -187,7 +187,7 @@ parts_numbers (array no_items) h = tt
 parts_numbers (array (item d ds)) h = with_numbers (option_and_then word_named (as_str d)) ds h.1
 parts_numbers (object ms) h = tt
 
-acts_said : (names : Declared) (messages : List MessageDef) → AreMessages names messages → (allowed : Allowed) (w : CodeWriter) (ds : Items) → AllByRecursion (IsActKnown names) (listed ds) → HaveNumbers ds → AreWritten messages w.code → AreWritten messages (acts_written names allowed w ds).code
+acts_said : (names : Declared) (messages : List MessageDef) → AreMessages names messages → (allowed : Allowed) (w : CodeBuilder) (ds : Items) → AllByRecursion (IsActKnown names) (listed ds) → HaveNumbers ds → AreWritten messages w.code → AreWritten messages (acts_written names allowed w ds).code
 unfolding acts_written
 acts_said names messages m allowed w no_items h n a = a
 acts_said names messages m allowed w (item d ds) h n a =
@@ -215,7 +215,7 @@ pub record AreSaid (messages : List MessageDef) (code : List Instr) : Type 0 whe
   pub written : AllByRecursion (IsWrittenAmong messages) code
   pub short : (more : List Instr) → are_short 0 more ≡ true → are_short 0 (code ++ more) ≡ true
 
-body_said : (names : Declared) (messages : List MessageDef) → AreMessages names messages → (allowed : Allowed) (b : Body) (w : CodeWriter) (found : Option Data) → AreActs names found → OnSome HasNumbers found → AreSaid messages w.code → AreSaid messages (body_written names allowed b w found).code
+body_said : (names : Declared) (messages : List MessageDef) → AreMessages names messages → (allowed : Allowed) (b : Body) (w : CodeBuilder) (found : Option Data) → AreActs names found → OnSome HasNumbers found → AreSaid messages w.code → AreSaid messages (body_written names allowed b w found).code
 body_said names messages m allowed b w found h n a =
     let wrote = wrote_acts names allowed w (list_of found) in
     record {
@@ -227,28 +227,28 @@ body_said names messages m allowed b w found h n a =
           ap (are_short 0) same ∙ ends;
     }
 
-state_said : (names : Declared) (messages : List MessageDef) → AreMessages names messages → (k : ℕ) (w : CodeWriter) (d : Data) → HasState names d → HasNumbers d → AreSaid messages w.code → AreSaid messages (state_written names k w d).code
+state_said : (names : Declared) (messages : List MessageDef) → AreMessages names messages → (k : ℕ) (w : CodeBuilder) (d : Data) → HasState names d → HasNumbers d → AreSaid messages w.code → AreSaid messages (state_written names k w d).code
 state_said names messages m k w d h n a =
     body_said names messages m NoSwitch (body.Exit (state_id k)) (body_written names NoSwitch (body.Enter (state_id k)) w (get (codes "enter") d)) (get (codes "exit") d) h.exit (get_numbers (codes "exit") d n)
     (body_said names messages m NoSwitch (body.Enter (state_id k)) w (get (codes "enter") d) h.enter (get_numbers (codes "enter") d n) a)
 
-states_said : (names : Declared) (messages : List MessageDef) → AreMessages names messages → (k : ℕ) (w : CodeWriter) (ds : Items) → AllByRecursion (HasState names) (listed ds) → HaveNumbers ds → AreSaid messages w.code → AreSaid messages (states_written names k w ds).code
+states_said : (names : Declared) (messages : List MessageDef) → AreMessages names messages → (k : ℕ) (w : CodeBuilder) (ds : Items) → AllByRecursion (HasState names) (listed ds) → HaveNumbers ds → AreSaid messages w.code → AreSaid messages (states_written names k w ds).code
 unfolding states_written
 states_said names messages m k w no_items h n a = a
 states_said names messages m k w (item d ds) h n a = states_said names messages m (suc k) (state_written names k w d) ds h.1 n.1 (state_said names messages m k w d h.0 n.0 a)
 
-handler_said : (names : Declared) (messages : List MessageDef) → AreMessages names messages → (allowed : Allowed) (b : Body) (w : CodeWriter) (found : Option Data) → AreActs names found → OnSome HasNumbers found → AreSaid messages w.code → AreSaid messages (handler_written names allowed b w found).code
+handler_said : (names : Declared) (messages : List MessageDef) → AreMessages names messages → (allowed : Allowed) (b : Body) (w : CodeBuilder) (found : Option Data) → AreActs names found → OnSome HasNumbers found → AreSaid messages w.code → AreSaid messages (handler_written names allowed b w found).code
 handler_said names messages m allowed b w None h n a = a
 handler_said names messages m allowed b w (Some d) h n a = body_said names messages m allowed b w (Some d) h n a
 
-rows_said : (names : Declared) (messages : List MessageDef) → AreMessages names messages → (i : ℕ) (w : CodeWriter) (ds : Items) → AllByRecursion (HasRow names) (listed ds) → HaveNumbers ds → AreSaid messages w.code → AreSaid messages (rows_written names i w ds).code
+rows_said : (names : Declared) (messages : List MessageDef) → AreMessages names messages → (i : ℕ) (w : CodeBuilder) (ds : Items) → AllByRecursion (HasRow names) (listed ds) → HaveNumbers ds → AreSaid messages w.code → AreSaid messages (rows_written names i w ds).code
 unfolding rows_written
 rows_said names messages m i w no_items h n a = a
 rows_said names messages m i w (item d ds) h n a =
     rows_said names messages m (suc i) (handler_written names (handler_acts d) (row_body i) w (get (codes "do") d)) ds h.1 n.1
     (handler_said names messages m (handler_acts d) (row_body i) w (get (codes "do") d) h.0.acts (get_numbers (codes "do") d n.0) a)
 
-start_said : (names : Declared) (messages : List MessageDef) → AreMessages names messages → (w : CodeWriter) (d : Data) → IsFineAgent names d → AreSaid messages w.code → AreSaid messages (start_written names w d).code
+start_said : (names : Declared) (messages : List MessageDef) → AreMessages names messages → (w : CodeBuilder) (d : Data) → IsFineAgent names d → AreSaid messages w.code → AreSaid messages (start_written names w d).code
 start_said names messages m w d h a =
     body_said names messages m AnyAct body.Finish (body_written names AnyAct body.Start w (get (codes "start") d)) (get (codes "finish") d) h.finish (get_numbers (codes "finish") d h.numbers)
     (body_said names messages m AnyAct body.Start w (get (codes "start") d) h.start (get_numbers (codes "start") d h.numbers) a)
@@ -256,7 +256,7 @@ start_said names messages m w d h a =
 nothing_said : (messages : List MessageDef) (code : List Instr) → code ≡ [] → AreSaid messages code
 nothing_said messages code e = subst (AreSaid messages) (sym e) (record { written = tt; short = λ more s. s })
 
-pub agent_said : (names : Declared) (messages : List MessageDef) → AreMessages names messages → (w : CodeWriter) (d : Data) → IsFineAgent names d → w.code ≡ [] → AreSaid messages (agent_written names w d).code
+pub agent_said : (names : Declared) (messages : List MessageDef) → AreMessages names messages → (w : CodeBuilder) (d : Data) → IsFineAgent names d → w.code ≡ [] → AreSaid messages (agent_written names w d).code
 agent_said names messages m w d h e =
     rows_said names messages m 0 _ (row_items d) h.rows (list_numbers (get (codes "on") d) (get_numbers (codes "on") d h.numbers))
     (states_said names messages m 1 _ (state_items d) h.states (list_numbers (get (codes "states") d) (get_numbers (codes "states") d h.numbers))

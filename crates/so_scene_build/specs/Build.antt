@@ -14,10 +14,10 @@ use Rattle.so_state.specs.declared.faults.TreeFault.{TreeFault}
 use Rattle.so_state.specs.declared.states.State.{State}
 use Rattle.so_state.specs.Fault.{tree_fault, named}
 use Rattle.so_scene.specs.Parts.{default_disp}
-use Rattle.so_scene.specs.declared.place.Field.TheVariants.{States}
-use Rattle.so_scene.specs.declared.place.PlaceStep.TheVariants.{Key}
-use Rattle.so_scene.specs.declared.fault.SceneFault.{SceneFault}
-use Rattle.so_scene.specs.declared.fault.SceneFault.TheVariants as fault
+use Rattle.so_fault.specs.declared.place.Field.TheVariants.{States}
+use Rattle.so_fault.specs.declared.place.PlaceStep.TheVariants.{Key}
+use Rattle.so_fault.specs.declared.fault.SceneFault.{SceneFault}
+use Rattle.so_fault.specs.declared.fault.SceneFault.TheVariants as fault
 use Rattle.so_scene.specs.declared.parts.AgentDef.{AgentDef}
 use Rattle.so_scene.specs.declared.parts.CoopDef.{CoopDef}
 use Rattle.so_scene_fields.specs.declared.act_table.Allowed.{Allowed}
@@ -26,7 +26,7 @@ use Rattle.so_scene_fields.specs.declared.table.ObjectKind.{ObjectKind}
 use Rattle.so_scene_fields.specs.declared.table.ObjectKind.TheVariants as object
 use Rattle.so_scene_passes.specs.declared.declare.Declared.{Declared}
 use Rattle.so_scene_passes.specs.declared.scope.Scope.{Scope}
-use Rattle.so_scene_build.specs.declared.code_writer.CodeWriter.{CodeWriter}
+use Rattle.so_scene_build.specs.declared.code_builder.CodeBuilder.{CodeBuilder}
 use Rattle.so_scene_build.specs.declared.groups.Group.{Group}
 use Rattle.so_scene_build.specs.declared.build.Build.{Build}
 use Rattle.so_scene_fields.specs.Values.{name_in, group_in, flag_of, read_or}
@@ -34,45 +34,45 @@ use Rattle.so_scene_build.specs.Groups.{with_group, group_number}
 use Rattle.so_scene_passes.specs.Scope.{state_items, row_items, filter_items, scope_of}
 use Rattle.so_scene_fields.specs.ActTable.{handler_acts}
 use Rattle.so_scene_build.specs.Defs.{message_of, vars_of, disp_of, disp_in, coop_of, priority_in, states_of, rows_of, filters_of}
-use Rattle.so_scene_build.specs.CodeWriter.{with_instr, acts_written, state_id}
+use Rattle.so_scene_build.specs.CodeBuilder.{with_instr, acts_written, state_id}
 use Rattle.so_scene_fields.specs.Visits.{Visit, enters, tries, leaves, Place, at_item, narrow, list_of, ◌>>=◌}
 
 -- ---- the code of an agent: start, finish, then enter and exit of each state, then each row with a handler, each of these
 -- a body and its end
 
-abbrev pub body_written : Declared → Allowed → Body → CodeWriter → Option Data → CodeWriter
+abbrev pub body_written : Declared → Allowed → Body → CodeBuilder → Option Data → CodeBuilder
 body_written names allowed b w found = with_instr (instr.End b) (acts_written names allowed w (list_of found))
 
-abbrev pub start_written : Declared → CodeWriter → Data → CodeWriter
+abbrev pub start_written : Declared → CodeBuilder → Data → CodeBuilder
 start_written names w d =
     body_written names AnyAct body.Finish
     (body_written names AnyAct body.Start w (get (codes "start") d))
     (get (codes "finish") d)
 
-abbrev pub state_written : Declared → ℕ → CodeWriter → Data → CodeWriter
+abbrev pub state_written : Declared → ℕ → CodeBuilder → Data → CodeBuilder
 state_written names k w d =
     body_written names NoSwitch (body.Exit (state_id k))
     (body_written names NoSwitch (body.Enter (state_id k)) w (get (codes "enter") d))
     (get (codes "exit") d)
 
 -- the bodies of the states from number k on
-unfoldable pub states_written : Declared → ℕ → CodeWriter → Items → CodeWriter
+unfoldable pub states_written : Declared → ℕ → CodeBuilder → Items → CodeBuilder
 states_written names k w no_items = w
 states_written names k w (item d ds) = states_written names (suc k) (state_written names k w d) ds
 
 abbrev pub row_body : ℕ → Body
 row_body i = body.Row (record { 0 = narrow i })
 
-abbrev pub handler_written : Declared → Allowed → Body → CodeWriter → Option Data → CodeWriter
+abbrev pub handler_written : Declared → Allowed → Body → CodeBuilder → Option Data → CodeBuilder
 handler_written names allowed b w None = w
 handler_written names allowed b w (Some d) = body_written names allowed b w (Some d)
 
 -- the bodies of the rows from number i on
-unfoldable pub rows_written : Declared → ℕ → CodeWriter → Items → CodeWriter
+unfoldable pub rows_written : Declared → ℕ → CodeBuilder → Items → CodeBuilder
 rows_written names i w no_items = w
 rows_written names i w (item d ds) = rows_written names (suc i) (handler_written names (handler_acts d) (row_body i) w (get (codes "do") d)) ds
 
-abbrev pub agent_written : Declared → CodeWriter → Data → CodeWriter
+abbrev pub agent_written : Declared → CodeBuilder → Data → CodeBuilder
 agent_written names w d = rows_written names 0 (states_written names 1 (start_written names w d) (state_items d)) (row_items d)
 
 -- ---- the tree of an agent's states
@@ -136,18 +136,18 @@ agent_with a coop names groups d tree scope code = record {
   code = code;
 }
 
-abbrev pub agent_of : ℕ → CoopId → Declared → List Group → Data → List State → CodeWriter → AgentDef
+abbrev pub agent_of : ℕ → CoopId → Declared → List Group → Data → List State → CodeBuilder → AgentDef
 agent_of a coop names groups d tree w = agent_with a coop names groups d tree w.scope w.code
 
 -- a writer for an agent, with the texts so far
-abbrev pub fresh : List (List ℕ) → Data → CodeWriter
+abbrev pub fresh : List (List ℕ) → Data → CodeBuilder
 fresh texts d = record { texts = texts; code = []; scope = scope_of d }
 
-abbrev pub written : Build → Data → CodeWriter
+abbrev pub written : Build → Data → CodeBuilder
 written s d = agent_written s.names (fresh s.texts d) d
 
 -- an agent, with its texts and its group
-abbrev pub agent_added : Build → Data → List State → CodeWriter → Build
+abbrev pub agent_added : Build → Data → List State → CodeBuilder → Build
 agent_added s d tree w = record s {
   coops = one_more s.coops;
   agents = s.agents ++ agent_of (length s.agents) (last_coop s.coops) s.names s.groups d tree w ∷ [];
@@ -156,7 +156,7 @@ agent_added s d tree w = record s {
 }
 
 -- an agent whose code has more than 1,024 instructions is out of range
-abbrev pub with_code : Place → Build → Data → List State → CodeWriter → Result Build SceneFault
+abbrev pub with_code : Place → Build → Data → List State → CodeBuilder → Result Build SceneFault
 with_code place s d tree w = if nat_lt 1024 (length w.code) then Err (fault.OutOfRange place) else Ok (agent_added s d tree w)
 
 -- more states or rows than the first pass lets through

@@ -5,7 +5,7 @@ use Rattle.so_ids.specs.declared.DispId.{DispId}
 use Rattle.so_lists.specs.Lists.{each_below}
 use Rattle.so_scene.specs.Names.{number_in, has_name}
 use Rattle.so_scene_build.specs.declared.groups.Group.{Group}
-use Rattle.so_scene_build.specs.CodeWriter.{number_or_next}
+use Rattle.so_scene_build.specs.CodeBuilder.{number_or_next}
 
 abbrev pub is_of : DispId → Group → Bool
 is_of d g = g.disp.0 == d.0

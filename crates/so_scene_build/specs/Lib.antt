@@ -1,4 +1,4 @@
-pub mod CodeWriter
+pub mod CodeBuilder
 pub mod Groups
 pub mod Defs
 pub mod Build

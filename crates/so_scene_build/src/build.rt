@@ -12,7 +12,7 @@ ghost use Rattle.so_scene_fields.specs.Reads.{Reads, Returns};
 ghost use Rattle.so_scene_fields.specs.Visits.{list_of, Leaves};
 ghost use Rattle.so_state.specs.Fault.{named};
 
-use crate::code_writer::CodeWriter;
+use crate::code_builder::CodeBuilder;
 use crate::defs::{
     coop_of, default_disp, disp_in, disp_of, filters_in, message_of, priority_in, rows_in,
     states_in, vars_of,
@@ -20,11 +20,9 @@ use crate::defs::{
 use crate::groups::{Group, add_group, group_number};
 use serde_json::Value;
 use so_code::{Body, Code, Instr};
+use so_fault::{Field, PlaceStep, SceneFault, ScenePlace, SceneRefusal};
 use so_ids::{CoopId, RowId, StateId};
-use so_scene::{
-    AgentDef, CoopDef, DispDef, Field, Items, MessageDef, Name, Names, PlaceStep, SceneFault,
-    ScenePlace, SceneRefusal,
-};
+use so_scene::{AgentDef, CoopDef, DispDef, Items, MessageDef, Name, Names};
 use so_scene_fields::act_table::{Allowed, handler_acts};
 use so_scene_fields::table::{Form, ObjectKind, Rule};
 use so_scene_fields::values::{flag_or, group_in, object_name};
@@ -35,7 +33,7 @@ use so_state::{State, Tree, TreeFault};
 use std::alloc::Global;
 use std::mem;
 
-impl CodeWriter {
+impl CodeBuilder {
     /// A body, of acts that are allowed there, and its end.
     fn body(
         &mut self,
@@ -172,13 +170,13 @@ fn written(
     texts: Names,
     scope: Scope,
     value: &Value,
-) -> Result<CodeWriter, SceneRefusal>
+) -> Result<CodeBuilder, SceneRefusal>
     requires { is_long (view value.now) ≡ false }
     ensures value { Returns (agent_written names.now (record { texts = texts; code = []; scope = scope }) (view value.now)) result }
     ensures code { IfOk result (λ w. length w.code ≤ 1024 → IsCode w.code) }
 {
     let alloc = texts.alloc();
-    let mut writer = CodeWriter {
+    let mut writer = CodeBuilder {
         texts,
         code: Items::new(alloc),
         scope,
@@ -367,7 +365,7 @@ impl Build {
         let number = self.agents.len();
         let coop = last_coop(self.coops.as_slice());
         let texts = self.take_texts();
-        let CodeWriter { texts, code, scope } = written(&self.names, texts, scope, value)?;
+        let CodeBuilder { texts, code, scope } = written(&self.names, texts, scope, value)?;
         if code.len() > 1024 {
             return Err(SceneRefusal::Fault(SceneFault::OutOfRange(place.copy())));
         }

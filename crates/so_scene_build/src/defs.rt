@@ -9,13 +9,12 @@ ghost use Rattle.so_scene_fields.specs.Values.{value_in};
 ghost use Rattle.so_scene.specs.Parts.{default_disp};
 ghost use Rattle.so_scene_fields.specs.Reads.{Returns};
 
-use crate::code_writer::item;
+use crate::code_builder::item;
 use serde_json::Value;
 use so_code::Cmp;
+use so_fault::SceneRefusal;
 use so_ids::{AgentId, CoopId, DispId, MboxId, MsgId, Priority, StateId, Vars};
-use so_scene::{
-    CoopDef, DispDef, DispKind, Fifo, FilterDef, Items, MessageDef, Name, SceneRefusal,
-};
+use so_scene::{CoopDef, DispDef, DispKind, Fifo, FilterDef, Items, MessageDef, Name};
 use so_scene_fields::table::Space;
 use so_scene_fields::values::{
     comparison, disp_kind_in, fifo, flag_or, history, id_in, integer, is_safe, number, object_name,

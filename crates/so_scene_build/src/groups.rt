@@ -6,10 +6,11 @@ ghost use Rattle.so_scene.specs.Names.{number_in};
 ghost use Rattle.so_scene_build.specs.Groups.{is_of, names_for, with_name, with_group, group_number, group_lists};
 ghost use Rattle.so_scene_fields.specs.Reads.{Returns};
 ghost use Rattle.so_scene_fields.specs.Visits.{Leaves};
-ghost use Rattle.so_scene_build.specs.CodeWriter.{number_or_next};
+ghost use Rattle.so_scene_build.specs.CodeBuilder.{number_or_next};
 
+use so_fault::SceneRefusal;
 use so_ids::DispId;
-use so_scene::{Items, Name, SceneRefusal};
+use so_scene::{Items, Name};
 use so_scene_fields::walk::position;
 use std::alloc::Global;
 

@@ -5,6 +5,6 @@
 #![tactic(auto)]
 
 pub mod build;
-pub mod code_writer;
+pub mod code_builder;
 mod defs;
 pub mod groups;

@@ -8,8 +8,8 @@ use Rattle.serde_json.specs.Find.{get, get_member, get_item, as_i64}
 use Rattle.serde_json.specs.Read.{read}
 use Rattle.so_code.specs.declared.instr.Operand.{Operand}
 use Rattle.so_code.specs.declared.instr.Operand.TheVariants as operand
-use Rattle.so_scene.specs.Faults.{spelling}
-use Rattle.so_scene.specs.Written.{IsNumber, IsOperand}
+use Rattle.so_fault.specs.Faults.{spelling}
+use Rattle.so_scene.specs.Written.{IsNumber, IsWrittenOperand}
 use Rattle.so_scene_fields.specs.declared.values.Trouble.{Trouble}
 use Rattle.so_scene_fields.specs.declared.values.Trouble.TheVariants.{OutOfRange, WrongShape}
 use Rattle.so_scene_fields.specs.Values.{◌else◌, ◌or◌, ok_or, read_or, integer_of, numbered, operand_named, operand_of}
@@ -94,7 +94,7 @@ number_read (Some d) h = integer_fits d h
 
 -- ---- operands
 
-or_operand : (o : Option Operand) (t : Trouble) → OnSome IsOperand o → IsOperand (ok_or (operand.Num (pos 0)) (o else t))
+or_operand : (o : Option Operand) (t : Trouble) → OnSome IsWrittenOperand o → IsWrittenOperand (ok_or (operand.Num (pos 0)) (o else t))
 or_operand None t h = refl
 or_operand (Some a) t h = h
 
@@ -102,31 +102,31 @@ first_or : {X : Type 0} (P : X → Type 0) (a b : Option X) → OnSome P a → O
 first_or P None b h k = k
 first_or P (Some x) b h k = h
 
-ans_fits : (b : Bool) → OnSome IsOperand (if b then Some operand.Ans else None)
+ans_fits : (b : Bool) → OnSome IsWrittenOperand (if b then Some operand.Ans else None)
 ans_fits true = tt
 ans_fits false = tt
 
-unnumbered : (f : ℕ → Operand) (o : Option ℕ) → ((n : ℕ) → IsOperand (f n)) → OnSome IsOperand (option_map f o)
+unnumbered : (f : ℕ → Operand) (o : Option ℕ) → ((n : ℕ) → IsWrittenOperand (f n)) → OnSome IsWrittenOperand (option_map f o)
 unnumbered f None h = tt
 unnumbered f (Some n) h = h n
 
-word_fits : (text : List ℕ) → OnSome IsOperand (operand_named text)
+word_fits : (text : List ℕ) → OnSome IsWrittenOperand (operand_named text)
 word_fits text =
-    first_or IsOperand _ _
-    (first_or IsOperand _ _
-    (first_or IsOperand _ _ (unnumbered operand.Var (numbered 118 16 text) (λ n. tt)) (unnumbered operand.Msg (numbered 109 4 text) (λ n. tt)))
+    first_or IsWrittenOperand _ _
+    (first_or IsWrittenOperand _ _
+    (first_or IsWrittenOperand _ _ (unnumbered operand.Var (numbered 118 16 text) (λ n. tt)) (unnumbered operand.Msg (numbered 109 4 text) (λ n. tt)))
     (unnumbered operand.Temp (numbered 116 4 text) (λ n. tt)))
     (ans_fits (bytes_eq text (codes "ans")))
 
-operand_fits : (d : Data) → HasNumbers d → IsOperand (ok_or (operand.Num (pos 0)) (operand_of d))
+operand_fits : (d : Data) → HasNumbers d → IsWrittenOperand (ok_or (operand.Num (pos 0)) (operand_of d))
 operand_fits null h = refl
 operand_fits (boolean b) h = refl
-operand_fits (number n) h = or_operand (option_map operand.Num (as_i64 n)) OutOfRange (mapped IsNumber IsOperand operand.Num (as_i64 n) (λ z k. k) (num_fits n h))
+operand_fits (number n) h = or_operand (option_map operand.Num (as_i64 n)) OutOfRange (mapped IsNumber IsWrittenOperand operand.Num (as_i64 n) (λ z k. k) (num_fits n h))
 operand_fits (string s) h = or_operand (operand_named s) WrongShape (word_fits s)
 operand_fits (array ds) h = refl
 operand_fits (object ms) h = refl
 
-pub operand_read : (o : Option Data) → OnSome HasNumbers o → IsOperand (read_or (operand.Num (pos 0)) operand_of o)
+pub operand_read : (o : Option Data) → OnSome HasNumbers o → IsWrittenOperand (read_or (operand.Num (pos 0)) operand_of o)
 operand_read None h = refl
 operand_read (Some d) h = operand_fits d h
 

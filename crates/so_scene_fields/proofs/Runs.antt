@@ -10,12 +10,12 @@ use Rattle.so_scene_fields.specs.Reads.{Reads}
 use Rattle.so_scene_fields.specs.Visits.{fields}
 use Rattle.so_scene_fields.specs.declared.table.Rule.{Rule}
 use Rattle.so_scene_fields.specs.Table.{rules_of, objects_of}
-use Rattle.so_scene.specs.Faults.{spelling}
+use Rattle.so_fault.specs.Faults.{spelling}
 use Rattle.serde_json.specs.Find.{get}
 use Rattle.so_scene_fields.specs.Visits.{Visit, enters, tries, leaves, Place, visits, at_key, in_objects, run, ◌>>=◌, LeavesIf, Skips, fields_of, field_visits, items_from, at_item}
-use Rattle.so_scene.specs.declared.fault.SceneFault.{SceneFault}
-use Rattle.so_scene.specs.declared.fault.SceneRefusal.{SceneRefusal}
-use Rattle.so_scene.specs.declared.fault.SceneRefusal.TheVariants.{Fault, NoMemory}
+use Rattle.so_fault.specs.declared.fault.SceneFault.{SceneFault}
+use Rattle.so_fault.specs.declared.fault.SceneRefusal.{SceneRefusal}
+use Rattle.so_fault.specs.declared.fault.SceneRefusal.TheVariants.{Fault, NoMemory}
 
 then_more : {S : Type 0} (step : S → Visit → Result S SceneFault) (r : Result S SceneFault) (xs ys : List Visit)
     → ((t : S) → run step t (xs ++ ys) ≡ (run step t xs >>= λ u. run step u ys))

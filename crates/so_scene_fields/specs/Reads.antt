@@ -3,10 +3,10 @@ use Rattle.std.specs.Prelude.{◌≡◌, Option, Some, None, Result, Ok, Err}
 use Rattle.serde_json.specs.Data.{Data}
 use Rattle.serde_json.specs.View.{view}
 use Rattle.serde_json.specs.declared.value.Value.{Value}
-use Rattle.so_scene.specs.declared.fault.SceneFault.{SceneFault}
-use Rattle.so_scene.specs.declared.fault.SceneFault.TheVariants as fault
-use Rattle.so_scene.specs.declared.fault.SceneRefusal.{SceneRefusal}
-use Rattle.so_scene.specs.declared.fault.SceneRefusal.TheVariants.{Fault, NoMemory}
+use Rattle.so_fault.specs.declared.fault.SceneFault.{SceneFault}
+use Rattle.so_fault.specs.declared.fault.SceneFault.TheVariants as fault
+use Rattle.so_fault.specs.declared.fault.SceneRefusal.{SceneRefusal}
+use Rattle.so_fault.specs.declared.fault.SceneRefusal.TheVariants.{Fault, NoMemory}
 
 abbrev pub Reads : {T : Type 0} → Result T SceneRefusal → Result T SceneFault → Type 0
 Reads (Ok x) expected = expected ≡ Ok x

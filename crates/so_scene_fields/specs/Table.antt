@@ -5,8 +5,8 @@
 -- the dispatcher `default` with priority 0, a cooperation is a child of the root and registered at the start, and the run stops when
 -- the last one has left.
 use Rattle.std.specs.Prelude.{Option, Some, None, List, [], ◌∷◌, true, false}
-use Rattle.so_scene.specs.declared.place.Field.{Field}
-use Rattle.so_scene.specs.declared.place.Field.TheVariants as field
+use Rattle.so_fault.specs.declared.place.Field.{Field}
+use Rattle.so_fault.specs.declared.place.Field.TheVariants as field
 use Rattle.so_scene_fields.specs.declared.act_table.Allowed.TheVariants.{AnyAct, NoSwitch}
 use Rattle.so_scene_fields.specs.declared.table.ObjectKind.{ObjectKind}
 use Rattle.so_scene_fields.specs.declared.table.ObjectKind.TheVariants as object

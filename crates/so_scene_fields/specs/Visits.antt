@@ -2,12 +2,12 @@
 use Rattle.std.specs.Prelude.{◌≡◌, ℕ, zero, suc, ◌-◌, ◌^◌, min, List, [], ◌∷◌, ◌++◌, Option, Some, None, Result, Ok, Err}
 use Rattle.serde_json.specs.Data.{Data, null, boolean, number, string, array, object, Items, no_items, item}
 use Rattle.serde_json.specs.Find.{get}
-use Rattle.so_scene.specs.Faults.{spelling}
-use Rattle.so_scene.specs.declared.place.PlaceStep.{PlaceStep}
-use Rattle.so_scene.specs.declared.place.PlaceStep.TheVariants.{Key, At}
-use Rattle.so_scene.specs.declared.fault.SceneFault.{SceneFault}
-use Rattle.so_scene.specs.declared.fault.SceneRefusal.{SceneRefusal}
-use Rattle.so_scene.specs.declared.fault.SceneRefusal.TheVariants.{Fault, NoMemory}
+use Rattle.so_fault.specs.Faults.{spelling}
+use Rattle.so_fault.specs.declared.place.PlaceStep.{PlaceStep}
+use Rattle.so_fault.specs.declared.place.PlaceStep.TheVariants.{Key, At}
+use Rattle.so_fault.specs.declared.fault.SceneFault.{SceneFault}
+use Rattle.so_fault.specs.declared.fault.SceneRefusal.{SceneRefusal}
+use Rattle.so_fault.specs.declared.fault.SceneRefusal.TheVariants.{Fault, NoMemory}
 use Rattle.so_scene_fields.specs.declared.table.ObjectKind.{ObjectKind}
 use Rattle.so_scene_fields.specs.declared.table.ObjectKind.TheVariants as object_kind
 use Rattle.so_scene_fields.specs.declared.table.Form.{Form}

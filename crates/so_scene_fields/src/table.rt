@@ -4,8 +4,8 @@ ghost use Rattle.std.specs.Prelude.{◌≡◌};
 ghost use Rattle.so_scene_fields.specs.Table.{rules_of, objects_of, space_of, key_of, required, optional, later};
 
 use crate::act_table::Allowed;
+use so_fault::Field;
 use so_ids::limits::{MOST_COOPS, MOST_MBOXES, MOST_MESSAGES, MOST_ROWS, MOST_SLOTS, MOST_STATES};
-use so_scene::Field;
 
 /// The kinds of object.
 #[derive(Clone, Copy, PartialEq, Eq)]

@@ -3,11 +3,11 @@ ghost use Rattle.std.specs.Prelude.{◌≡◌, ◌<◌, ◌≤◌, ◌+◌, ◌*
 ghost use Rattle.serde_json.specs.View.{view, items_view};
 ghost use Rattle.so_scene_fields.specs.Table.{rules_of, objects_of};
 ghost use Rattle.so_scene_fields.specs.Visits.{Visit, enters, tries, leaves, visits, fields_of, field_visits, items_from, list_of, in_objects, narrow, run, LeavesIf, Skips};
-ghost use Rattle.so_scene.specs.declared.fault.SceneFault.{SceneFault};
+ghost use Rattle.so_fault.specs.declared.fault.SceneFault.{SceneFault};
 
 use crate::table::{Form, ObjectKind, Rule, objects, rules};
 use serde_json::Value;
-use so_scene::{PlaceStep, ScenePlace, SceneRefusal};
+use so_fault::{PlaceStep, ScenePlace, SceneRefusal};
 
 /// The position as a step has it.
 pub fn position(i: usize) -> u32

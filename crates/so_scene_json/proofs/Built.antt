@@ -6,6 +6,7 @@ use Rattle.std.proofs.lemmas.List.{map_push}
 use Rattle.std.proofs.lemmas.List.Quantifiers.{position-Some}
 use Rattle.std.specs.Prelude.{slice_index_or, ◌==◌}
 use Rattle.std.specs.List.{range_with_len, All, AllByRecursion, IsDistinct, list_any}
+use Rattle.so_ids.specs.Ids.{default_state}
 use Rattle.serde_json.specs.Data.{Data, Items, no_items, item}
 use Rattle.serde_json.specs.Events.{items_len}
 use Rattle.serde_json.specs.Find.{get, get_item, as_str}
@@ -24,15 +25,14 @@ use Rattle.so_state.specs.declared.choice.RowKind.TheVariants.{Switch, Transfer,
 use Rattle.so_state.specs.declared.faults.TreeFault.{TreeFault}
 use Rattle.so_state.specs.declared.states.State.{State}
 use Rattle.so_state.specs.Fault.{tree_fault}
-use Rattle.so_state.specs.States.{default_state}
 use Rattle.so_scene.specs.Names.{has_name, number_in}
 use Rattle.so_scene.specs.Parts.{message_name, agent_name, coop_name, disp_name, default_disp}
 use Rattle.so_scene.specs.Words.{is_name, is_text}
 use Rattle.so_scene.specs.Written.{IsNumber, HasParent, IsWrittenAmong, is_state_name, AreSafe}
 use Rattle.so_scene.proofs.DispLaws.{default_is_disp}
 use Rattle.so_scene.proofs.Positions.{absent_any, added_distinct, no_names as no_distinct}
-use Rattle.so_scene.specs.declared.fault.SceneFault.{SceneFault}
-use Rattle.so_scene.specs.declared.fault.SceneFault.TheVariants as fault
+use Rattle.so_fault.specs.declared.fault.SceneFault.{SceneFault}
+use Rattle.so_fault.specs.declared.fault.SceneFault.TheVariants as fault
 use Rattle.so_scene.specs.declared.parts.AgentDef.{AgentDef}
 use Rattle.so_scene.specs.declared.parts.CoopDef.{CoopDef}
 use Rattle.so_scene.specs.declared.parts.DispDef.{DispDef}

@@ -10,9 +10,10 @@ ghost use Rattle.so_scene_fields.specs.Reads.{Reads, Returns};
 ghost use Rattle.so_scene.specs.Lanes.{AreBound, lanes};
 ghost use Rattle.so_scene_json.specs.Scene.{exceeds, parts_of, checked, finished};
 
+use so_fault::{SceneFault, ScenePlace, SceneRefusal};
 use so_ids::NoMemory;
 use so_ids::limits::{MOST_AGENTS, MOST_LANES, MOST_TEXTS};
-use so_scene::{Items, Name, Names, Scene, SceneFault, SceneParts, ScenePlace, SceneRefusal, Text};
+use so_scene::{Items, Name, Names, Scene, SceneParts, Text};
 use so_scene_build::build::Build;
 use so_scene_build::groups::group_lists;
 use std::alloc::Global;

@@ -14,7 +14,8 @@ ghost use Rattle.so_scene_fields.specs.Reads.{Reads, ReadsValue};
 
 use crate::finish::finish;
 use serde_json::Value;
-use so_scene::{Scene, SceneFault, ScenePlace, SceneRefusal};
+use so_fault::{SceneFault, ScenePlace, SceneRefusal};
+use so_scene::Scene;
 use so_scene_build::build::Build;
 use so_scene_fields::table::ObjectKind;
 use so_scene_fields::walk::object;

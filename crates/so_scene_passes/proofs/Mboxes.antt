@@ -3,7 +3,7 @@ use Rattle.std.proofs.Common.{◌≡◌, ℕ, ◌+◌, ◌-◌, ◌<◌, ◌≤�
 use Rattle.std.proofs.Math.ListN.{drop_of_length-le}
 use Rattle.serde_json.specs.View.{view, items_view}
 use Rattle.serde_json.specs.declared.value.Value.{Value}
-use Rattle.so_scene.specs.declared.fault.SceneFault.{SceneFault}
+use Rattle.so_fault.specs.declared.fault.SceneFault.{SceneFault}
 use Rattle.so_scene_passes.specs.declared.declare.Declared.{Declared}
 use Rattle.so_scene_fields.specs.Values.{name_of}
 use Rattle.so_scene_passes.specs.Twice.{with_mbox_read, with_mboxes}

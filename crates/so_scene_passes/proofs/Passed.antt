@@ -11,14 +11,14 @@ use Rattle.serde_json.specs.Find.{as_str, as_array, get}
 use Rattle.so_scene.specs.Checked.{given}
 use Rattle.so_scene.specs.declared.parts.DispKind.{DispKind}
 use Rattle.so_scene.specs.declared.parts.DispKind.TheVariants.{ActiveGroup}
-use Rattle.so_scene.specs.Faults.{spelling}
+use Rattle.so_fault.specs.Faults.{spelling}
 use Rattle.so_scene.specs.Names.{has_name}
 use Rattle.so_scene.specs.Words.{is_name}
 use Rattle.so_scene.specs.Written.{is_state_name, IsNumber}
-use Rattle.so_scene.specs.declared.place.Field.{Field}
-use Rattle.so_scene.specs.declared.place.Field.TheVariants as field
-use Rattle.so_scene.specs.declared.fault.SceneFault.{SceneFault}
-use Rattle.so_scene.specs.declared.fault.SceneFault.TheVariants as fault
+use Rattle.so_fault.specs.declared.place.Field.{Field}
+use Rattle.so_fault.specs.declared.place.Field.TheVariants as field
+use Rattle.so_fault.specs.declared.fault.SceneFault.{SceneFault}
+use Rattle.so_fault.specs.declared.fault.SceneFault.TheVariants as fault
 use Rattle.so_scene_fields.specs.declared.act_table.Allowed.{Allowed}
 use Rattle.so_scene_fields.specs.declared.act_table.Allowed.TheVariants.{AnyAct, NoSwitch}
 use Rattle.so_scene_fields.specs.declared.act_table.Word.{Word}

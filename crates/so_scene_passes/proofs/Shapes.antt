@@ -13,12 +13,12 @@ use Rattle.so_scene_fields.specs.declared.values.Trouble.TheVariants.{WrongShape
 use Rattle.std.specs.Prelude.{String, string_bytes, bytes_eq}
 use Rattle.std.specs.declared.alloc.Global.{Global}
 use Rattle.serde_json.specs.View.{members_view}
-use Rattle.so_scene.specs.declared.fault.SceneFault.{SceneFault}
+use Rattle.so_fault.specs.declared.fault.SceneFault.{SceneFault}
 use Rattle.so_scene_fields.specs.declared.table.Rule.{Rule}
-use Rattle.so_scene.specs.Faults.{spelling}
+use Rattle.so_fault.specs.Faults.{spelling}
 use Rattle.so_scene_fields.specs.Visits.{Place, at_item}
 use Rattle.so_scene_passes.specs.Shape.{is_known, has_unknown, first_of, is_within, list_trouble, fixed_trouble, acts_from, acts_fault, trouble_at, placed}
-use Rattle.so_scene.specs.declared.fault.SceneFault.TheVariants as fault
+use Rattle.so_fault.specs.declared.fault.SceneFault.TheVariants as fault
 use Rattle.so_scene_fields.specs.Acts.{act_trouble}
 use Rattle.so_scene_fields.specs.Values.{◌or◌}
 

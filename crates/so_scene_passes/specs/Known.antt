@@ -4,12 +4,12 @@ use Rattle.std.specs.Prelude.{ℕ, List, [], ◌∷◌, ◌++◌, codes, Bool, t
 use Rattle.serde_json.specs.Data.{Data, Items, no_items, item}
 use Rattle.serde_json.specs.Find.{as_str, get}
 use Rattle.so_scene.specs.Names.{has_name, number_in}
-use Rattle.so_scene.specs.declared.fault.SceneFault.{SceneFault}
-use Rattle.so_scene.specs.declared.fault.SceneFault.TheVariants as fault
+use Rattle.so_fault.specs.declared.fault.SceneFault.{SceneFault}
+use Rattle.so_fault.specs.declared.fault.SceneFault.TheVariants as fault
 use Rattle.so_scene.specs.declared.parts.DispKind.{DispKind}
 use Rattle.so_scene.specs.declared.parts.DispKind.TheVariants.{OneThread, ActiveGroup}
-use Rattle.so_scene.specs.declared.place.Field.TheVariants.{Group}
-use Rattle.so_scene.specs.declared.place.PlaceStep.TheVariants.{Key}
+use Rattle.so_fault.specs.declared.place.Field.TheVariants.{Group}
+use Rattle.so_fault.specs.declared.place.PlaceStep.TheVariants.{Key}
 use Rattle.so_scene_fields.specs.declared.act_table.Word.{Word}
 use Rattle.so_scene_fields.specs.declared.act_table.Word.TheVariants as word
 use Rattle.so_scene_fields.specs.declared.values.Trouble.{Trouble}

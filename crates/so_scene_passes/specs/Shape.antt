@@ -3,11 +3,11 @@ use Rattle.std.specs.Prelude.{ℕ, suc, ◌+◌, ℤ, pos, negsuc, List, [], ◌
 use Rattle.serde_json.specs.Data.{Num, Data, Items, no_items, item, Members, no_members, member}
 use Rattle.serde_json.specs.Events.{items_len}
 use Rattle.serde_json.specs.Find.{as_number, as_i64, as_str, as_array, as_object, get}
-use Rattle.so_scene.specs.Faults.{spelling}
-use Rattle.so_scene.specs.declared.place.Field.{Field}
-use Rattle.so_scene.specs.declared.place.Field.TheVariants as field
-use Rattle.so_scene.specs.declared.fault.SceneFault.{SceneFault}
-use Rattle.so_scene.specs.declared.fault.SceneFault.TheVariants as fault
+use Rattle.so_fault.specs.Faults.{spelling}
+use Rattle.so_fault.specs.declared.place.Field.{Field}
+use Rattle.so_fault.specs.declared.place.Field.TheVariants as field
+use Rattle.so_fault.specs.declared.fault.SceneFault.{SceneFault}
+use Rattle.so_fault.specs.declared.fault.SceneFault.TheVariants as fault
 use Rattle.so_scene.specs.Checked.{is_pool, has_quotes}
 use Rattle.so_scene_fields.specs.declared.act_table.Allowed.{Allowed}
 use Rattle.so_scene_fields.specs.declared.table.ObjectKind.{ObjectKind}

@@ -5,9 +5,9 @@ use Rattle.serde_json.specs.Find.{as_str, get}
 use Rattle.so_scene.specs.Names.{number_in, has_name}
 use Rattle.so_scene.specs.declared.parts.DispKind.{DispKind}
 use Rattle.so_scene.specs.declared.parts.DispKind.TheVariants.{OneThread}
-use Rattle.so_scene.specs.declared.place.PlaceStep.TheVariants.{Key}
-use Rattle.so_scene.specs.declared.fault.SceneFault.{SceneFault}
-use Rattle.so_scene.specs.declared.fault.SceneFault.TheVariants as fault
+use Rattle.so_fault.specs.declared.place.PlaceStep.TheVariants.{Key}
+use Rattle.so_fault.specs.declared.fault.SceneFault.{SceneFault}
+use Rattle.so_fault.specs.declared.fault.SceneFault.TheVariants as fault
 use Rattle.so_scene_fields.specs.declared.table.ObjectKind.{ObjectKind}
 use Rattle.so_scene_fields.specs.declared.table.ObjectKind.TheVariants as object
 use Rattle.so_scene_fields.specs.declared.table.Space.{Space}

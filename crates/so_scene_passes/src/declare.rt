@@ -9,7 +9,8 @@ ghost use Rattle.so_scene_passes.specs.Twice.{is_signal, no_names, names_in, dis
 ghost use Rattle.so_scene_fields.specs.Visits.{Leaves};
 
 use serde_json::Value;
-use so_scene::{DispKind, Items, Names, PlaceStep, SceneFault, ScenePlace, SceneRefusal, is_name};
+use so_fault::{PlaceStep, SceneFault, ScenePlace, SceneRefusal};
+use so_scene::{DispKind, Items, Names, is_name};
 use so_scene_fields::table::{Form, ObjectKind, Rule, Space, declares, key};
 use so_scene_fields::values::{disp_kind_in, name, name_in, string_in};
 use so_scene_fields::walk::{Pass, list};

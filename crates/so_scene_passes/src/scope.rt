@@ -7,7 +7,8 @@ ghost use Rattle.so_scene_passes.specs.Scope.{number_with, is_id, ids_of, names_
 ghost use Rattle.so_scene_fields.specs.Reads.{Returns};
 
 use serde_json::Value;
-use so_scene::{Items, Name, SceneRefusal};
+use so_fault::SceneRefusal;
+use so_scene::{Items, Name};
 use so_scene_fields::values::{id_in, object_name};
 use so_scene_fields::walk::list;
 use std::alloc::Global;

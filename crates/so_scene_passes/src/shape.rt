@@ -10,7 +10,8 @@ ghost use Rattle.so_scene_fields.specs.Values.{name_of};
 ghost use Rattle.so_scene_passes.specs.Shape.{placed, trouble_at, is_known, has_unknown, unknown_in, version_fault, kind_trouble, state_name_trouble, item_trouble, first_of, is_within, list_trouble, fixed_trouble, quote_trouble, acts_from, acts_fault, form_fault, field_fault, has, effects, is_dead_breach, is_safe_breach, is_row_breach, is_pool_breach, is_quotes_breach, is_disp_breach, is_initial, is_breach, shape_step};
 
 use serde_json::{Map, Value};
-use so_scene::{DispKind, Field, PlaceStep, SceneFault, ScenePlace, SceneRefusal};
+use so_fault::{Field, PlaceStep, SceneFault, ScenePlace, SceneRefusal};
+use so_scene::DispKind;
 use so_scene_fields::act_table::{Allowed, handler_acts};
 use so_scene_fields::acts::act_fault;
 use so_scene_fields::table::{Form, ObjectKind, Rule, rules};

@@ -20,9 +20,9 @@ use Rattle.so_scene.specs.declared.parts.MessageDef.{MessageDef}
 use Rattle.so_scene.specs.declared.parts.SceneParts.{SceneParts}
 use Rattle.so_scene.specs.Checked.{is_pool, has_quotes}
 use Rattle.so_scene.specs.Parts.{mbox_name}
-use Rattle.so_scene_writer.specs.Sources.{StateSource, RowSource, states_of, rows_of, start_acts, finish_acts}
-use Rattle.so_scene_writer.specs.ActData.{text_data, count_data, coop_text, group_text, message_text, state_text, operand_data, dest_data, args_data, act_data, acts_data}
-use Rattle.so_scene_writer.specs.Canonical.{agents_of, declared, disp_data, disp_kind_word, fifo_word, of_pool, of_quoted, given, list_data, number_data, message_data, state_data, filter_data, row_data, agent_data, coop_data, scene_data, dead_data, do_data, row_state_data, suppress_data, switch_data, transfer_data}
+use Rattle.so_scene_data.specs.Sources.{StateSource, RowSource, states_of, rows_of, start_acts, finish_acts}
+use Rattle.so_scene_data.specs.ActData.{text_data, count_data, coop_text, group_text, message_text, state_text, operand_data, dest_data, args_data, act_data, acts_data}
+use Rattle.so_scene_data.specs.Canonical.{agents_of, declared, disp_data, disp_kind_word, fifo_word, of_pool, of_quoted, given, list_data, number_data, message_data, state_data, filter_data, row_data, agent_data, coop_data, scene_data, dead_data, do_data, row_state_data, suppress_data, switch_data, transfer_data}
 
 both_under : (a b n : ℕ) → a ≤ n → b ≤ n → max a b ≤ n
 both_under a b n h l = omega arith

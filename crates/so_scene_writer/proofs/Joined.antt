@@ -17,11 +17,11 @@ use Rattle.so_scene.specs.declared.parts.FilterDef.{FilterDef}
 use Rattle.so_scene.specs.declared.parts.SceneParts.{SceneParts}
 use Rattle.so_scene.specs.Checked.{is_pool, has_quotes}
 use Rattle.so_scene.specs.Parts.{mbox_name}
-use Rattle.so_scene_writer.specs.Sources.{acts_in, behind, RowSource, state_source}
-use Rattle.so_scene_writer.specs.ActData.{text_data, count_data, coop_text, disp_text, group_text, state_text, message_text, acts_data}
-use Rattle.so_scene_writer.specs.Canonical.{agents_of, agent_data, coop_data, disp_data, disp_kind_word, fifo_word, given, list_data, of_pool, of_quoted, state_data, filter_data, row_data, dead_data, do_data, row_state_data, suppress_data, switch_data, transfer_data}
-use Rattle.so_scene_writer.specs.Fields.{with_field, agent_base, coop_base, disp_base, state_base, filter_base, row_base}
-use Rattle.so_scene_writer.proofs.Found.{agent_plain}
+use Rattle.so_scene_data.specs.Sources.{acts_in, behind, RowSource, state_source}
+use Rattle.so_scene_data.specs.ActData.{text_data, count_data, coop_text, disp_text, group_text, state_text, message_text, acts_data}
+use Rattle.so_scene_data.specs.Canonical.{agents_of, agent_data, coop_data, disp_data, disp_kind_word, fifo_word, given, list_data, of_pool, of_quoted, state_data, filter_data, row_data, dead_data, do_data, row_state_data, suppress_data, switch_data, transfer_data}
+use Rattle.so_scene_data.specs.Fields.{with_field, agent_base, coop_base, disp_base, state_base, filter_base, row_base}
+use Rattle.so_scene_data.proofs.Found.{agent_plain}
 
 pub if_ok : {A E : Type 0} (P Q : A → Type 0) (r : Result A E) → IfOk r P → ((x : A) → P x → Q x) → IfOk r Q
 if_ok P Q (Ok x) h f = f x h

@@ -12,8 +12,8 @@ use Rattle.so_state.specs.declared.choice.Row.{Row}
 use Rattle.so_state.specs.declared.states.State.{State}
 use Rattle.so_scene.specs.declared.parts.AgentDef.{AgentDef}
 use Rattle.so_scene.specs.declared.parts.SceneParts.{SceneParts}
-use Rattle.so_scene_writer.specs.Canonical.{state_data, row_data}
-use Rattle.so_scene_writer.specs.Sources.{acts_in, behind, behind_states, behind_row, states_in, rows_in, state_source, row_source}
+use Rattle.so_scene_data.specs.Canonical.{state_data, row_data}
+use Rattle.so_scene_data.specs.Sources.{acts_in, behind, behind_states, behind_row, states_in, rows_in, state_source, row_source}
 
 -- behind the values that were there
 pub shown_more : {X : Type 0} (shown : X → Data) (base : List Data) (vs new : List Value) (xs : List X) (i : ℕ) (d x : X) (v : Value) → i < length xs → x ≡ get_or xs i d

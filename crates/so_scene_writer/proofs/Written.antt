@@ -8,10 +8,10 @@ use Rattle.serde_json.specs.Read.{read, max_depth}
 use Rattle.so_scene.specs.declared.parts.SceneParts.{SceneParts}
 use Rattle.so_scene.specs.Checked.{IsScene}
 use Rattle.so_scene_json.specs.Scene.{of_data, scene_of}
-use Rattle.so_scene_writer.specs.Canonical.{scene_data}
+use Rattle.so_scene_data.specs.Canonical.{scene_data}
 use Rattle.so_scene_writer.proofs.Depths.{scene_under}
 use Rattle.so_scene_writer.proofs.Floats.{scene_exact}
-use Rattle.so_scene_writer.proofs.SceneLaws.{scene_again}
+use Rattle.so_scene_again.proofs.SceneLaws.{scene_again}
 
 shallow : (s : SceneParts) → depth (scene_data s) ≤ max_depth
 shallow s = let h : depth (scene_data s) ≤ 9 = scene_under s in omega arith

@@ -4,8 +4,8 @@ ghost use Rattle.std.specs.Prelude.{◌≡◌, ◌++◌, ◌+◌, ◌<◌, codes
 ghost use Rattle.serde_json.specs.Data.{Data, array, item, no_items};
 ghost use Rattle.serde_json.specs.View.{view, items_of};
 ghost use Rattle.so_code.specs.Bodies.{is_end};
-ghost use Rattle.so_scene_writer.specs.Sources.{acts_in, behind};
-ghost use Rattle.so_scene_writer.specs.ActData.{act_one, act_two, act_three, act_of, if_data, operand_data, dest_data, count_data, text_data, args_data, act_data, acts_data};
+ghost use Rattle.so_scene_data.specs.Sources.{acts_in, behind};
+ghost use Rattle.so_scene_data.specs.ActData.{act_one, act_two, act_three, act_of, if_data, operand_data, dest_data, count_data, text_data, args_data, act_data, acts_data};
 
 use crate::operands::{cmp_value, count_value, dest_value, operand_value};
 use crate::words::{

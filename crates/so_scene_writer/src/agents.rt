@@ -3,10 +3,10 @@
 ghost use Rattle.std.specs.Prelude.{◌≡◌, ◌<◌, length, min, map, option_map, pos, slice_index_or, IfOk};
 ghost use Rattle.serde_json.specs.Data.{array};
 ghost use Rattle.serde_json.specs.View.{view, items_of};
-ghost use Rattle.so_scene_writer.specs.Sources.{behind_states, states_in, rows_in, states_of, rows_of, start_acts, finish_acts};
-ghost use Rattle.so_scene_writer.specs.ActData.{acts_data, disp_text, group_text, text_data};
-ghost use Rattle.so_scene_writer.specs.Fields.{agent_base};
-ghost use Rattle.so_scene_writer.specs.Canonical.{list_data, message_data, filter_data, state_data, row_data, number_data, agent_data};
+ghost use Rattle.so_scene_data.specs.Sources.{behind_states, states_in, rows_in, states_of, rows_of, start_acts, finish_acts};
+ghost use Rattle.so_scene_data.specs.ActData.{acts_data, disp_text, group_text, text_data};
+ghost use Rattle.so_scene_data.specs.Fields.{agent_base};
+ghost use Rattle.so_scene_data.specs.Canonical.{list_data, message_data, filter_data, state_data, row_data, number_data, agent_data};
 
 use crate::acts::{acts_value, behind};
 use crate::fields::with_field;

@@ -2,9 +2,9 @@
 
 ghost use Rattle.std.specs.Prelude.{◌≡◌, take, drop, option_map, IfOk};
 ghost use Rattle.serde_json.specs.View.{view};
-ghost use Rattle.so_scene_writer.specs.ActData.{text_data, coop_text};
-ghost use Rattle.so_scene_writer.specs.Fields.{coop_base};
-ghost use Rattle.so_scene_writer.specs.Canonical.{agents_of, agent_data, list_data, coop_data, scene_data};
+ghost use Rattle.so_scene_data.specs.ActData.{text_data, coop_text};
+ghost use Rattle.so_scene_data.specs.Fields.{coop_base};
+ghost use Rattle.so_scene_data.specs.Canonical.{agents_of, agent_data, list_data, coop_data, scene_data};
 
 use crate::agents::{agents_value, mboxes_value, messages_value};
 use crate::dispatchers::dispatchers_value;

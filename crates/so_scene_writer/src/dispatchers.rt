@@ -3,9 +3,9 @@
 ghost use Rattle.std.specs.Prelude.{◌≡◌, ◌<◌, drop, length, slice_index_or, Some, None, option_map, IfOk};
 ghost use Rattle.serde_json.specs.View.{view};
 ghost use Rattle.so_scene.specs.Checked.{is_pool, has_quotes};
-ghost use Rattle.so_scene_writer.specs.ActData.{count_data};
-ghost use Rattle.so_scene_writer.specs.Canonical.{disp_data, disp_kind_word, fifo_word, list_data, of_pool, of_quoted};
-ghost use Rattle.so_scene_writer.specs.Fields.{disp_base};
+ghost use Rattle.so_scene_data.specs.ActData.{count_data};
+ghost use Rattle.so_scene_data.specs.Canonical.{disp_data, disp_kind_word, fifo_word, list_data, of_pool, of_quoted};
+ghost use Rattle.so_scene_data.specs.Fields.{disp_base};
 ghost use Rattle.serde_json.specs.Data.{string};
 
 use crate::fields::with_field;

@@ -2,8 +2,8 @@
 
 ghost use Rattle.std.specs.Prelude.{◌≡◌, IfOk, Option, option_map};
 ghost use Rattle.serde_json.specs.View.{view};
-ghost use Rattle.so_scene_writer.specs.ActData.{text_data};
-ghost use Rattle.so_scene_writer.specs.Fields.{with_field, added};
+ghost use Rattle.so_scene_data.specs.ActData.{text_data};
+ghost use Rattle.so_scene_data.specs.Fields.{with_field, added};
 
 use crate::words::text;
 use serde_json::{Map, Value, put};

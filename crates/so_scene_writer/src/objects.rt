@@ -4,11 +4,11 @@ ghost use Rattle.std.specs.Prelude.{◌≡◌, IfOk, Some, None, [], if◌then�
 ghost use Rattle.serde_json.specs.Data.{boolean};
 ghost use Rattle.serde_json.specs.View.{view};
 ghost use Rattle.so_scene.specs.Checked.{has_handler};
-ghost use Rattle.so_scene_writer.specs.Sources.{acts_in, behind_row, state_source, row_source};
+ghost use Rattle.so_scene_data.specs.Sources.{acts_in, behind_row, state_source, row_source};
 ghost use Rattle.so_scene.specs.Parts.{mbox_name};
-ghost use Rattle.so_scene_writer.specs.ActData.{text_data, state_text, message_text};
-ghost use Rattle.so_scene_writer.specs.Fields.{state_base, filter_base, row_base};
-ghost use Rattle.so_scene_writer.specs.Canonical.{kind_word, message_data, history_word, state_data, filter_data, row_data, dead_data, do_data, row_state_data, suppress_data, switch_data, transfer_data};
+ghost use Rattle.so_scene_data.specs.ActData.{text_data, state_text, message_text};
+ghost use Rattle.so_scene_data.specs.Fields.{state_base, filter_base, row_base};
+ghost use Rattle.so_scene_data.specs.Canonical.{kind_word, message_data, history_word, state_data, filter_data, row_data, dead_data, do_data, row_state_data, suppress_data, switch_data, transfer_data};
 
 use crate::acts::{acts_value, behind};
 use crate::fields::{id_value, with_field};

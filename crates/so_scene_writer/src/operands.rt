@@ -2,7 +2,7 @@
 
 ghost use Rattle.std.specs.Prelude.{◌≡◌, IfOk};
 ghost use Rattle.serde_json.specs.View.{view};
-ghost use Rattle.so_scene_writer.specs.ActData.{var_word, field_word, temp_word, operand_data, dest_data, cmp_data, cmp_word, count_data};
+ghost use Rattle.so_scene_data.specs.ActData.{var_word, field_word, temp_word, operand_data, dest_data, cmp_data, cmp_word, count_data};
 
 use serde_json::Value;
 use so_code::{Cmp, Dest, Operand};

@@ -4,7 +4,7 @@ ghost use Rattle.std.specs.Prelude.{◌≡◌};
 ghost use Rattle.so_scene.specs.Checked.{filter_ids};
 ghost use Rattle.so_scene.specs.Parts.{groups_of, mbox_name, text_of};
 ghost use Rattle.so_scene_fields.specs.Values.{text_or_empty};
-ghost use Rattle.so_scene_writer.specs.ActData.{shown, coop_text, disp_text, group_at, message_text, state_text, id_text, target_text};
+ghost use Rattle.so_scene_data.specs.ActData.{shown, coop_text, disp_text, group_at, message_text, state_text, id_text, target_text};
 
 use so_ids::{CoopId, DispId, FilterId, MboxId, MsgId, RowId, StateId, Target, TextId};
 use so_scene::{AgentDef, Name, SceneParts};

@@ -4,7 +4,7 @@ ghost use Rattle.std.specs.Prelude.{◌≡◌, IfOk, Ok};
 ghost use Rattle.so_scene.specs.Checked.{IsScene};
 ghost use Rattle.so_scene_json.specs.Scene.{scene_of};
 ghost use Rattle.serde_json.specs.Written.{compact_text};
-ghost use Rattle.so_scene_writer.specs.Canonical.{scene_data};
+ghost use Rattle.so_scene_data.specs.Canonical.{scene_data};
 
 use crate::coops::scene_value;
 use so_ids::NoMemory;

@@ -1,10 +1,10 @@
 -- A search through the states of a path.
 use Rattle.std.proofs.Common.{◌≡◌, ℕ, ◌+◌, ◌<◌, Bool, List, length, drop, get_or, Some, None, refl, add-one, drop-cons}
+use Rattle.so_ids.specs.Ids.{default_state}
 use Rattle.so_ids.specs.declared.StateId.{StateId}
 use Rattle.so_ids.specs.declared.MboxId.{MboxId}
 use Rattle.so_ids.specs.declared.MsgId.{MsgId}
 use Rattle.so_state.specs.declared.choice.Row.{Row}
-use Rattle.so_state.specs.States.{default_state}
 use Rattle.so_state.specs.Choice.{answering, row_in}
 
 module _ (path : List StateId) (rows : List Row) (active : List Bool) (mbox : MboxId) (msg : MsgId) (i : ℕ) (h : i < length path) where

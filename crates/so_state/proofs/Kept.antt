@@ -4,9 +4,10 @@ use Rattle.std.specs.Prelude.{if◌then◌else◌}
 use Rattle.std.proofs.lemmas.Bool.{cases_lt, cases_eq, eq-eqb, ne_eqb}
 use Rattle.std.proofs.lemmas.List.{take_more, get_or-set_same, get_or-set_other, get_or-replicate, get_or_past}
 use Rattle.std.proofs.lemmas.List.Folds.{list_any-append}
+use Rattle.so_ids.specs.Ids.{default_state}
 use Rattle.so_ids.specs.declared.StateId.{StateId}
 use Rattle.so_state.specs.declared.states.State.{State}
-use Rattle.so_state.specs.States.{default_state, same_state, ancestors, is_on}
+use Rattle.so_state.specs.States.{same_state, ancestors, is_on}
 use Rattle.so_state.specs.Memory.{kept, StandsFor}
 
 or_last : (b : Bool) → (b || (true || false)) ≡ true

@@ -2,10 +2,10 @@
 use Rattle.std.proofs.Common.{◌≡◌, ℕ, suc, ◌+◌, ◌-◌, ◌<◌, ◌≤◌, List, [], ◌∷◌, ◌++◌, length, take, set, replicate, arith, sym, ap, ◌∙◌, append_assoc, length-append, subst}
 use Rattle.std.proofs.Math.ListN.{length-replicate, length-take}
 use Rattle.std.proofs.Math.Seq.{set-append_seam, take-append_seam}
+use Rattle.so_ids.specs.Ids.{default_state}
 use Rattle.so_ids.specs.declared.StateId.{StateId}
 use Rattle.so_state.specs.Plan.{padded}
 use Rattle.so_state.specs.Padded.{IsPadded}
-use Rattle.so_state.specs.States.{default_state}
 
 -- one more is written to the first unused place
 pub set-padded : (xs : List StateId) (s : StateId) → length xs < 16 → set (padded xs) (length xs) s ≡ padded (xs ++ s ∷ [])

@@ -1,12 +1,13 @@
 -- Where a switch leads, and which states it leaves and enters. The leaves that an agent has entered are a
 -- list with the newest first, as a history is.
 use Rattle.std.specs.Prelude.{ℕ, zero, suc, ◌-◌, not, List, ◌++◌, length, Option, Some, None, if◌then◌else◌, find, filter, replicate, reverse, unwrap_or}
+use Rattle.so_ids.specs.Ids.{default_state}
 use Rattle.so_ids.specs.declared.StateId.{StateId}
 use Rattle.so_ids.specs.declared.Plan.{Plan}
 use Rattle.so_state.specs.declared.states.State.{State}
 use Rattle.so_state.specs.declared.states.History.{History}
 use Rattle.so_state.specs.declared.states.History.TheVariants.{None as NoHistory, Shallow, Deep}
-use Rattle.so_state.specs.States.{default_state, same_state, is_this, is_on, parent_of, history_of, initial_of, path, is_below}
+use Rattle.so_state.specs.States.{same_state, is_this, is_on, parent_of, history_of, initial_of, path, is_below}
 
 -- ---- the leaf that a state stands for
 

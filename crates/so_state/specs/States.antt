@@ -9,9 +9,6 @@ use Rattle.so_state.specs.declared.states.State.{State}
 use Rattle.so_state.specs.declared.states.History.{History}
 use Rattle.so_state.specs.declared.states.History.TheVariants.{None as NoHistory}
 
-abbrev pub default_state : StateId
-default_state = record { 0 = 0 }
-
 abbrev pub same_state : StateId → StateId → Bool
 same_state a b = a.0 == b.0
 

@@ -33,11 +33,11 @@ use Rattle.so_history.specs.Delivery.{registered}
 use Rattle.so_history.specs.Demands.{Asked, asked_by, demands_from, queued_by, demands, waiting}
 use Rattle.so_history.specs.Order.{opening_of, skipped, may_take}
 use Rattle.so_history.specs.Turns.{Started, started_by, turns, running, turn_at}
-use Rattle.so_history.specs.Steps.{IsTaking, IsRow, Legal}
+use Rattle.so_history.specs.Steps.{IsTaking, MayFollow, Legal}
 use Rattle.so_history.proofs.AskedLaws.{delivered_of, asked_of_each}
-use Rattle.so_history.proofs.CoopLaws.{AsksSo, of_none, to_handle, to_start, to_finish, asks_so}
+use Rattle.so_history_laws.proofs.CoopLaws.{AsksSo, of_none, to_handle, to_start, to_finish, asks_so}
 use Rattle.so_history.proofs.DemandLaws.{picked}
-use Rattle.so_history.proofs.PresenceLaws.{leaves_present}
+use Rattle.so_history_laws.proofs.PresenceLaws.{leaves_present}
 use Rattle.so_history.proofs.RosterLaws.{joins, joins_admitted, there_too, each_registered}
 use Rattle.so_history.proofs.TakingLaws.{begins_as}
 
@@ -67,16 +67,16 @@ agents_keep s h c admitted =
     let its : refused_rule s all k ≡ None = none-first_below (refused_rule s all) (length all) none k (omega (arith, l, length-each_below member count)) in
     option_map-none (refusal.Definition (member k)) (definition_fault s (member k)) (sym (ap (option_and_then (λ a. option_map (refusal.Definition a) (definition_fault s a))) (slice_get-each_below member count k l)) ∙ its))
 
-coop_keeps : (s : SceneParts) (h : List Entry) (by : PartyId) (kind : EntryKind) (c : CoopId) → IsRow s h by kind → joins kind ≡ Some c → CoopKeeps s c
+coop_keeps : (s : SceneParts) (h : List Entry) (by : PartyId) (kind : EntryKind) (c : CoopId) → MayFollow s h by kind → joins kind ≡ Some c → CoopKeeps s c
 coop_keeps s h by kind c row its = agents_keep s h c (joins_admitted s h by kind c row its)
 
 -- ---- those that are present
 
-act_keeps : (s : SceneParts) (h : List Entry) (by : PartyId) (turn : Place) (x : Effect) (a : Answer) → IsRow s h by (Act turn x a) → AllByRecursion (CoopKeeps s) (roster h) → AllByRecursion (CoopKeeps s) (roster_by (Act turn x a) (roster h))
+act_keeps : (s : SceneParts) (h : List Entry) (by : PartyId) (turn : Place) (x : Effect) (a : Answer) → MayFollow s h by (Act turn x a) → AllByRecursion (CoopKeeps s) (roster h) → AllByRecursion (CoopKeeps s) (roster_by (Act turn x a) (roster h))
 act_keeps s h by turn (effect.Register c) answer.Okay row all = each-append (CoopKeeps s) (roster h) (c ∷ []) all (coop_keeps s h by (Act turn (effect.Register c) answer.Okay) c row refl, tt)
 act_keeps s h by turn x a row all = all
 
-entry_keeps : (s : SceneParts) (h : List Entry) (by : PartyId) (kind : EntryKind) → IsRow s h by kind → AllByRecursion (CoopKeeps s) (roster h) → AllByRecursion (CoopKeeps s) (roster_by kind (roster h))
+entry_keeps : (s : SceneParts) (h : List Entry) (by : PartyId) (kind : EntryKind) → MayFollow s h by kind → AllByRecursion (CoopKeeps s) (roster h) → AllByRecursion (CoopKeeps s) (roster_by kind (roster h))
 entry_keeps s h by (Register c) row all = each-append (CoopKeeps s) (roster h) (c ∷ []) all (coop_keeps s h by (Register c) c row refl, tt)
 entry_keeps s h by (Left c) row all = each-filter (CoopKeeps s) (is_other c) (roster h) all
 entry_keeps s h by (Act turn x a) row all = act_keeps s h by turn x a row all
@@ -92,12 +92,12 @@ registered_keep s h legal = each_registered (KeepsRules s) s (roster h) (rules_k
 
 -- ---- those of demands and of turns
 
-queued_keep : (s : SceneParts) (h : List Entry) (by : PartyId) (kind : EntryKind) (asked : List Asked) → Legal s h → IsRow s h by kind → AsksSo s h kind asked → AllByRecursion (λ (d : Demand). KeepsRules s d.agent) (demands_from (length h) 0 asked)
+queued_keep : (s : SceneParts) (h : List Entry) (by : PartyId) (kind : EntryKind) (asked : List Asked) → Legal s h → MayFollow s h by kind → AsksSo s h kind asked → AllByRecursion (λ (d : Demand). KeepsRules s d.agent) (demands_from (length h) 0 asked)
 queued_keep s h by kind asked legal row (of_none is) = rw is tt
 queued_keep s h by kind asked legal row (to_handle mbox msg payload is) = rw is (delivered_of s h (KeepsRules s) mbox msg payload (length h) 0 (registered_keep s h legal))
 queued_keep s h by kind asked legal row (to_start c enters is) = rw is (asked_of_each (KeepsRules s) (length h) 0 Start (agents_of s c) (coop_keeps s h by kind c row enters))
 queued_keep s h by kind asked legal row (to_finish c reason its is) =
-    rw is (asked_of_each (KeepsRules s) (length h) 0 Finish (agents_of s c) (there_too (CoopKeeps s) (roster h) c (rules_kept s h legal) (leaves_present s h by c reason (subst (IsRow s h by) its row)).0))
+    rw is (asked_of_each (KeepsRules s) (length h) 0 Finish (agents_of s c) (there_too (CoopKeeps s) (roster h) c (rules_kept s h legal) (leaves_present s h by c reason (subst (MayFollow s h by) its row)).0))
 
 demands_keep : (s : SceneParts) (h : List Entry) → Legal s h → AllByRecursion (λ (d : Demand). KeepsRules s d.agent) (demands s h)
 unfolding demands
@@ -114,7 +114,7 @@ begun_keeps s h by lane demand opening agent legal row =
     let its : KeepsRules s row.demand.agent = (found (λ (d : Demand). KeepsRules s d.agent) (may_take s h lane) (waiting s h) row.demand (waiting_keep s h legal) (picked s h lane row.demand row.picked).1).0 in
     subst (KeepsRules s) (sym (begins_as lane lane row.demand (opening_of s h row.demand) (skipped (opening_of s h row.demand)) demand opening agent row.is).agent_is) its
 
-started_keep : (s : SceneParts) (h : List Entry) (by : PartyId) (place : ℕ) (kind : EntryKind) → Legal s h → IsRow s h by kind → AllByRecursion (λ (t : Started). KeepsRules s t.agent) (started_by place by kind)
+started_keep : (s : SceneParts) (h : List Entry) (by : PartyId) (place : ℕ) (kind : EntryKind) → Legal s h → MayFollow s h by kind → AllByRecursion (λ (t : Started). KeepsRules s t.agent) (started_by place by kind)
 started_keep s h by place (Begin lane demand opening agent) legal row = (begun_keeps s h by lane demand opening agent legal row, tt)
 started_keep s h by place other legal row = tt
 

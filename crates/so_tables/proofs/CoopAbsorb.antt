@@ -15,13 +15,13 @@ use Rattle.so_history.specs.declared.entry.Entry.{Entry}
 use Rattle.so_history.specs.declared.entry.EntryKind.{EntryKind}
 use Rattle.so_history.specs.declared.entry.EntryKind.TheVariants.{Register, Begin, Skip, Act, End, Leaving, Left}
 use Rattle.so_history.specs.Coops.{roster, roster_by, leaving, leaving_by, mark, mark_by}
-use Rattle.so_history.specs.Steps.{IsRow, Legal}
+use Rattle.so_history.specs.Steps.{MayFollow, Legal}
 use Rattle.so_history.specs.Finishing.{unfinished}
-use Rattle.so_history.proofs.CoopLaws.{may_leave_parts}
-use Rattle.so_history.proofs.PresenceLaws.{leaves_present}
+use Rattle.so_history_laws.proofs.CoopLaws.{may_leave_parts}
+use Rattle.so_history_laws.proofs.PresenceLaws.{leaves_present}
 use Rattle.so_history.proofs.RosterLaws.{present_within, leaving_present}
 use Rattle.so_history.proofs.TurnLaws.{turn_agent}
-use Rattle.so_history.proofs.UnfinishedLaws.{Spares, unfinished-same, unfinished-begun, unfinished-skipped}
+use Rattle.so_history_laws.proofs.UnfinishedLaws.{Spares, unfinished-same, unfinished-begun, unfinished-skipped}
 use Rattle.so_coop.specs.declared.coops.Coop.{Coop}
 use Rattle.so_tables.specs.declared.found.Found.{Found}
 use Rattle.so_tables.specs.declared.found.Found.TheVariants as what
@@ -79,7 +79,7 @@ module _ (s : SceneParts) (h : List Entry) (by : PartyId) (scene : IsScene s) wh
 
   -- ---- what is asked of them
 
-  may_enter : (kind : EntryKind) (coop : CoopId) → IsRow s h by kind → Enters kind coop → IsAbsent (coops_of s h) coop
+  may_enter : (kind : EntryKind) (coop : CoopId) → MayFollow s h by kind → Enters kind coop → IsAbsent (coops_of s h) coop
   may_enter kind coop row its =
       let known = entered_known s h (at kind) coop row its in
       (known, ap (λ (x : Coop). x.present) (coop_found s h coop known) ∙ (was_open s h (at kind) coop row its).absent)

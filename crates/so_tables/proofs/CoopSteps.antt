@@ -20,14 +20,14 @@ use Rattle.so_history.specs.declared.entry.EntryKind.TheVariants.{Act, End, Leav
 use Rattle.so_history.specs.Coops.{is_same, roster, roster_by, present, leaving, leaving_by, mark, mark_by, may_mark}
 use Rattle.so_history.specs.Finishing.{finishes, unfinished}
 use Rattle.so_history.specs.Leaves.{is_of}
-use Rattle.so_history.specs.Steps.{yes_where, IsRow, Legal}
+use Rattle.so_history.specs.Steps.{yes_where, MayFollow, Legal}
 use Rattle.so_history.specs.Turns.{Started, turn_at}
-use Rattle.so_history.proofs.CoopLaws.{may_leave_parts}
-use Rattle.so_history.proofs.LeavingLaws.{none_unfinished}
-use Rattle.so_history.proofs.PresenceLaws.{present_now, leaves_present}
+use Rattle.so_history_laws.proofs.CoopLaws.{may_leave_parts}
+use Rattle.so_history_laws.proofs.LeavingLaws.{none_unfinished}
+use Rattle.so_history_laws.proofs.PresenceLaws.{present_now, leaves_present}
 use Rattle.so_history.proofs.RosterLaws.{present_within, leaving_present, absent_leaving, absent_mark}
 use Rattle.so_tables.proofs.Entering.{Enters, as_main, as_act, it_joins, was_open, entered_known}
-use Rattle.so_history.proofs.UnfinishedLaws.{Spares, unfinished-same, unfinished-leaving, unfinished-leaving_other, unfinished-finished, unfinished-ended, unfinished-absent}
+use Rattle.so_history_laws.proofs.UnfinishedLaws.{Spares, unfinished-same, unfinished-leaving, unfinished-leaving_other, unfinished-finished, unfinished-ended, unfinished-absent}
 use Rattle.so_coop.specs.declared.coops.Coop.{Coop}
 use Rattle.so_coop.specs.Coops.{absent, entered, standing_at, with_coop, after_enter, may_mark as table_may_mark, marked, after_mark, begun_to_leave, after_leave_begin, one_finished, after_finished, after_left}
 use Rattle.so_tables.specs.Tables.{coop_at, coops_of, finished_turn}
@@ -92,7 +92,7 @@ present_still h e c same = ap (λ cs. list_any (is_same c) cs) same
 
 pub coops-leaving : (s : SceneParts) (h : List Entry) (e : Entry) (coop : CoopId) (reason : Reason) → IsScene s → Legal s (e ∷ h) → e.kind ≡ Leaving coop reason → coops_of s (e ∷ h) ≡ after_leave_begin coop (coops_of s h)
 coops-leaving s h e coop reason scene legal is =
-    let there : present h coop ≡ true = (leaves_present s h e.by coop reason (subst (IsRow s h e.by) is legal.1.row)).0 in
+    let there : present h coop ≡ true = (leaves_present s h e.by coop reason (subst (MayFollow s h e.by) is legal.1.row)).0 in
     let within = present_within s h coop legal.0 there in
     coops-set s h e coop (begun_to_leave (coop_of s coop).count (coop_at s h coop.0)) within
     (becomes s h e coop.0 (begun_to_leave (coop_of s coop).count (coop_at s h coop.0)) (present_still h e coop (rw is refl))
@@ -111,7 +111,7 @@ coops-leaving s h e coop reason scene legal is =
 pub coops-left : (s : SceneParts) (h : List Entry) (e : Entry) (coop : CoopId) → IsScene s → Legal s (e ∷ h) → e.kind ≡ Left coop → coops_of s (e ∷ h) ≡ after_left coop (coops_of s h)
 unfolding roster
 coops-left s h e coop scene legal is =
-    let row : IsRow s h e.by (Left coop) = subst (IsRow s h e.by) is legal.1.row in
+    let row : MayFollow s h e.by (Left coop) = subst (MayFollow s h e.by) is legal.1.row in
     let may = may_leave_parts s h coop row.may in
     let within = present_within s h coop legal.0 (leaving_present s h coop legal.0 may.goes) in
     coops-set s h e coop absent within

@@ -35,11 +35,11 @@ use Rattle.so_history.specs.Demands.{ask, ask_each, demands_from, takes, queued_
 use Rattle.so_history.specs.Heads.{takes_on}
 use Rattle.so_history.specs.Order.{runs_safe, pick, opening_of, skipped, taking_as, taking}
 use Rattle.so_history.specs.Safety.{is_safe}
-use Rattle.so_history.specs.Steps.{IsTaking, IsRow, Legal}
+use Rattle.so_history.specs.Steps.{IsTaking, MayFollow, Legal}
 use Rattle.so_history.specs.Turns.{Started, started_by, ends}
 use Rattle.so_history.proofs.DemandLaws.{demands_early, waiting-queued, waiting-same, waiting-taken, picked_of, length-asked}
 use Rattle.so_history.proofs.NameLaws.{length-demands_from}
-use Rattle.so_history.proofs.PresenceLaws.{leaves_present}
+use Rattle.so_history_laws.proofs.PresenceLaws.{leaves_present}
 use Rattle.so_history.proofs.RosterLaws.{present_within}
 use Rattle.so_history.proofs.TurnLaws.{turn_agent}
 use Rattle.so_events.specs.Tied.{overlaps}
@@ -199,7 +199,7 @@ module _ (s : SceneParts) (room : ℕ) (h : List Entry) (by : PartyId) (scene : 
     may_ask : (coop : CoopId) (asks : DemandKind) → coop.0 < length s.coops → queued_by s h kind ≡ demands_from (length h) 0 (ask_each asks (agents_of s coop)) → MayAsk here coop (events_of s room h)
     may_ask coop asks known is = (known, has_room (coop_of s coop).count (ap length is ∙ (length-demands_from (length h) 0 (ask_each asks (agents_of s coop)) ∙ length-asked s coop asks)))
 
-  may_act : (turn : Place) (x : Effect) (said : Answer) (sent : List Queued) → length (demands s h) + length (queued_by s h (Act turn x said)) ≤ room → IsRow s h by (Act turn x said) → IsSentBy s h x sent → MayAct sent here x said (events_of s room h)
+  may_act : (turn : Place) (x : Effect) (said : Answer) (sent : List Queued) → length (demands s h) + length (queued_by s h (Act turn x said)) ≤ room → MayFollow s h by (Act turn x said) → IsSentBy s h x sent → MayAct sent here x said (events_of s room h)
   may_act turn (effect.Send (Mbox mbox) msg payload) said sent few row its =
       let all : List Queued = events (delivered s h mbox msg payload) in
       let count = length-demands_from (length h) 0 (map ask all) ∙ length-map all ask in

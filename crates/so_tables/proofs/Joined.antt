@@ -22,7 +22,7 @@ use Rattle.so_tables.proofs.MboxAbsorb.{mboxes-absorbed, mboxes-may}
 use Rattle.so_tables.proofs.LaneAbsorb.{lanes-absorbed, lanes-may}
 use Rattle.so_tables.proofs.VarAbsorb.{variables-absorbed, variables-may}
 use Rattle.so_tables.proofs.AttemptAbsorb.{attempts-absorbed, attempts-may}
-use Rattle.so_tables.proofs.MarkAbsorb.{marks-absorbed}
+use Rattle.so_tables.proofs.MilestoneAbsorb.{milestones-absorbed}
 
 module _ (s : SceneParts) (room : ℕ) (h : List Entry) (e : Entry) (found : Found) (sent : List Queued) (scene : IsScene s) (legal : Legal s (e ∷ h)) (its : IsFound s h e.kind found) (is_sent : IsSent s h e.kind sent) where
   going : aborted h ≡ false
@@ -38,7 +38,7 @@ module _ (s : SceneParts) (room : ℕ) (h : List Entry) (e : Entry) (found : Fou
         lanes = lanes-absorbed s h e found legal its i;
         variables = variables-absorbed s h e found scene legal its i;
         attempts = attempts-absorbed s h e legal i;
-        marks = marks-absorbed h e going i;
+        milestones = milestones-absorbed h e going i;
         units = units s h + cost s h e;
       }
 

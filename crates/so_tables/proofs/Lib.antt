@@ -13,7 +13,7 @@ pub mod AttemptAbsorb
 pub mod CoopAbsorb
 pub mod EventAbsorb
 pub mod LaneAbsorb
-pub mod MarkAbsorb
+pub mod MilestoneAbsorb
 pub mod MboxAbsorb
 pub mod VarAbsorb
 pub mod TableLaws

@@ -19,8 +19,8 @@ use Rattle.so_history.specs.declared.entry.Entry.{Entry}
 use Rattle.so_history.specs.declared.entry.EntryKind.{EntryKind}
 use Rattle.so_history.specs.declared.entry.EntryKind.TheVariants.{Register, Act, Left}
 use Rattle.so_history.specs.Delivery.{active_rows, active_filters}
-use Rattle.so_history.specs.Steps.{may_subscribe, IsRow, Legal}
-use Rattle.so_history.proofs.CoopLaws.{may_leave_parts}
+use Rattle.so_history.specs.Steps.{may_subscribe, MayFollow, Legal}
+use Rattle.so_history_laws.proofs.CoopLaws.{may_leave_parts}
 use Rattle.so_history.proofs.RosterLaws.{present_within, leaving_present}
 use Rattle.so_tables.specs.declared.found.Found.{Found}
 use Rattle.so_tables.specs.declared.found.Found.TheVariants as what
@@ -69,13 +69,13 @@ module _ (s : SceneParts) (h : List Entry) (by : PartyId) (scene : IsScene s) wh
 
   -- ---- what is asked of them
 
-  may_enter : (kind : EntryKind) (coop : CoopId) → IsRow s h by kind → Enters kind coop → MayEnter coop (subscriptions_of s h)
+  may_enter : (kind : EntryKind) (coop : CoopId) → MayFollow s h by kind → Enters kind coop → MayEnter coop (subscriptions_of s h)
   may_enter kind coop row its = record {
     known = entered_known s h (at kind) coop row its;
     nobody = nobody_entered s h coop scene (was_open s h (at kind) coop row its).absent;
   }
 
-  may_effect : (turn : Place) (x : Effect) (said : Answer) (a : AgentId) → IsRow s h by (Act turn x said) → IsActing s h turn x said a → MayEffect a x said (subscriptions_of s h)
+  may_effect : (turn : Place) (x : Effect) (said : Answer) (a : AgentId) → MayFollow s h by (Act turn x said) → IsActing s h turn x said a → MayEffect a x said (subscriptions_of s h)
   may_effect turn (effect.Register coop) answer.Okay a row its = may_enter (Act turn (effect.Register coop) answer.Okay) coop row (as_act turn refl)
   may_effect turn (effect.Subscribe r) answer.Yes a row its =
       let rows : get_or (subscriptions_of s h).rows a.0 [] ≡ active_rows s h a = rows_here s h (at (Act turn (effect.Subscribe r) answer.Yes)) turn (effect.Subscribe r) answer.Yes a refl its.whose its.known in

@@ -12,7 +12,7 @@ use Rattle.so_tables.specs.AfterMboxes.{after_entry as mboxes_after, MayAbsorb a
 use Rattle.so_tables.specs.AfterLanes.{after_entry as lanes_after, MayAbsorb as LanesMay}
 use Rattle.so_tables.specs.AfterVariables.{after_entry as variables_after, MayAbsorb as VariablesMay}
 use Rattle.so_tables.specs.AfterAttempts.{after_entry as attempts_after, MayAbsorb as AttemptsMay}
-use Rattle.so_tables.specs.AfterMarks.{after_entry as marks_after}
+use Rattle.so_tables.specs.AfterMilestones.{after_entry as milestones_after}
 
 -- each absorbs the entry, and its cost is spent
 abbrev pub after_entry : SceneParts → Found → List Queued → Place → EntryKind → ℕ → Tables → Tables
@@ -23,7 +23,7 @@ after_entry s found sent place kind cost t = record {
   lanes = lanes_after found place kind t.lanes;
   variables = variables_after s found kind t.variables;
   attempts = attempts_after kind t.attempts;
-  marks = marks_after kind t.marks;
+  milestones = milestones_after kind t.milestones;
   units = t.units + cost;
 }
 

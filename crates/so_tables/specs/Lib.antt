@@ -6,7 +6,7 @@ pub mod AfterAttempts
 pub mod AfterCoops
 pub mod AfterEvents
 pub mod AfterLanes
-pub mod AfterMarks
+pub mod AfterMilestones
 pub mod AfterMboxes
 pub mod AfterStates
 pub mod AfterVariables

@@ -24,7 +24,7 @@ use Rattle.so_history.specs.Finishing.{unfinished}
 use Rattle.so_coop.specs.declared.coops.Coop.{Coop}
 use Rattle.so_coop.specs.Coops.{CoopTable, nobody as nobody_registered, after_finished}
 use Rattle.so_tables.specs.Attempts.{AttemptTable, none_tried}
-use Rattle.so_tables.specs.declared.tables.Marks.{Marks}
+use Rattle.so_tables.specs.declared.tables.Milestones.{Milestones}
 use Rattle.so_tables.specs.declared.tables.Tables.{Tables}
 
 -- where the first of these turns began
@@ -66,8 +66,8 @@ events_of s room h = record {
   room = room;
 }
 
-abbrev pub marks_of : List Entry → Marks
-marks_of h = record { left = some_left h; asked = stop_asked h; stopped = stopped h; aborted = aborted h }
+abbrev pub milestones_of : List Entry → Milestones
+milestones_of h = record { left = some_left h; asked = stop_asked h; stopped = stopped h; aborted = aborted h }
 
 -- how each cooperation stands
 abbrev pub coop_at : SceneParts → List Entry → ℕ → Coop
@@ -123,7 +123,7 @@ tables_of s room h =
       mboxes = subscriptions_of s h;
       coops = coops_of s h;
       attempts = attempts_of s h;
-      marks = marks_of h;
+      milestones = milestones_of h;
       units = units s h;
     }
 
@@ -137,7 +137,7 @@ fresh s room =
       mboxes = nobody s;
       coops = nobody_registered s;
       attempts = none_tried s;
-      marks = record { left = false; asked = false; stopped = false; aborted = false };
+      milestones = record { left = false; asked = false; stopped = false; aborted = false };
       units = 0;
     }
 

@@ -4,7 +4,7 @@ pub(crate) mod attempts;
 pub(crate) mod coops;
 pub(crate) mod events;
 pub(crate) mod lanes;
-pub(crate) mod marks;
 pub(crate) mod mboxes;
+pub(crate) mod milestones;
 pub(crate) mod states;
 pub(crate) mod variables;

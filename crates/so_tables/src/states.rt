@@ -17,17 +17,17 @@ use std::marker::Model;
 
 /// The leaf that an agent is in, and what a switch asks of all that it has entered.
 #[derive(Drop)]
-pub struct Standing {
+pub struct AgentState {
     leaf: StateId,
     memory: Memory,
 }
 
-impl Standing {
+impl AgentState {
     /// An agent that has entered no state is in the default one.
-    fn new() -> Standing
+    fn new() -> AgentState
         ensures { (states : List AnyState) → Stands states [] result }
     {
-        Standing {
+        AgentState {
             leaf: StateId(0),
             memory: Memory::new(),
         }
@@ -52,14 +52,14 @@ impl Standing {
 /// How each agent stands.
 #[derive(Drop)]
 pub struct States {
-    list: Vec<Standing>,
+    list: Vec<AgentState>,
 }
 
 impl Model for States {
     ghost use Rattle.std.specs.Prelude.{List};
-    ghost use Rattle.so_tables.specs.declared.states.Standing.{Standing};
+    ghost use Rattle.so_tables.specs.declared.states.AgentState.{AgentState};
 
-    ghost Value = { List Standing };
+    ghost Value = { List AgentState };
 
     ghost view = { λ s. s.list.items };
 }
@@ -72,7 +72,7 @@ impl States {
         let _parts = scene.parts();
         let mut list = Vec::new(alloc);
         for _agent in 0..scene.agents() {
-            if list.push(Standing::new()).is_err() {
+            if list.push(AgentState::new()).is_err() {
                 return Err(NoMemory);
             }
         }
@@ -87,12 +87,12 @@ impl States {
         ensures { (leaves : AgentNumber → List StateNumber) → AllStand scene.now leaves self.old → AllStand scene.now (with_none first.0 (first.0 + count) leaves) self.new }
     {
         for k in 0..count {
-            self.set(first.0 + k, Standing::new());
+            self.set(first.0 + k, AgentState::new());
         }
     }
 
     /// An agent stands so now.
-    fn set(&mut self, agent: u32, standing: Standing)
+    fn set(&mut self, agent: u32, standing: AgentState)
         requires { agent < length self.old }
         ensures { self.new ≡ slice_set self.old agent standing }
     {

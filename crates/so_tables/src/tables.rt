@@ -9,12 +9,12 @@ use crate::absorb::attempts::absorb_attempts;
 use crate::absorb::coops::absorb_coops;
 use crate::absorb::events::absorb_events;
 use crate::absorb::lanes::absorb_lanes;
-use crate::absorb::marks::absorb_marks;
 use crate::absorb::mboxes::absorb_mboxes;
+use crate::absorb::milestones::absorb_milestones;
 use crate::absorb::variables::absorb_variables;
 use crate::attempts::Attempts;
 use crate::found::Found;
-use crate::slots::Slots;
+use crate::lane_turns::LaneTurns;
 use crate::variables::Variables;
 use so_coop::Coops;
 use so_deliver::{Outcomes, plan_delivery};
@@ -25,9 +25,9 @@ use so_mbox::Table;
 use so_scene::Scene;
 use std::alloc::Global;
 
-/// How the run stands.
+/// What has happened in the run.
 #[derive(Clone, Copy, PartialEq, Eq)]
-pub struct Marks {
+pub struct Milestones {
     /// A cooperation has left.
     pub left: bool,
     /// A turn asked for a stop.
@@ -42,12 +42,12 @@ pub struct Marks {
 #[derive(Drop)]
 pub struct Tables<'a> {
     pub events: Events<'a>,
-    pub lanes: Slots,
+    pub lanes: LaneTurns,
     pub variables: Variables,
     pub mboxes: Table<'a>,
     pub coops: Coops<'a>,
     pub attempts: Attempts<'a>,
-    pub marks: Marks,
+    pub milestones: Milestones,
     pub units: u32,
 }
 
@@ -61,12 +61,12 @@ impl<'a> Tables<'a> {
     {
         Ok(Tables {
             events: Events::with(alloc, scene, room)?,
-            lanes: Slots::with(alloc, scene.lanes())?,
+            lanes: LaneTurns::with(alloc, scene.lanes())?,
             variables: Variables::with(alloc, scene)?,
             mboxes: Table::with(alloc, scene)?,
             coops: Coops::with(alloc, scene)?,
             attempts: Attempts::with(alloc, scene)?,
-            marks: Marks {
+            milestones: Milestones {
                 left: false,
                 asked: false,
                 stopped: false,
@@ -110,7 +110,7 @@ impl<'a> Tables<'a> {
         absorb_lanes(&mut self.lanes, found, place, kind);
         absorb_variables(&mut self.variables, scene, found, kind);
         absorb_attempts(&mut self.attempts, kind);
-        absorb_marks(&mut self.marks, kind);
+        absorb_milestones(&mut self.milestones, kind);
         self.units += cost;
     }
 }

@@ -8,9 +8,10 @@ ghost use Rattle.so_twins.specs.Classes.{class_of};
 use crate::draw::{drawn, next_random};
 use so_disp_adv::{HeadClass, Heads};
 use so_disp_prio::Prio;
+use so_fault::SceneRefusal;
 use so_ids::{DemandId, KeyId, LaneId, NoMemory, Place, Priority};
 use so_queue::Queues;
-use so_scene::{Scene, SceneRefusal};
+use so_scene::Scene;
 use so_scene_json::read_scene;
 use std::alloc::Global;
 

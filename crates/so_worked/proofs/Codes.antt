@@ -1,6 +1,6 @@
 -- The moves of turns: what each asks for, one after the other, where it gets these answers.
-use Rattle.std.proofs.Common.{◌≡◌, ℕ, List, [], ◌∷◌, Bool, true, false, None, refl}
-use Rattle.std.specs.Prelude.{ℤ, pos, negsuc, map, replicate}
+use Rattle.std.proofs.Common.{◌≡◌, ℕ, List, [], ◌∷◌, Bool, true, false, zero, suc, ◌<◌, Some, None, arith, refl, sym}
+use Rattle.std.specs.Prelude.{ℤ, pos, negsuc, map, replicate, slice_get}
 use Rattle.so_ids.specs.declared.StateId.{StateId}
 use Rattle.so_ids.specs.declared.Opening.{Opening}
 use Rattle.so_ids.specs.declared.Opening.TheVariants as opening
@@ -9,8 +9,12 @@ use Rattle.so_ids.specs.declared.Chosen.TheVariants as chosen
 use Rattle.so_ids.specs.declared.Payload.{Payload}
 use Rattle.so_ids.specs.declared.EndReason.TheVariants.{Closed}
 use Rattle.so_ids.specs.declared.Target.TheVariants.{Mbox}
+use Rattle.so_state.specs.declared.choice.Row.{Row as StateRow}
+use Rattle.so_state.specs.declared.choice.RowKind.{RowKind}
+use Rattle.so_state.specs.declared.choice.RowKind.TheVariants as kind
 use Rattle.so_state.specs.Plan.{plan_of}
 use Rattle.so_code.specs.declared.instr.Args.{Args}
+use Rattle.so_code.specs.declared.instr.Body.{Body}
 use Rattle.so_code.specs.declared.instr.Body.TheVariants.{Start, Finish, Thread, Row, Enter, Exit}
 use Rattle.so_code.specs.declared.instr.Cmp.{Cmp}
 use Rattle.so_code.specs.declared.instr.Cmp.TheVariants.{Eq, Ne, Lt, Le, Gt, Ge}
@@ -27,9 +31,13 @@ use Rattle.so_code.specs.declared.effect.Move.{Move}
 use Rattle.so_code.specs.declared.effect.Move.TheVariants.{Do, Done, Fail}
 use Rattle.so_code.specs.declared.frame.Frame.{Frame}
 use Rattle.so_code.specs.Values.{holds}
-use Rattle.so_code.specs.Openings.{begun}
+use Rattle.so_code.specs.Bodies.{body_at, bodies_in}
+use Rattle.so_code.specs.Shape.{agent_bodies}
+use Rattle.so_code.specs.Differs.{IsFirstDifference}
+use Rattle.so_code.specs.Openings.{first_frame}
 use Rattle.so_code.specs.Machine.{after}
 use Rattle.so_code.specs.Answers.{answered}
+use Rattle.so_scene.specs.Checked.{handlers}
 
 -- ---- turns
 
@@ -46,7 +54,7 @@ nothing = record { fields = replicate 4 (pos 0); used = 0 }
 
 -- a turn of an agent whose first variable is this
 abbrev turn : Opening → ℤ → Payload → Frame
-turn o first msg = begun o (record { 0 = first ∷ replicate 15 (pos 0) }) msg
+turn o first msg = first_frame o (record { 0 = first ∷ replicate 15 (pos 0) }) msg
 
 abbrev row_turn : ℤ → Frame
 row_turn field = turn (opening.Event (chosen.Run (record { 0 = 0 }))) (pos 0) (one field)
@@ -183,6 +191,68 @@ a_receive_ends_where_its_chains_are_closed :
     ≡ (Do (effect.Receive 0) ∷ take ∷ logs 1 (one (pos 6)) ∷ Done ∷ [])
 unfolding after
 a_receive_ends_where_its_chains_are_closed = refl
+
+-- a field of the message is logged in the receive and after it
+abbrev taking_one : List Instr
+taking_one = instr.Receive (replicate 8 (record { 0 = 0 })) 1 1 10000 None None false ∷ instr.Case 0 (record { 0 = 0 }) ∷ log 0 (operand (Msg 0)) ∷ instr.Back ∷ log 1 (operand (Msg 0)) ∷ instr.End Thread ∷ []
+
+after_a_receive_the_message_is_the_one_before_it :
+    moves taking_one (answer.Okay ∷ got 0 0 (pos 7) ∷ answer.Okay ∷ answer.Okay ∷ []) (turn opening.Thread (pos 0) (one (pos 5)))
+    ≡ (Do (effect.Receive 0) ∷ take ∷ logs 0 (one (pos 7)) ∷ logs 1 (one (pos 5)) ∷ Done ∷ [])
+unfolding after
+after_a_receive_the_message_is_the_one_before_it = refl
+
+-- ---- the bodies of an agent's code
+
+abbrev row : ℕ → RowKind → StateRow
+row msg k = record { mbox = record { 0 = 0 }; msg = record { 0 = msg }; state = record { 0 = 0 }; kind = k; safe = false; active = true }
+
+-- of an agent with two states, and with rows of which the first and the last have handlers
+abbrev in_order : List Body
+in_order = Start ∷ Finish ∷ Enter state_1 ∷ Exit state_1 ∷ Enter (record { 0 = 2 }) ∷ Exit (record { 0 = 2 }) ∷ Row (record { 0 = 0 }) ∷ Row (record { 0 = 3 }) ∷ []
+
+abbrev with_an_act : List Body → List Instr
+with_an_act [] = []
+with_an_act (body ∷ bodies) = instr.Stop ∷ instr.End body ∷ with_an_act bodies
+
+-- the start has two acts, and each other body one
+abbrev of_agent : List Instr
+of_agent = instr.Skip 0 ∷ with_an_act in_order
+
+-- each begins after the end of the one before, and no other is there
+bodies_stand_in_order :
+    (agent_bodies 2 (handlers (row 0 kind.Run ∷ row 1 kind.Suppress ∷ row 2 (kind.Switch state_1) ∷ row 3 kind.Dead ∷ [])) ≡ in_order)
+    × (bodies_in of_agent ≡ in_order)
+    × (map (body_at of_agent) in_order ≡ Some 0 ∷ Some 3 ∷ Some 5 ∷ Some 7 ∷ Some 9 ∷ Some 11 ∷ Some 13 ∷ Some 15 ∷ [])
+    × (map (body_at of_agent) (Row (record { 0 = 1 }) ∷ Enter (record { 0 = 3 }) ∷ Thread ∷ []) ≡ None ∷ None ∷ None ∷ [])
+bodies_stand_in_order = (refl, refl, refl, refl)
+
+-- ---- where two codes differ
+
+abbrev two_bodies : List Instr
+two_bodies = instr.End Start ∷ instr.End Finish ∷ []
+
+abbrev three_bodies : List Instr
+three_bodies = instr.End Start ∷ instr.End Finish ∷ instr.End (Row (record { 0 = 0 })) ∷ []
+
+abbrev stopping : List Instr
+stopping = instr.Stop ∷ instr.End Start ∷ instr.End Finish ∷ []
+
+same_first_two : (k : ℕ) → k < 2 → slice_get two_bodies k ≡ slice_get three_bodies k
+same_first_two zero l = refl
+same_first_two (suc zero) l = refl
+same_first_two (suc (suc k)) l = absurd (omega arith)
+
+-- at the end of the shorter, whichever comes first, and at an instruction
+codes_differ_first_where_they_part : IsFirstDifference two_bodies three_bodies 2 × IsFirstDifference three_bodies two_bodies 2 × IsFirstDifference stopping three_bodies 0
+codes_differ_first_where_they_part = (
+  record { before = same_first_two; here = λ e. cc },
+  record { before = λ k l. sym (same_first_two k l); here = λ e. cc },
+  record { before = λ k l. absurd (omega arith); here = λ e. cc },
+)
+
+equal_codes_differ_nowhere : (code : List Instr) (k : ℕ) → IsFirstDifference code code k → ⊥
+equal_codes_differ_nowhere code k differ = differ.here refl
 
 -- ---- comparisons
 

@@ -17,7 +17,7 @@ use Rattle.so_scene.specs.declared.parts.SceneParts.{SceneParts}
 use Rattle.so_scene.specs.Parts.{no_agent, default_disp}
 use Rattle.so_scene.specs.Definition.{definition_fault}
 use Rattle.so_scene.specs.Cooperations.{leaving_next}
-use Rattle.so_coop.specs.Coops.{CoopTable, nobody, standing, is_leaving, present, admit_answer, may_mark, after_enter, after_mark, after_leave_begin, after_finished, after_left, left_next}
+use Rattle.so_coop.specs.Coops.{CoopTable, nobody, standing, standing_at, is_leaving, present, admit_answer, may_mark, after_enter, after_mark, after_leave_begin, after_finished, after_left, left_next}
 
 -- ---- the scene
 
@@ -142,6 +142,7 @@ child_left = after_left child both_finished
 a_parent_leaves_after_its_child :
     map asked (
     after_mark parent why.Asked none
+    ∷ after_enter parent none
     ∷ both
     ∷ parent_marked
     ∷ after_mark parent why.Asked parent_marked
@@ -155,6 +156,7 @@ a_parent_leaves_after_its_child :
     ∷ [])
     ≡ (
     (None, None, 0)
+    ∷ (None, None, 1)
     ∷ (None, None, 2)
     ∷ (Some (parent, why.Exception), None, 2)
     ∷ (Some (parent, why.Exception), None, 2)
@@ -168,6 +170,19 @@ a_parent_leaves_after_its_child :
     ∷ [])
 unfolding each_below
 a_parent_leaves_after_its_child = refl
+
+-- how many finish turns of a cooperation are still to come
+abbrev unfinished : CoopId → CoopTable → ℕ
+unfinished c t = (standing_at t c).unfinished
+
+abbrev big_leaves : CoopTable
+big_leaves = after_leave_begin big (after_enter big none)
+
+-- turns are counted, and not agents: after a second one of the first of two none is to come, and none after a second one of an only
+finish_turns_are_counted_down_to_none :
+    (map (unfinished big) (big_leaves ∷ after_finished (record { 0 = 2 }) big_leaves ∷ after_finished (record { 0 = 2 }) (after_finished (record { 0 = 2 }) big_leaves) ∷ []) ≡ 2 ∷ 1 ∷ 0 ∷ [])
+    × (map (unfinished parent) (both_leave ∷ parent_finished ∷ after_finished (record { 0 = 0 }) parent_finished ∷ []) ≡ 1 ∷ 0 ∷ 0 ∷ [])
+finish_turns_are_counted_down_to_none = (refl, refl)
 
 only_a_present_one_is_marked_and_once :
     (may_mark none parent ∷ may_mark both parent ∷ may_mark parent_marked parent ∷ may_mark parent_leaves parent ∷ may_mark parent_leaves child ∷ [])

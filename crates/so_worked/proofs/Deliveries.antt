@@ -1,7 +1,9 @@
 -- Subscriptions and filters of three agents, and what becomes of messages to them.
-use Rattle.std.proofs.Common.{◌≡◌, ℕ, List, [], ◌∷◌, Bool, true, false, None, refl}
+use Rattle.std.proofs.Common.{◌≡◌, ℕ, List, [], ◌∷◌, Bool, true, false, Some, None, refl}
 use Rattle.std.specs.Prelude.{ℤ, pos, negsuc, map, Ok, Err}
+use Rattle.so_ids.specs.Ids.{default_state}
 use Rattle.so_ids.specs.declared.AgentId.{AgentId}
+use Rattle.so_ids.specs.declared.DefFault.TheVariants as rule
 use Rattle.so_ids.specs.declared.Payload.{Payload}
 use Rattle.so_ids.specs.declared.Queued.{Queued}
 use Rattle.so_code.specs.declared.instr.Instr.{Instr}
@@ -9,7 +11,6 @@ use Rattle.so_code.specs.declared.instr.Instr.TheVariants.{End}
 use Rattle.so_code.specs.declared.instr.Body.TheVariants.{Start, Finish, Row as RowBody}
 use Rattle.so_code.specs.declared.instr.Cmp.{Cmp}
 use Rattle.so_code.specs.declared.instr.Cmp.TheVariants.{Eq, Lt, Ge}
-use Rattle.so_state.specs.States.{default_state}
 use Rattle.so_state.specs.declared.choice.Row.{Row}
 use Rattle.so_state.specs.declared.choice.RowKind.{RowKind}
 use Rattle.so_state.specs.declared.choice.RowKind.TheVariants.{Run, Dead}
@@ -19,11 +20,13 @@ use Rattle.so_scene.specs.declared.parts.FilterDef.{FilterDef}
 use Rattle.so_scene.specs.declared.parts.MessageDef.{MessageDef}
 use Rattle.so_scene.specs.declared.parts.SceneParts.{SceneParts}
 use Rattle.so_scene.specs.Parts.{no_agent, default_disp}
-use Rattle.so_scene.specs.Subscriptions.{filter_set, filters_first, rows_first}
+use Rattle.so_scene.specs.Definition.{is_twice, filter_fault_of}
+use Rattle.so_scene.specs.Subscriptions.{filter_of, filter_set, filters_first, rows_first}
 use Rattle.so_scene.specs.Delivery.{events, sent_of}
 use Rattle.so_mbox.specs.Table.{Subscriptions, nobody, receivers, is_row_active, is_filter_active, after_enter, after_leave, after_subscribe, after_unsubscribe, after_set_filter, after_drop_filter}
-use Rattle.so_mbox.specs.Answers.{subscribe_answer}
+use Rattle.so_mbox.specs.Answers.{subscribe_answer, broken_by}
 use Rattle.so_mbox.specs.declared.table.SubFault.TheVariants.{Twice}
+use Rattle.so_mbox.specs.declared.table.FilterFault.TheVariants as refused
 use Rattle.so_coop.specs.Coops.{CoopTable, nobody as no_coops, after_enter as after_registration, after_leave_begin}
 use Rattle.so_deliver.specs.Planned.{outcomes_of}
 
@@ -223,6 +226,20 @@ a_subscription_is_answered_by_what_is_active :
     (subscribe_answer (after_enter r none) r (record { 0 = 0 }) ∷ subscribe_answer (after_enter r none) r (record { 0 = 1 }) ∷ subscribe_answer first_dropped r (record { 0 = 1 }) ∷ subscribe_answer second_set r (record { 0 = 0 }) ∷ [])
     ≡ (Err Twice ∷ Err Twice ∷ Ok tt ∷ Err Twice ∷ [])
 a_subscription_is_answered_by_what_is_active = refl
+
+-- a dead-letter row stands twice where another active one is for the same events, whatever else is active
+abbrev dead_after : RowKind → Bool → ℕ → Bool
+dead_after kind active msg = is_twice (row_for 3 0 kind active ∷ row_for 4 0 Dead true ∷ []) (active ∷ true ∷ []) (row_for 3 msg Dead false)
+
+only_dead_letter_rows_clash_with_one : (dead_after Dead true 0 ∷ dead_after Dead false 0 ∷ dead_after Run true 0 ∷ dead_after Dead true 2 ∷ []) ≡ (true ∷ false ∷ false ∷ false ∷ [])
+only_dead_letter_rows_clash_with_one = refl
+
+-- each filter of the agents is taken: its answer names no rule. One on a direct mbox isn't, nor one that tests the signal
+a_filter_is_answered_by_its_mbox_and_its_type :
+    (map (filter_fault_of board) (filter_of board r (record { 0 = 0 }) ∷ filter_of board q (record { 0 = 1 }) ∷ filter_of board d (record { 0 = 1 }) ∷ []) ≡ map broken_by (Ok tt ∷ Ok tt ∷ Ok tt ∷ []))
+    × (map (filter_fault_of board) (field_test 1 0 Ge (pos 0) true ∷ field_test 3 1 Ge (pos 0) true ∷ field_test 1 1 Ge (pos 0) true ∷ []) ≡ map broken_by (Err refused.DirectMbox ∷ Err refused.IsSignal ∷ Err refused.DirectMbox ∷ []))
+    × (map broken_by (Ok tt ∷ Err refused.DirectMbox ∷ Err refused.IsSignal ∷ []) ≡ None ∷ Some rule.DirectMbox ∷ Some rule.IsSignal ∷ [])
+a_filter_is_answered_by_its_mbox_and_its_type = (refl, refl, refl)
 
 -- an agent that has left has no active rows
 the_end_of_a_subscription_is_answered_by_what_is_active :

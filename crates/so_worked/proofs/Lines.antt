@@ -3,6 +3,7 @@
 use Rattle.std.proofs.Common.{◌≡◌, ℕ, [], ◌∷◌, true, false, Some, None, refl, arith}
 use Rattle.std.proofs.lemmas.Fmt.{decimal_digit}
 use Rattle.std.specs.Prelude.{pos, negsuc, codes, decimal, map, replicate}
+use Rattle.so_ids.specs.Ids.{main_party, party_of}
 use Rattle.so_ids.specs.declared.StateId.{StateId}
 use Rattle.so_ids.specs.declared.DemandId.{DemandId}
 use Rattle.so_ids.specs.declared.Payload.{Payload}
@@ -283,5 +284,12 @@ each_other_entry_has_its_words :
     ∷ [])
 each_other_entry_has_its_words = rw one_is (rw two_is (rw three_is (rw six_is (rw seven_is (rw nine_is refl)))))
 
-a_line_begins_with_its_place_and_its_party : trace_line 8 (record { by = record { 0 = 1 }; kind = entry.Left (record { 0 = 3 }) }) ≡ codes "8 p1 left 3\n"
+-- main is party 0
+a_lane_has_the_party_after_its_number : (main_party ≡ record { 0 = 0 }) × (party_of (record { 0 = 0 }) ≡ record { 0 = 1 }) × (party_of (record { 0 = 255 }) ≡ record { 0 = 256 })
+a_lane_has_the_party_after_its_number = (refl, refl, refl)
+
+a_line_begins_with_its_place_and_its_party : trace_line 8 (record { by = party_of (record { 0 = 0 }); kind = entry.Left (record { 0 = 3 }) }) ≡ codes "8 p1 left 3\n"
 a_line_begins_with_its_place_and_its_party = rw one_is (rw three_is (rw eight_is refl))
+
+a_refusal_of_main_has_its_line : trace_line 8 (record { by = main_party; kind = entry.Refuse (record { 0 = 2 }) refusal.Present }) ≡ codes "8 p0 refuse 2 present\n"
+a_refusal_of_main_has_its_line = rw zero_is (rw two_is (rw eight_is refl))

@@ -1,6 +1,6 @@
 -- Trees of states, the faults that they may have, switches, and the row that answers an event.
 use Rattle.std.proofs.Common.{◌≡◌, ℕ, true, false, List, [], ◌∷◌, ◌++◌, Option, Some, None, refl}
-use Rattle.std.specs.Prelude.{map}
+use Rattle.std.specs.Prelude.{map, length, reverse}
 use Rattle.std.specs.List.{range_with_len}
 use Rattle.so_ids.specs.declared.StateId.{StateId}
 use Rattle.so_ids.specs.declared.Plan.{Plan}
@@ -14,7 +14,7 @@ use Rattle.so_state.specs.declared.choice.RowKind.{RowKind}
 use Rattle.so_state.specs.declared.choice.RowKind.TheVariants as kind
 use Rattle.so_state.specs.declared.faults.TreeFault.TheVariants.{UnknownState, CycleOfParents, TooDeep, NoInitial, TwoInitials}
 use Rattle.so_state.specs.Fault.{tree_fault}
-use Rattle.so_state.specs.States.{state_of, parent_of, history_of, limit_of, initial_of, is_leaf, is_or_below, path}
+use Rattle.so_state.specs.States.{declared, state_of, parent_of, history_of, limit_of, initial_of, is_leaf, is_or_below, path}
 use Rattle.so_state.specs.Plan.{plan, plan_of}
 use Rattle.so_state.specs.Choice.{chosen, row_in, dead_row}
 
@@ -67,7 +67,7 @@ the_first_rule_and_the_least_state_are_named :
 unfolding tree_fault
 the_first_rule_and_the_least_state_are_named = refl
 
--- n states, each but the first the initial substate of the one before
+-- n + 1 states, each but the first the initial substate of the one before
 abbrev nested : ℕ → List State
 nested n = top ∷ map first_in (range_with_len 1 n)
 
@@ -114,9 +114,10 @@ a_switch_goes_by_the_history = refl
 
 -- ---- what a tree tells of its states
 
+-- the path from inner to outer, and down
 a_state_has_its_parent_and_its_path :
-    (state_of (two_levels Deep) (state 4) ≡ Some (first_in 3)) × (parent_of (two_levels Deep) (state 4) ≡ Some (state 3)) × (path (two_levels Deep) (state 5) ≡ state 5 ∷ state 3 ∷ state 1 ∷ [])
-a_state_has_its_parent_and_its_path = (refl, refl, refl)
+    (state_of (two_levels Deep) (state 4) ≡ Some (first_in 3)) × (parent_of (two_levels Deep) (state 4) ≡ Some (state 3)) × (path (two_levels Deep) (state 5) ≡ state 5 ∷ state 3 ∷ state 1 ∷ []) × (reverse (path (two_levels Deep) (state 5)) ≡ state 1 ∷ state 3 ∷ state 5 ∷ [])
+a_state_has_its_parent_and_its_path = (refl, refl, refl, refl)
 
 a_state_has_its_initial_substate_its_history_and_its_limit :
     (initial_of (two_levels Deep) (state 3) ≡ Some (state 4)) × (history_of (two_levels Deep) (state 1) ≡ Deep) × (limit_of (two_levels Deep) (state 6) ≡ Some (750, state 1))
@@ -124,6 +125,14 @@ a_state_has_its_initial_substate_its_history_and_its_limit = (refl, refl, refl)
 
 a_leaf_lies_below_what_is_above_it : (is_leaf (two_levels Deep) (state 5) ≡ true) × (is_or_below (two_levels Deep) (state 1) (state 5) ≡ true)
 a_leaf_lies_below_what_is_above_it = (refl, refl)
+
+a_tree_has_its_states_in_order_of_number :
+    (length (two_levels Deep) ≡ 6) × (declared (two_levels Deep) ≡ state 1 ∷ state 2 ∷ state 3 ∷ state 4 ∷ state 5 ∷ state 6 ∷ []) × (map (state_of (two_levels Deep)) (declared (two_levels Deep)) ≡ map Some (two_levels Deep))
+a_tree_has_its_states_in_order_of_number = (refl, refl, refl)
+
+-- the tree of an agent that declares no state, which is empty as no other is
+a_flat_tree_has_only_the_default_state : (declared [] ≡ []) × (state_of [] (state 0) ≡ None) × (is_leaf [] (state 0) ≡ true) × (path [] (state 0) ≡ state 0 ∷ []) × (two_levels Deep ≡ [] → ⊥)
+a_flat_tree_has_only_the_default_state = (refl, refl, refl, refl, λ e. cc)
 
 -- ---- choices
 

@@ -1,11 +1,11 @@
 -- Timers that are armed, cancelled and fired.
-use Rattle.std.proofs.Common.{◌≡◌, ℕ, [], ◌∷◌, true, false, Some, None, refl}
-use Rattle.std.specs.Prelude.{pos, replicate}
+use Rattle.std.proofs.Common.{◌≡◌, ℕ, [], ◌∷◌, Bool, true, false, Some, None, refl}
+use Rattle.std.specs.Prelude.{pos, replicate, map, length, ◌&&◌, nat_lt}
 use Rattle.so_ids.specs.declared.TimerId.{TimerId}
 use Rattle.so_ids.specs.declared.Target.TheVariants.{Mbox}
 use Rattle.so_timer.specs.declared.timer.TimerTask.{TimerTask}
 use Rattle.so_timer.specs.declared.timer.TimerTask.TheVariants as task
-use Rattle.so_timer.specs.Timers.{TimerTable, no_timers, is_armed, task_of, after_arm, after_cancel, after_clear, after_fire, due_of, next_of}
+use Rattle.so_timer.specs.Timers.{TimerTable, no_timers, is_armed, task_of, after_arm, after_cancel, after_clear, after_fire, due_of, next_of, earliest_of}
 
 abbrev timer : ℕ → TimerId
 timer n = record { 0 = n }
@@ -33,6 +33,12 @@ timers_fire_by_deadline_and_then_by_number :
 unfolding next_of
 timers_fire_by_deadline_and_then_by_number = refl
 
+-- what each does, in the order in which they fire; and what was cancelled does nothing
+each_does_its_task_as_it_fires :
+    (task_of 2 three.armed ∷ task_of 3 (after_fire 2 three).armed ∷ task_of 0 after_two.armed ∷ task_of 1 three.armed ∷ task_of 2 after_two.armed ∷ [])
+    ≡ (Some (signal 2) ∷ Some (limit 3) ∷ Some (limit 0) ∷ None ∷ None ∷ [])
+each_does_its_task_as_it_fires = refl
+
 a_cancelled_timer_is_not_armed : (is_armed 1 four.armed ∷ is_armed 1 three.armed ∷ is_armed 9 three.armed ∷ []) ≡ (true ∷ false ∷ false ∷ [])
 a_cancelled_timer_is_not_armed = refl
 
@@ -43,6 +49,16 @@ fifth = after_arm 6 0 (limit 4) after_two
 numbers_go_on : (due_of 7 fifth.armed ≡ Some (timer 4)) × (due_of 100 (after_clear fifth).armed ≡ None) × (due_of 1 (after_arm 1 0 (limit 5) (after_clear fifth)).armed ≡ Some (timer 5))
 unfolding next_of
 numbers_go_on = (refl, refl, refl)
+
+-- whether fewer are armed than may be at once, and fewer were than may be in all
+abbrev has_room : TimerTable → Bool
+has_room t = nat_lt (length t.armed) t.cap && nat_lt t.next t.total
+
+-- four may be armed at once, and six in all
+there_is_room_for_so_many_at_once_and_in_all :
+    map has_room (no_timers 4 6 ∷ four ∷ three ∷ after_two ∷ fifth ∷ after_clear fifth ∷ after_arm 1 0 (limit 5) (after_clear fifth) ∷ after_clear (after_arm 1 0 (limit 5) fifth) ∷ [])
+    ≡ (true ∷ false ∷ true ∷ true ∷ true ∷ true ∷ false ∷ false ∷ [])
+there_is_room_for_so_many_at_once_and_in_all = refl
 
 -- a message every 5 ms, and a time limit at 10
 abbrev both : TimerTable
@@ -60,6 +76,12 @@ a_periodic_timer_keeps_its_number :
     ≡ (Some (timer 0) ∷ None ∷ Some (timer 0) ∷ Some (timer 1) ∷ None ∷ Some (timer 0) ∷ [])
 unfolding next_of
 a_periodic_timer_keeps_its_number = refl
+
+the_earliest_deadline_is_the_least_above_a_time :
+    (earliest_of 4 four.armed ∷ earliest_of 5 four.armed ∷ earliest_of 7 four.armed ∷ earliest_of 5 fired_once.armed ∷ earliest_of 10 fired_twice.armed ∷ earliest_of 15 fired_twice.armed ∷ [])
+    ≡ (Some 5 ∷ Some 7 ∷ None ∷ Some 10 ∷ Some 15 ∷ None ∷ [])
+unfolding earliest_of
+the_earliest_deadline_is_the_least_above_a_time = refl
 
 a_cancelled_periodic_timer_does_not_fire_again : (task_of 0 fired_twice.armed ≡ Some (signal 0)) × (due_of 100 (after_cancel 0 (after_fire 1 fired_twice)).armed ≡ None)
 unfolding next_of

@@ -3,13 +3,13 @@ use Rattle.std.proofs.Common.{◌≡◌, inl, inr, ℕ, ◌≤◌, List, length,
 use Rattle.std.specs.Prelude.{IfSome}
 use Rattle.so_io.specs.Files.{ReadsContent}
 use Rattle.so_scene.specs.declared.parts.SceneParts.{SceneParts}
-use Rattle.so_scene.specs.declared.fault.SceneFault.{SceneFault}
+use Rattle.so_fault.specs.declared.fault.SceneFault.{SceneFault}
 use Rattle.so_env.specs.declared.outcome.Cause.TheVariants.{Scene, Memory}
-use Rattle.sorun.specs.Answers.{IsRefused, JobAnswers, SceneAnswers, FileAnswers, WordsAnswers, most_bytes, refusal_cause}
+use Rattle.sorun.specs.Answers.{IsRefused, JobAnswers, SceneAnswers, FileAnswers, LoadAnswers, WordsAnswers, most_bytes, refusal_cause}
 use Rattle.so_scene_fields.specs.Reads.{Reads}
-use Rattle.so_scene.specs.declared.fault.SceneRefusal.{SceneRefusal}
-use Rattle.so_scene.specs.declared.fault.SceneRefusal.TheVariants.{Fault, NoMemory}
-use Rattle.sorun.specs.Commands.{Command}
+use Rattle.so_fault.specs.declared.fault.SceneRefusal.{SceneRefusal}
+use Rattle.so_fault.specs.declared.fault.SceneRefusal.TheVariants.{Fault, NoMemory}
+use Rattle.sorun.specs.Commands.{Command, of_file, load}
 use Rattle.sorun.specs.declared.commands.Job.{Job}
 use Rattle.sorun.specs.declared.report.Report.{Report}
 
@@ -27,8 +27,11 @@ scene_refused job given NoMemory r a b x y is refused = scene_wanting job given 
 pub scene_done : (job : Job) (given : Result SceneParts SceneFault) (s : SceneParts) (r : Report) (a b : Option (List ℕ)) (x y : ℕ) → given ≡ Ok s → JobAnswers job s r a b x y → SceneAnswers job given r a b x y
 scene_done job given s r a b x y is does = subst (λ (v : Result SceneParts SceneFault). SceneAnswers job v r a b x y) (sym is) (inl does)
 
-pub words_command : (given : Result Command ℕ) (c : Command) (told : List ℕ → Option (List ℕ)) (r : Report) (fx fy : ℕ) (a b : Option (List ℕ)) (x y : ℕ) → given ≡ Ok c → FileAnswers c.job (told c.file) r fx fy a b x y → WordsAnswers given told r fx fy a b x y
-words_command given c told r fx fy a b x y is answers = subst (λ (v : Result Command ℕ). WordsAnswers v told r fx fy a b x y) (sym is) answers
+pub words_file : (given : Result Command ℕ) (file : List ℕ) (job : Job) (told : List ℕ → Option (List ℕ)) (r : Report) (fx fy : ℕ) (a b : Option (List ℕ)) (x y : ℕ) → given ≡ Ok (of_file file job) → FileAnswers job (told file) r fx fy a b x y → WordsAnswers given told r fx fy a b x y
+words_file given file job told r fx fy a b x y is answers = subst (λ (v : Result Command ℕ). WordsAnswers v told r fx fy a b x y) (sym is) answers
+
+pub words_load : (given : Result Command ℕ) (count : ℕ) (told : List ℕ → Option (List ℕ)) (r : Report) (fx fy : ℕ) (a b : Option (List ℕ)) (x y : ℕ) → given ≡ Ok (load count) → LoadAnswers count r a b x y → WordsAnswers given told r fx fy a b x y
+words_load given count told r fx fy a b x y is answers = subst (λ (v : Result Command ℕ). WordsAnswers v told r fx fy a b x y) (sym is) answers
 
 pub told_read : {V : Type 0} (items : V → List ℕ) (told : Option (List ℕ)) (v : V) → ReadsContent items told most_bytes (Ok v) → IfSome told (λ all. (items v ≡ all) × (length all ≤ most_bytes))
 told_read items None v reads = tt

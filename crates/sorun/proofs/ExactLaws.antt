@@ -4,7 +4,7 @@ use Rattle.std.specs.Prelude.{IfSome}
 use Rattle.std.proofs.lemmas.Bool.{cases_Bool}
 use Rattle.so_io.specs.Count.{Rose}
 use Rattle.so_scene.specs.declared.parts.SceneParts.{SceneParts}
-use Rattle.so_scene.specs.declared.fault.SceneFault.{SceneFault}
+use Rattle.so_fault.specs.declared.fault.SceneFault.{SceneFault}
 use Rattle.so_history.specs.declared.lines.Mode.{Mode}
 use Rattle.so_history.specs.Kept.{Kept}
 use Rattle.so_history.specs.Steps.{finished, is_over}
@@ -13,10 +13,11 @@ use Rattle.so_env.specs.declared.outcome.Cause.{Cause}
 use Rattle.so_history.specs.Coops.{aborted}
 use Rattle.so_env.specs.declared.outcome.Cause.TheVariants.{Done, Usage, Limit, Aborted, Scene, Read, Long, Write, Memory}
 use Rattle.so_env.specs.Prints.{Printed, HasRisen, IsSimulated, cause_of}
-use Rattle.sorun.specs.Answers.{most_bytes, IsRefused, RunAnswers, JobAnswers, SceneAnswers, FileAnswers, could_not_read, too_long, wanting, was_read, WordsAnswers}
-use Rattle.sorun.specs.Exact.{IsWhole, RunsNothing, IsFileExact, IsExact, FactsOf, RunHasFacts}
+use Rattle.sorun.specs.Answers.{most_bytes, IsRefused, RunAnswers, JobAnswers, SceneAnswers, FileAnswers, could_not_read, too_long, wanting, was_read, run_line, IsLoaded, LoadAnswers, WordsAnswers}
+use Rattle.sorun.specs.Exact.{IsWhole, RunsNothing, IsFileExact, IsLoadedWhole, IsLoadExact, IsExact, FactsOf, RunHasFacts}
 use Rattle.so_scene_json.specs.Scene.{scene_of}
-use Rattle.sorun.specs.Commands.{Command}
+use Rattle.so_ring.specs.Ring.{ring}
+use Rattle.sorun.specs.Commands.{Command, of_file, load}
 use Rattle.sorun.specs.Summary.{summary_line}
 use Rattle.sorun.specs.declared.commands.Job.{Job}
 use Rattle.sorun.specs.declared.commands.Job.TheVariants.{Check, Sim}
@@ -255,37 +256,103 @@ module _ (r : Report) (fx fy : ℕ) (a b : Option (List ℕ)) (x y : ℕ) where
   place_is : (n k : ℕ) → ◌≡◌ {A = Result Command ℕ} (Err n) (Err k) → n ≡ k
   place_is n k is = cc
 
-  command_is : (c d : Command) → ◌≡◌ {A = Result Command ℕ} (Ok c) (Ok d) → c ≡ d
-  command_is c d is = cc
-
   ok_is_no_err : (c : Command) (k : ℕ) → ◌≡◌ {A = Result Command ℕ} (Ok c) (Err k) → ⊥
   ok_is_no_err c k is = cc
 
-  check_exact : (c d : Command) (told : List ℕ → Option (List ℕ)) → FileAnswers c.job (told c.file) r fx fy a b x y → c ≡ d → d.job ≡ Check → RunsNothing r
-  check_exact c d told answers same is =
-      file_nothing (told c.file) r fx fy a b x y (subst (λ (j : Job). FileAnswers j (told c.file) r fx fy a b x y) (ap (λ (e : Command). e.job) same ∙ is) answers)
+  same_file : (file file2 : List ℕ) (job job2 : Job) → ◌≡◌ {A = Result Command ℕ} (Ok (of_file file job)) (Ok (of_file file2 job2)) → (file ≡ file2) × (job ≡ job2)
+  same_file file file2 job job2 is = (cc, cc)
 
-  command_exact : (c d : Command) (bytes : List ℕ) (told : List ℕ → Option (List ℕ)) → FileAnswers c.job (told c.file) r fx fy a b x y → c ≡ d → told d.file ≡ Some bytes → IsFileExact d.job bytes r fx fy a b x y
-  command_exact c d bytes told answers same tells =
-      let answers_d : FileAnswers d.job (told d.file) r fx fy a b x y = subst (λ (e : Command). FileAnswers e.job (told e.file) r fx fy a b x y) same answers in
-      file_exact d.job r fx fy a b x y bytes (subst (Fate d.job r fx fy a b x y) tells (file_fate d.job r fx fy a b x y (told d.file) answers_d))
+  same_count : (n m : ℕ) → ◌≡◌ {A = Result Command ℕ} (Ok (load n)) (Ok (load m)) → n ≡ m
+  same_count n m is = cc
+
+  file_no_load : (file : List ℕ) (job : Job) (n : ℕ) → ◌≡◌ {A = Result Command ℕ} (Ok (of_file file job)) (Ok (load n)) → ⊥
+  file_no_load file job n is = cc
+
+  check_exact : (file file2 : List ℕ) (job : Job) (told : List ℕ → Option (List ℕ)) → FileAnswers job (told file) r fx fy a b x y → (file ≡ file2) × (job ≡ Check) → RunsNothing r
+  check_exact file file2 job told answers same =
+      file_nothing (told file) r fx fy a b x y (subst (λ (j : Job). FileAnswers j (told file) r fx fy a b x y) same.1 answers)
+
+  command_exact : (file file2 : List ℕ) (job job2 : Job) (bytes : List ℕ) (told : List ℕ → Option (List ℕ)) → FileAnswers job (told file) r fx fy a b x y → (file ≡ file2) × (job ≡ job2) → told file2 ≡ Some bytes → IsFileExact job2 bytes r fx fy a b x y
+  command_exact file file2 job job2 bytes told answers same tells =
+      let for_job : FileAnswers job2 (told file) r fx fy a b x y = subst (λ (j : Job). FileAnswers j (told file) r fx fy a b x y) same.1 answers in
+      let for_file : FileAnswers job2 (told file2) r fx fy a b x y = subst (λ (f : List ℕ). FileAnswers job2 (told f) r fx fy a b x y) same.0 for_job in
+      file_exact job2 r fx fy a b x y bytes (subst (Fate job2 r fx fy a b x y) tells (file_fate job2 r fx fy a b x y (told file2) for_file))
+
+  -- what became of a ring, one case a cause
+  data LoadFate (count : ℕ) : Type 0 where
+    wants : r.cause ≡ Memory → r.history ≡ None → LoadFate count
+    fails : r.cause ≡ Write → Rose x y → LoadFate count
+    loads : IsLoadedWhole count r a b → LoadFate count
+
+  loaded_fate : (count : ℕ) (run : IsLoaded count r a b x y) (failed : Bool) → r.cause ≡ (if failed then Write else Done) → Printed failed a b (run_line count run.kept.entries) → HasRisen failed x y → LoadFate count
+  loaded_fate count run true cause printed risen = fails cause (risen.rose refl)
+  loaded_fate count run false cause printed risen = loads (record { kept = run.kept; has = run.has; chain = run.chain; legal = run.legal; facts = run.facts; printed = printed; cause = cause })
+
+  load_fate : (count : ℕ) → LoadAnswers count r a b x y → LoadFate count
+  load_fate count (inl run) = loaded_fate count run run.failed run.is run.printed run.risen
+  load_fate count (inr refused) = wants refused.is refused.no_history
+
+  load_causes : (count : ℕ) → LoadFate count → (r.cause ≡ Done) ⊎ ((r.cause ≡ Write) ⊎ (r.cause ≡ Memory))
+  load_causes count (wants is none) = inr (inr is)
+  load_causes count (fails is rose) = inr (inl is)
+  load_causes count (loads run) = inl run.cause
+
+  load_done : (count : ℕ) → LoadFate count → r.cause ≡ Done → IsLoadedWhole count r a b
+  load_done count (wants c none) is = absurd cc
+  load_done count (fails c rose) is = absurd cc
+  load_done count (loads run) is = run
+
+  load_complete : (count : ℕ) → LoadFate count → (Rose x y → ⊥) → ((r.cause ≡ Memory) × (r.history ≡ None)) ⊎ IsLoadedWhole count r a b
+  load_complete count (wants is none) no_write = inl (is, none)
+  load_complete count (fails is rose) no_write = absurd (no_write rose)
+  load_complete count (loads run) no_write = inr run
+
+  load_write : (count : ℕ) → LoadFate count → r.cause ≡ Write → Rose x y
+  load_write count (wants c none) is = absurd cc
+  load_write count (fails c rose) is = rose
+  load_write count (loads run) is = (let c : r.cause ≡ Done = run.cause in absurd cc)
+
+  load_no_usage : (count k : ℕ) → LoadFate count → r.cause ≡ Usage k → ⊥
+  load_no_usage count k (wants c none) is = cc
+  load_no_usage count k (fails c rose) is = cc
+  load_no_usage count k (loads run) is = (let c : r.cause ≡ Done = run.cause in cc)
+
+  load_no_read : (count : ℕ) → LoadFate count → r.cause ≡ Read → ⊥
+  load_no_read count (wants c none) is = cc
+  load_no_read count (fails c rose) is = cc
+  load_no_read count (loads run) is = (let c : r.cause ≡ Done = run.cause in cc)
+
+  load_exact : (count : ℕ) → LoadFate count → IsLoadExact count r a b x y
+  load_exact count fate = record { causes = load_causes count fate; done = load_done count fate; complete = load_complete count fate }
 
   pub exact : (words : Result Command ℕ) (told : List ℕ → Option (List ℕ)) → WordsAnswers words told r fx fy a b x y → IsExact words told r fx fy a b x y
   exact (Err n) told refused = record {
     usage = λ k. (λ is. ap Err (only_usage n k refused.is is), λ is. refused.is ∙ ap Usage (place_is n k is));
     read = λ is. (let c : r.cause ≡ Usage n = refused.is in absurd cc);
     write = λ is. (let c : r.cause ≡ Usage n = refused.is in absurd cc);
-    check = λ c is. absurd (ok_is_no_err c n (sym is));
-    file = λ c bytes is. absurd (ok_is_no_err c n (sym is));
+    check = λ file is. absurd (ok_is_no_err (of_file file Check) n (sym is));
+    file = λ file job bytes is. absurd (ok_is_no_err (of_file file job) n (sym is));
+    load = λ count is. absurd (ok_is_no_err (load count) n (sym is));
   }
-  exact (Ok c) told answers =
-      let fate : Fate c.job r fx fy a b x y (told c.file) = file_fate c.job r fx fy a b x y (told c.file) answers in
+  exact (Ok (of_file file job)) told answers =
+      let fate : Fate job r fx fy a b x y (told file) = file_fate job r fx fy a b x y (told file) answers in
       record {
-        usage = λ k. (λ is. absurd (not_usage c.job r fx fy a b x y (told c.file) k fate is), λ is. absurd (ok_is_no_err c k is));
-        read = read_rose c.job r fx fy a b x y (told c.file) fate;
-        write = write_rose c.job r fx fy a b x y (told c.file) fate;
-        check = λ d is. check_exact c d told answers (command_is c d is);
-        file = λ d bytes is. command_exact c d bytes told answers (command_is c d is);
+        usage = λ k. (λ is. absurd (not_usage job r fx fy a b x y (told file) k fate is), λ is. absurd (ok_is_no_err (of_file file job) k is));
+        read = read_rose job r fx fy a b x y (told file) fate;
+        write = write_rose job r fx fy a b x y (told file) fate;
+        check = λ file2 is. check_exact file file2 job told answers (same_file file file2 job Check is);
+        file = λ file2 job2 bytes is. command_exact file file2 job job2 bytes told answers (same_file file file2 job job2 is);
+        load = λ count is. absurd (file_no_load file job count is);
+      }
+  exact (Ok (load count)) told answers =
+      let fate : LoadFate count = load_fate count answers in
+      record {
+        usage = λ k. (λ is. absurd (load_no_usage count k fate is), λ is. absurd (ok_is_no_err (load count) k is));
+        read = λ is. absurd (load_no_read count fate is);
+        write = load_write count fate;
+        check = λ file is. absurd (file_no_load file Check count (sym is));
+        file = λ file job bytes is. absurd (file_no_load file job count (sym is));
+        load = λ count2 is. subst (λ (n : ℕ). IsLoadExact n r a b x y) (same_count count count2 is) (load_exact count fate);
       }
 
 -- what is run has the facts
@@ -316,6 +383,12 @@ file_facts job told r fx fy a b x y (too_long refused more) = no_facts r.scene r
 file_facts job told r fx fy a b x y (wanting refused fits) = no_facts r.scene r.history refused.no_history
 file_facts job told r fx fy a b x y (was_read bytes is answers) = scene_facts job (scene_of bytes) r a b x y answers
 
+load_facts : (count : ℕ) (r : Report) (a b : Option (List ℕ)) (x y : ℕ) → LoadAnswers count r a b x y → RunHasFacts r
+load_facts count r a b x y (inr refused) = no_facts r.scene r.history refused.no_history
+load_facts count r a b x y (inl run) =
+    subst (λ (z : Option SceneParts). FactsOf z r.history) (sym run.scene) (subst (λ (h : Option Kept). FactsOf (Some (ring count)) h) (sym run.has) run.facts)
+
 pub facts : (words : Result Command ℕ) (told : List ℕ → Option (List ℕ)) (r : Report) (fx fy : ℕ) (a b : Option (List ℕ)) (x y : ℕ) → WordsAnswers words told r fx fy a b x y → RunHasFacts r
 facts (Err k) told r fx fy a b x y refused = no_facts r.scene r.history refused.no_history
-facts (Ok c) told r fx fy a b x y answers = file_facts c.job (told c.file) r fx fy a b x y answers
+facts (Ok (of_file file job)) told r fx fy a b x y answers = file_facts job (told file) r fx fy a b x y answers
+facts (Ok (load count)) told r fx fy a b x y answers = load_facts count r a b x y answers

@@ -1,5 +1,5 @@
 -- Where words leave the sentences.
-use Rattle.std.proofs.Common.{◌≡◌, inl, inr, ℕ, ◌+◌, ◌<◌, ◌≤◌, List, [], ◌∷◌, ◌++◌, length, take, drop, true, false, Result, Ok, Err, refl, sym, ◌∙◌, ap, subst, codes, if◌then◌else◌, append_assoc, length-append, arith}
+use Rattle.std.proofs.Common.{◌≡◌, inl, inr, ℕ, ◌+◌, ◌<◌, ◌≤◌, List, [], ◌∷◌, ◌++◌, length, take, drop, true, false, Option, Some, None, Result, Ok, Err, refl, sym, ◌∙◌, ap, subst, codes, if◌then◌else◌, append_assoc, length-append, arith}
 use Rattle.std.specs.Str.{bytes_eq}
 use Rattle.std.proofs.lemmas.Bool.{cases_Bool, cases_lt, cases_eq}
 use Rattle.std.proofs.lemmas.List.{append-nil, take_at, take-append-drop, take-take}
@@ -7,8 +7,8 @@ use Rattle.std.proofs.Math.Seq.{take-append-add}
 use Rattle.std.proofs.lemmas.Slice.Eq.{bytes_eq-Decides}
 use Rattle.sorun.specs.Words.{is_file}
 use Rattle.so_history.specs.declared.lines.Mode.{Mode}
-use Rattle.sorun.specs.Options.{no_options, options_of, count_of, units_of}
-use Rattle.sorun.specs.Commands.{Command, check_of, sim_of, command_of, plain, optioned, after_options, file_at, file_then}
+use Rattle.sorun.specs.Options.{no_options, options_of, count_of, units_of, size_of}
+use Rattle.sorun.specs.Commands.{Command, load, check_of, sim_of, size_then, sized, load_of, command_of, plain, optioned, after_options, file_at, file_then}
 use Rattle.sorun.specs.Sentences.{AreOptions, IsSentence, Begins, IsFaultAt, AreRead}
 use Rattle.sorun.specs.declared.options.Options.{Options}
 use Rattle.sorun.proofs.OptionLaws.{no_front, options_read, length-options, split}
@@ -116,10 +116,51 @@ begins_nothing = record { rest = codes "check" ∷ codes "f" ∷ []; sentence = 
 no_name : (name : List ℕ) (ws : List (List ℕ)) → ((vs : List (List ℕ)) → command_of (name ∷ vs) ≡ Err 0) → IsFaultAt 0 (name ∷ ws)
 no_name name ws none = record { front = begins_nothing; ends = inl (omega arith, λ b. no_sentence (name ∷ b.rest) 0 (none b.rest) b.sentence) }
 
-named_fault : (name : List ℕ) (ws : List (List ℕ)) (k : ℕ) → bytes_eq name (codes "check") ≡ false → (if bytes_eq name (codes "sim") then after_options sim_of (options_of no_options ws) else Err 0) ≡ Err k → IsFaultAt k (name ∷ ws)
+reads_one : command_of (codes "load" ∷ codes "1" ∷ []) ≡ Ok (load 1)
+unfolding size_of
+reads_one = refl
+
+-- where the words after `load` leave its sentence
+load_begins : Begins (codes "load" ∷ [])
+load_begins = record { rest = codes "1" ∷ []; sentence = record { command = load 1; says = says (load 1) (codes "load" ∷ codes "1" ∷ []) reads_one } }
+
+size_fault : (k count : ℕ) (word : List ℕ) (ws : List (List ℕ)) → size_of word ≡ Some count → size_then count ws ≡ Err k → IsFaultAt k (codes "load" ∷ word ∷ ws)
+size_fault k count word [] given is = absurd (ok_no_err (load count) k is)
+size_fault k count word (w ∷ ws) given is =
+    subst (λ (n : ℕ). IsFaultAt n (codes "load" ∷ word ∷ w ∷ ws)) (err_is {A = Command} 2 k is) record {
+      front = record {
+        rest = [];
+        sentence = record { command = load count; says = says (load count) (codes "load" ∷ word ∷ []) (ap (λ (r : Option ℕ). sized r []) given) };
+      };
+      ends = inl (omega arith, λ b. no_sentence (codes "load" ∷ word ∷ w ∷ b.rest) 2 (ap (λ (r : Option ℕ). sized r (w ∷ b.rest)) given) b.sentence);
+    }
+
+sized_fault : (k : ℕ) (r : Option ℕ) (word : List ℕ) (ws : List (List ℕ)) → size_of word ≡ r → sized r ws ≡ Err k → IsFaultAt k (codes "load" ∷ word ∷ ws)
+sized_fault k (Some count) word ws given is = size_fault k count word ws given is
+sized_fault k None word ws given is =
+    subst (λ (n : ℕ). IsFaultAt n (codes "load" ∷ word ∷ ws)) (err_is {A = Command} 1 k is) record {
+      front = load_begins;
+      ends = inl (omega arith, λ b. no_sentence (codes "load" ∷ word ∷ b.rest) 1 (ap (λ (r : Option ℕ). sized r b.rest) given) b.sentence);
+    }
+
+load_fault : (k : ℕ) (ws : List (List ℕ)) → load_of ws ≡ Err k → IsFaultAt k (codes "load" ∷ ws)
+load_fault k [] is =
+    subst (λ (n : ℕ). IsFaultAt n (codes "load" ∷ [])) (err_is {A = Command} 1 k is) record {
+      front = load_begins;
+      ends = inr (refl, no_sentence (codes "load" ∷ []) 1 refl);
+    }
+load_fault k (word ∷ ws) is = sized_fault k (size_of word) word ws refl is
+
+last_fault : (name : List ℕ) (ws : List (List ℕ)) (k : ℕ) → bytes_eq name (codes "check") ≡ false → bytes_eq name (codes "sim") ≡ false → (if bytes_eq name (codes "load") then load_of ws else Err 0) ≡ Err k → IsFaultAt k (name ∷ ws)
+last_fault name ws k unlike other is = elim (cases_Bool (bytes_eq name (codes "load"))) [
+  | inl on ↦ subst (λ (v : List ℕ). IsFaultAt k (v ∷ ws)) (sym ((bytes_eq-Decides name (codes "load")).0 on)) (load_fault k ws (rw on at is))
+  | inr off ↦ subst (λ (n : ℕ). IsFaultAt n (name ∷ ws)) (err_is {A = Command} 0 k (rw off at is)) (no_name name ws (λ vs. rw (unlike, other, off) refl))
+]
+
+named_fault : (name : List ℕ) (ws : List (List ℕ)) (k : ℕ) → bytes_eq name (codes "check") ≡ false → (if bytes_eq name (codes "sim") then after_options sim_of (options_of no_options ws) else (if bytes_eq name (codes "load") then load_of ws else Err 0)) ≡ Err k → IsFaultAt k (name ∷ ws)
 named_fault name ws k unlike is = elim (cases_Bool (bytes_eq name (codes "sim"))) [
   | inl on ↦ subst (λ (v : List ℕ). IsFaultAt k (v ∷ ws)) (sym ((bytes_eq-Decides name (codes "sim")).0 on)) (after_options_fault (codes "sim") sim_of ws k sim_row (rw on at is))
-  | inr off ↦ subst (λ (n : ℕ). IsFaultAt n (name ∷ ws)) (err_is {A = Command} 0 k (rw off at is)) (no_name name ws (λ vs. rw (unlike, off) refl))
+  | inr off ↦ last_fault name ws k unlike off (rw off at is)
 ]
 
 pub fault : (ws : List (List ℕ)) (k : ℕ) → command_of ws ≡ Err k → IsFaultAt k ws

@@ -8,7 +8,9 @@ use Rattle.std.proofs.lemmas.Bool.{and_parts, leb-true, le-leb}
 use Rattle.std.proofs.lemmas.Option.{cond_some}
 use Rattle.std.proofs.lemmas.Slice.Eq.{bytes_eq-Decides}
 use Rattle.std.proofs.lemmas.Str.Parse.{IsNumeralModel, numerals_by_value, tells_all_ascii_digits}
-use Rattle.sorun.specs.Options.{is_number, limit_of, most_units, most_digits}
+use Rattle.so_ids.specs.Limits.{most_units}
+use Rattle.so_ring.specs.Ring.{most_in_ring}
+use Rattle.sorun.specs.Options.{is_number, limit_of, size_of, most_digits, most_size_digits}
 use Rattle.sorun.specs.Sentences.{IsWritten, SetsLimit}
 
 told : IsNumeralModel (λ ds. all_ascii_digits ds ≡ true) (digits_value 10)
@@ -57,3 +59,37 @@ limit_from word None some none = elim (limit_of word) as (λ v. limit_of word �
   | None ↦ λ is. refl
   | Some n ↦ λ is. let parts = limit_is word n is in absurd (none n parts.0 parts.1)
 ] refl
+
+-- ---- the number of a ring's agents
+
+chosen_when : (b : Bool) (m n : ℕ) → b ≡ true → m ≡ n → (if b then Some m else None) ≡ Some n
+chosen_when b m n on is = rw on (ap Some is)
+
+-- a word that gives a number writes it
+pub size_is : (word : List ℕ) (n : ℕ) → size_of word ≡ Some n → (1 ≤ n) × (n ≤ most_in_ring) × IsWritten most_size_digits n word
+unfolding size_of
+size_is word n is =
+    let parts = cond_some (is_number most_size_digits most_in_ring word && nat_le 1 (digits_value 10 word)) (digits_value 10 word) n is in
+    let tests = and_parts (is_number most_size_digits most_in_ring word) (nat_le 1 (digits_value 10 word)) parts.0 in
+    let it = number_is most_size_digits most_in_ring word tests.0 in
+    let some : 1 ≤ digits_value 10 word = leb-true 1 (digits_value 10 word) tests.1 in
+    (omega (arith, some, parts.1), omega (arith, it.0, parts.1), record { numeral = it.1.numeral; few = it.1.few; value = parts.1 })
+
+-- and one that writes it gives it
+pub size-word : (word : List ℕ) (n : ℕ) → 1 ≤ n → n ≤ most_in_ring → IsWritten most_size_digits n word → size_of word ≡ Some n
+unfolding size_of
+size-word word n some few it =
+    let one : 1 ≤ digits_value 10 word = omega (arith, some, it.value) in
+    chosen_when (is_number most_size_digits most_in_ring word && nat_le 1 (digits_value 10 word)) (digits_value 10 word) n
+    (both_true (is-number most_size_digits most_in_ring n word few it) (le-leb 1 (digits_value 10 word) one)) it.value
+
+none_given : (word : List ℕ) (r : Option ℕ) → size_of word ≡ r → ((n : ℕ) → 1 ≤ n → n ≤ most_in_ring → IsWritten most_size_digits n word → ⊥) → size_of word ≡ None
+none_given word None is none = is
+none_given word (Some n) is none = let parts = size_is word n is in absurd (none n parts.0 parts.1 parts.2)
+
+-- none is given where none is written, and where 0 is
+pub size-none : (word : List ℕ) → ((n : ℕ) → n ≤ most_in_ring → IsWritten most_size_digits n word → ⊥) → size_of word ≡ None
+size-none word none = none_given word (size_of word) refl (λ n some. none n)
+
+pub size-zero : (word : List ℕ) → IsWritten most_size_digits 0 word → size_of word ≡ None
+size-zero word it = none_given word (size_of word) refl (λ n some few other. omega (arith, some, it.value, other.value))

@@ -4,15 +4,17 @@ use Rattle.std.specs.Prelude.{unwrap_or, IfOk, MatchResult}
 use Rattle.std.specs.Str.{bytes_eq}
 use Rattle.std.proofs.lemmas.Bool.{cases_Bool}
 use Rattle.std.proofs.lemmas.Slice.Eq.{bytes_eq-Decides}
+use Rattle.so_ids.specs.Limits.{most_units}
 use Rattle.sorun.specs.Words.{is_file}
 use Rattle.so_history.specs.declared.lines.Mode.{Mode}
-use Rattle.sorun.specs.Options.{most_units, usual_units, no_options, options_of, count_of, units_of}
-use Rattle.sorun.specs.Commands.{Command, IsWithin, meant, check_of, sim_of, command_of, plain, optioned, after_options, file_at, file_then}
+use Rattle.sorun.specs.Options.{usual_units, no_options, options_of, count_of, units_of, size_of}
+use Rattle.sorun.specs.Commands.{Command, of_file, load, IsWithin, IsPossible, meant, check_of, sim_of, size_then, sized, load_of, command_of, plain, optioned, after_options, file_at, file_then}
 use Rattle.sorun.specs.Sentences.{AreOptions, IsPlain, IsOptioned, Asks, IsSentenceOf, IsSentence}
 use Rattle.sorun.specs.declared.commands.Command as declared
 use Rattle.sorun.specs.declared.commands.Job.{Job}
 use Rattle.sorun.specs.declared.commands.Job.TheVariants.{Check, Sim}
 use Rattle.sorun.specs.declared.options.Options.{Options}
+use Rattle.sorun.proofs.LimitLaws.{size_is, size-word}
 use Rattle.sorun.proofs.OptionLaws.{no_front, options_read, split, file-no_option, options_end}
 
 both : (b : Bool) → b ≡ false → b ≡ true → ⊥
@@ -85,11 +87,33 @@ after_options_says name command c ws row is =
     subst (λ (vs : List (List ℕ)). IsSentenceOf c (name ∷ vs)) (sym s.is)
     (optioned_says name command c s.options s.before s.rest (file_at (count_of s.options + 1) s.rest) row s.are refl (sym (ap (after_options command) s.found) ∙ is))
 
+-- what `load` reads
+size_then_says : (count : ℕ) (c : Command) (word : List ℕ) (ws : List (List ℕ)) → size_of word ≡ Some count → size_then count ws ≡ Ok c → IsSentenceOf c (codes "load" ∷ word ∷ ws)
+size_then_says count c word (w ∷ ws) given is = absurd (ok_no_err c 2 (sym is))
+size_then_says count c word [] given is =
+    let parts = size_is word count given in
+    subst (λ (d : Command). IsSentenceOf d (codes "load" ∷ word ∷ [])) (ok_is (load count) c is)
+    record { digits = word; written = parts.2; some = parts.0; few = parts.1; is = refl }
+
+sized_says : (r : Option ℕ) (c : Command) (word : List ℕ) (ws : List (List ℕ)) → size_of word ≡ r → sized r ws ≡ Ok c → IsSentenceOf c (codes "load" ∷ word ∷ ws)
+sized_says None c word ws given is = absurd (ok_no_err c 1 (sym is))
+sized_says (Some count) c word ws given is = size_then_says count c word ws given is
+
+load_says : (c : Command) (ws : List (List ℕ)) → load_of ws ≡ Ok c → IsSentenceOf c (codes "load" ∷ ws)
+load_says c [] is = absurd (ok_no_err c 1 (sym is))
+load_says c (word ∷ ws) is = sized_says (size_of word) c word ws refl is
+
 -- the command that was read is said
-named_says : (c : Command) (name : List ℕ) (ws : List (List ℕ)) → (if bytes_eq name (codes "sim") then after_options sim_of (options_of no_options ws) else Err 0) ≡ Ok c → IsSentenceOf c (name ∷ ws)
+last_says : (c : Command) (name : List ℕ) (ws : List (List ℕ)) → (if bytes_eq name (codes "load") then load_of ws else Err 0) ≡ Ok c → IsSentenceOf c (name ∷ ws)
+last_says c name ws is = elim (cases_Bool (bytes_eq name (codes "load"))) [
+  | inl on ↦ subst (λ (v : List ℕ). IsSentenceOf c (v ∷ ws)) (sym ((bytes_eq-Decides name (codes "load")).0 on)) (load_says c ws (rw on at is))
+  | inr off ↦ absurd (ok_no_err c 0 (sym (rw off at is)))
+]
+
+named_says : (c : Command) (name : List ℕ) (ws : List (List ℕ)) → (if bytes_eq name (codes "sim") then after_options sim_of (options_of no_options ws) else (if bytes_eq name (codes "load") then load_of ws else Err 0)) ≡ Ok c → IsSentenceOf c (name ∷ ws)
 named_says c name ws is = elim (cases_Bool (bytes_eq name (codes "sim"))) [
   | inl on ↦ subst (λ (v : List ℕ). IsSentenceOf c (v ∷ ws)) (sym ((bytes_eq-Decides name (codes "sim")).0 on)) (after_options_says (codes "sim") sim_of c ws sim_row (rw on at is))
-  | inr off ↦ absurd (ok_no_err c 0 (sym (rw off at is)))
+  | inr off ↦ last_says c name ws (rw off at is)
 ]
 
 pub says : (c : Command) (ws : List (List ℕ)) → command_of ws ≡ Ok c → IsSentenceOf c ws
@@ -112,12 +136,13 @@ optioned_said name command file mode units ws row s =
     ap (optioned command o) (last-file (count_of o + 1) file s.is_file) ∙
     ap (λ (n : ℕ). Ok (command file mode n)) (sym s.limited)
 
-job_said : (job : Job) (file : List ℕ) (ws : List (List ℕ)) → Asks job file ws → command_of ws ≡ Ok (record { file = file; job = job })
+job_said : (job : Job) (file : List ℕ) (ws : List (List ℕ)) → Asks job file ws → command_of ws ≡ Ok (of_file file job)
 job_said Check file ws s = plain_said (codes "check") check_of file ws check_row s
 job_said (Sim mode units) file ws s = optioned_said (codes "sim") sim_of file mode units ws sim_row s
 
 pub said : (c : Command) (ws : List (List ℕ)) → IsSentenceOf c ws → command_of ws ≡ Ok c
-said c ws s = job_said c.job c.file ws s
+said (of_file file job) ws s = job_said job file ws s
+said (load count) ws s = ap command_of s.is ∙ ap (λ (r : Option ℕ). sized r []) (size-word s.digits count s.some s.few s.written)
 
 -- words that are read as a fault are no sentence
 pub no_sentence : (ws : List (List ℕ)) (k : ℕ) → command_of ws ≡ Err k → IsSentence ws → ⊥
@@ -132,9 +157,14 @@ asks_within : (job : Job) (file : List ℕ) (ws : List (List ℕ)) → Asks job 
 asks_within Check file ws s = tt
 asks_within (Sim mode units) file ws s = given_within s.given units s.are.within s.limited
 
-pub within_most : (c : Command) (ws : List (List ℕ)) → command_of ws ≡ Ok c → IsWithin c.job
-within_most c ws is = asks_within c.job c.file ws (says c ws is)
+says_possible : (c : Command) (ws : List (List ℕ)) → IsSentenceOf c ws → IsPossible c
+says_possible (of_file file job) ws s = asks_within job file ws s
+says_possible (load count) ws s = (s.some, s.few)
 
-pub sim_within : (ws : List (List ℕ)) (r : Result declared.Command ℕ) → MatchResult r (λ c. after_options sim_of (options_of no_options ws) ≡ Ok (meant c)) (λ k. after_options sim_of (options_of no_options ws) ≡ Err k) → IfOk r (λ c. IsWithin c.job)
-sim_within ws (Ok c) is = within_most (meant c) (codes "sim" ∷ ws) is
-sim_within ws (Err k) is = tt
+pub is_possible : (c : Command) (ws : List (List ℕ)) → command_of ws ≡ Ok c → IsPossible c
+is_possible c ws is = says_possible c ws (says c ws is)
+
+-- of what is read after a command's name
+pub possible_after : (name : List ℕ) (ws : List (List ℕ)) (r : Result declared.Command ℕ) → MatchResult r (λ c. command_of (name ∷ ws) ≡ Ok (meant c)) (λ k. command_of (name ∷ ws) ≡ Err k) → IfOk r (λ c. IsPossible (meant c))
+possible_after name ws (Ok c) is = is_possible (meant c) (name ∷ ws) is
+possible_after name ws (Err k) is = tt

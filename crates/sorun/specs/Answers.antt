@@ -1,21 +1,29 @@
--- What the program answers: it follows the words, the file, the bytes and the scene.
-use Rattle.std.specs.Prelude.{◌≡◌, ◌⊎◌, ℕ, ◌<◌, ◌≤◌, List, [], ◌++◌, length, Bool, Option, Some, None, Result, Ok, Err, codes, decimal, IfSome, if◌then◌else◌}
+-- What the program answers: it follows the words, the file, the bytes and the scene, or the ring.
+use Rattle.std.specs.Prelude.{◌≡◌, ◌⊎◌, ℕ, ◌<◌, ◌≤◌, List, [], ◌++◌, length, Bool, false, Option, Some, None, Result, Ok, Err, codes, decimal, IfSome, if◌then◌else◌}
 use Rattle.so_io.specs.Count.{Rose}
 use Rattle.so_scene.specs.declared.parts.SceneParts.{SceneParts}
-use Rattle.so_scene.specs.declared.fault.SceneFault.{SceneFault}
-use Rattle.so_scene.specs.Faults.{fault_words}
+use Rattle.so_fault.specs.declared.fault.SceneFault.{SceneFault}
+use Rattle.so_fault.specs.Faults.{fault_words}
 use Rattle.so_history.specs.declared.lines.Mode.{Mode}
 use Rattle.so_history.specs.Kept.{Kept}
 use Rattle.so_env.specs.declared.outcome.Cause.{Cause}
 use Rattle.so_env.specs.declared.outcome.Cause.TheVariants.{Done, Usage, Limit, Aborted, Scene, Read, Long, Write, Memory}
-use Rattle.so_env.specs.Prints.{Printed, HasRisen, IsSimulated}
+use Rattle.so_history.specs.declared.entry.Entry.{Entry}
+use Rattle.so_history.specs.Demands.{demands}
+use Rattle.so_history.specs.Steps.{Legal}
+use Rattle.so_history.specs.Chain.{IsChain}
+use Rattle.so_facts.specs.All.{HasAllFacts}
+use Rattle.so_ring.specs.Ring.{ring}
+use Rattle.so_env.specs.Prints.{Printed, HasRisen, IsSimulated, cause_of}
 use Rattle.so_scene_json.specs.Scene.{scene_of}
-use Rattle.so_scene.specs.declared.fault.SceneRefusal.{SceneRefusal}
-use Rattle.so_scene.specs.declared.fault.SceneRefusal.TheVariants.{Fault, NoMemory}
-use Rattle.sorun.specs.Commands.{Command}
+use Rattle.so_fault.specs.declared.fault.SceneRefusal.{SceneRefusal}
+use Rattle.so_fault.specs.declared.fault.SceneRefusal.TheVariants.{Fault, NoMemory}
+use Rattle.sorun.specs.Commands.{Command, of_file, load}
 use Rattle.sorun.specs.Summary.{summary_line}
+use Rattle.sorun.specs.Loads.{ring_units, handled, load_line}
 use Rattle.sorun.specs.declared.commands.Job.{Job}
 use Rattle.sorun.specs.declared.commands.Job.TheVariants.{Check, Sim}
+use Rattle.sorun.specs.declared.load.Run.{Run}
 use Rattle.sorun.specs.declared.report.Report.{Report}
 
 abbrev pub most_bytes : ℕ
@@ -103,10 +111,46 @@ pub data FileAnswers (job : Job) (told : Option (List ℕ)) (r : Report) (fx fy 
   wanting : IsRefused Memory r a b → IfSome told (λ bytes. length bytes ≤ most_bytes) → FileAnswers job told r fx fy a b x y
   was_read : (bytes : List ℕ) → IfSome told (λ all. (bytes ≡ all) × (length all ≤ most_bytes)) → SceneAnswers job (scene_of bytes) r a b x y → FileAnswers job told r fx fy a b x y
 
+-- the status that a run with this history has
+abbrev pub status_after : SceneParts → List Entry → ℕ
+status_after s h = status_of (cause_of s h false)
+
+-- the line on a ring's run
+abbrev pub run_line : ℕ → List Entry → List ℕ
+run_line count h = load_line count (length h) (length (demands (ring count) h)) (handled h) (status_after (ring count) h)
+
+-- the run of a ring, before its line is handed out
+pub record IsRingRun (count : ℕ) (run : Run) : Type 0 where
+  pub scene : run.scene ≡ ring count
+  pub chain : IsChain (ring count) (ring_units count) run.history.entries
+  pub legal : Legal (ring count) run.history.entries
+  pub facts : HasAllFacts (ring count) run.history.entries
+  pub demands : run.demands ≡ length (demands (ring count) run.history.entries)
+  pub status : run.status ≡ status_after (ring count) run.history.entries
+
+-- a ring that was simulated: its history is the chain of first steps within its units, and its line was handed to `out` as one piece
+pub record IsLoaded (count : ℕ) (r : Report) (a b : Option (List ℕ)) (x y : ℕ) : Type 0 where
+  pub scene : r.scene ≡ Some (ring count)
+  pub kept : Kept
+  pub has : r.history ≡ Some kept
+  pub chain : IsChain (ring count) (ring_units count) kept.entries
+  pub legal : Legal (ring count) kept.entries
+  pub facts : HasAllFacts (ring count) kept.entries
+  pub one_piece : r.pieces ≡ 1
+  pub failed : Bool
+  pub is : r.cause ≡ (if failed then Write else Done)
+  pub printed : Printed failed a b (run_line count kept.entries)
+  pub risen : HasRisen failed x y
+
+-- the answer to `load`
+abbrev pub LoadAnswers : ℕ → Report → Option (List ℕ) → Option (List ℕ) → ℕ → ℕ → Type 0
+LoadAnswers count r a b x y = IsLoaded count r a b x y ⊎ IsRefused Memory r a b
+
 -- the answer to words, where the files tell what they hold
 abbrev pub WordsAnswers : Result Command ℕ → (List ℕ → Option (List ℕ)) → Report → ℕ → ℕ → Option (List ℕ) → Option (List ℕ) → ℕ → ℕ → Type 0
 WordsAnswers (Err k) told r fx fy a b x y = IsRefused (Usage k) r a b
-WordsAnswers (Ok c) told r fx fy a b x y = FileAnswers c.job (told c.file) r fx fy a b x y
+WordsAnswers (Ok (of_file file job)) told r fx fy a b x y = FileAnswers job (told file) r fx fy a b x y
+WordsAnswers (Ok (load count)) told r fx fy a b x y = LoadAnswers count r a b x y
 
 -- `err` got the line of the cause, or a part of it where its count rose
 pub record IsTold (line : List ℕ) (a b : Option (List ℕ)) (x y : ℕ) : Type 0 where

@@ -3,7 +3,7 @@ use Rattle.std.specs.Prelude.{◌≡◌, ◌⊎◌, ◌↔◌, ℕ, ◌<◌, ◌
 use Rattle.std.specs.Io.KnownBytes.{Appends}
 use Rattle.so_io.specs.Count.{Rose}
 use Rattle.so_scene.specs.declared.parts.SceneParts.{SceneParts}
-use Rattle.so_scene.specs.declared.fault.SceneFault.{SceneFault}
+use Rattle.so_fault.specs.declared.fault.SceneFault.{SceneFault}
 use Rattle.so_history.specs.declared.lines.Mode.{Mode}
 use Rattle.so_history.specs.Kept.{Kept}
 use Rattle.so_history.specs.Steps.{finished, is_over, Legal}
@@ -13,9 +13,11 @@ use Rattle.so_facts.specs.All.{HasAllFacts}
 use Rattle.so_history.specs.Text.{text}
 use Rattle.so_env.specs.declared.outcome.Cause.TheVariants.{Done, Usage, Limit, Aborted, Scene, Read, Long, Write, Memory}
 use Rattle.so_history.specs.Chain.{StopsAtLimit}
-use Rattle.sorun.specs.Commands.{Command}
+use Rattle.sorun.specs.Commands.{Command, of_file, load}
 use Rattle.sorun.specs.Summary.{summary_line}
-use Rattle.sorun.specs.Answers.{most_bytes}
+use Rattle.so_ring.specs.Ring.{ring}
+use Rattle.sorun.specs.Loads.{ring_units}
+use Rattle.sorun.specs.Answers.{most_bytes, run_line}
 use Rattle.so_scene_json.specs.Scene.{scene_of}
 use Rattle.sorun.specs.declared.commands.Job.{Job}
 use Rattle.sorun.specs.declared.commands.Job.TheVariants.{Check, Sim}
@@ -61,12 +63,29 @@ pub record IsFileExact (job : Job) (bytes : List ℕ) (r : Report) (fx fy : ℕ)
   pub abort : (s : SceneParts) → scene_of bytes ≡ Ok s → r.cause ≡ Aborted → IsWhole job s r a b
   pub complete : (s : SceneParts) → length bytes ≤ most_bytes → scene_of bytes ≡ Ok s → (Rose fx fy → ⊥) → (Rose x y → ⊥) → ((r.cause ≡ Memory) × (r.history ≡ None)) ⊎ IsWhole job s r a b
 
+-- a ring's run, and its line printed whole
+pub record IsLoadedWhole (count : ℕ) (r : Report) (a b : Option (List ℕ)) : Type 0 where
+  pub kept : Kept
+  pub has : r.history ≡ Some kept
+  pub chain : IsChain (ring count) (ring_units count) kept.entries
+  pub legal : Legal (ring count) kept.entries
+  pub facts : HasAllFacts (ring count) kept.entries
+  pub printed : Appends a b (run_line count kept.entries)
+  pub cause : r.cause ≡ Done
+
+-- the cause of `load`, which is one of three
+pub record IsLoadExact (count : ℕ) (r : Report) (a b : Option (List ℕ)) (x y : ℕ) : Type 0 where
+  pub causes : (r.cause ≡ Done) ⊎ ((r.cause ≡ Write) ⊎ (r.cause ≡ Memory))
+  pub done : r.cause ≡ Done → IsLoadedWhole count r a b
+  pub complete : (Rose x y → ⊥) → ((r.cause ≡ Memory) × (r.history ≡ None)) ⊎ IsLoadedWhole count r a b
+
 pub record IsExact (words : Result Command ℕ) (told : List ℕ → Option (List ℕ)) (r : Report) (fx fy : ℕ) (a b : Option (List ℕ)) (x y : ℕ) : Type 0 where
   pub usage : (k : ℕ) → (r.cause ≡ Usage k) ↔ (words ≡ Err k)
   pub read : r.cause ≡ Read → Rose fx fy
   pub write : r.cause ≡ Write → Rose x y
-  pub check : (c : Command) → words ≡ Ok c → c.job ≡ Check → RunsNothing r
-  pub file : (c : Command) (bytes : List ℕ) → words ≡ Ok c → told c.file ≡ Some bytes → IsFileExact c.job bytes r fx fy a b x y
+  pub check : (file : List ℕ) → words ≡ Ok (of_file file Check) → RunsNothing r
+  pub file : (file : List ℕ) (job : Job) (bytes : List ℕ) → words ≡ Ok (of_file file job) → told file ≡ Some bytes → IsFileExact job bytes r fx fy a b x y
+  pub load : (count : ℕ) → words ≡ Ok (load count) → IsLoadExact count r a b x y
 
 -- the history of a scene's run has all facts
 abbrev pub FactsOf : Option SceneParts → Option Kept → Type 0

@@ -1,14 +1,13 @@
--- The options of a command, and which ones words give: `--trace` and `--limit=N`.
+-- The options of a command, and which ones words give: `--trace` and `--limit=N`; and the number that `load` wants.
 use Rattle.std.specs.Prelude.{ℕ, ◌+◌, List, [], ◌∷◌, length, drop, ◌++◌, nat_le, Bool, ◌&&◌, Option, Some, None, is_some, unwrap_or, if◌then◌else◌, codes}
 use Rattle.std.specs.Str.{all_ascii_digits, bytes_eq}
 use Rattle.std.specs.Str.Parse.{digits_value}
+use Rattle.so_ids.specs.Limits.{most_units}
 use Rattle.so_history.specs.declared.lines.Mode.TheVariants.{Plain, Trace}
+use Rattle.so_ring.specs.Ring.{most_in_ring}
 use Rattle.sorun.specs.declared.options.Options.{Options}
 
--- the greatest limit, in units, and the one where none is given
-abbrev pub most_units : ℕ
-most_units = 1000000
-
+-- the limit in units where none is given
 abbrev pub usual_units : ℕ
 usual_units = 100000
 
@@ -19,6 +18,15 @@ most_digits = 7
 -- a decimal digit or more, but no more than so many, whose value is `most` or less: leading zeros are digits
 abbrev pub is_number : ℕ → ℕ → List ℕ → Bool
 is_number longest most digits = nat_le 1 (length digits) && (nat_le (length digits) longest && (all_ascii_digits digits && nat_le (digits_value 10 digits) most))
+
+-- the most digits of the number of a ring's agents
+abbrev pub most_size_digits : ℕ
+most_size_digits = 4
+
+-- the number of a ring's agents that a word gives: 1 to 4,000
+unfoldable pub size_of : List ℕ → Option ℕ
+size_of word =
+    if is_number most_size_digits most_in_ring word && nat_le 1 (digits_value 10 word) then Some (digits_value 10 word) else None
 
 -- the value of such digits, where the word is these bytes and then the digits
 abbrev pub number_after : List ℕ → ℕ → ℕ → List ℕ → Option ℕ

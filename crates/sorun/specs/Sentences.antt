@@ -1,11 +1,13 @@
 -- The sentences of the command line, and where words leave them.
 use Rattle.std.specs.Prelude.{◌≡◌, ◌⊎◌, ◌↔◌, ℕ, ◌+◌, ◌<◌, ◌≤◌, List, [], ◌∷◌, ◌++◌, length, take, true, Option, Some, None, unwrap_or, Ok, Err, codes, IfSome}
 use Rattle.std.specs.Str.Parse.{IsNumeral, digits_value}
+use Rattle.so_ids.specs.Limits.{most_units}
 use Rattle.so_history.specs.declared.lines.Mode.{Mode}
 use Rattle.so_history.specs.declared.lines.Mode.TheVariants.{Plain, Trace}
 use Rattle.sorun.specs.Words.{is_file}
-use Rattle.sorun.specs.Options.{most_units, usual_units, most_digits}
-use Rattle.sorun.specs.Commands.{Command, command_of}
+use Rattle.sorun.specs.Options.{usual_units, most_digits, most_size_digits}
+use Rattle.so_ring.specs.Ring.{most_in_ring}
+use Rattle.sorun.specs.Commands.{Command, of_file, load, command_of}
 use Rattle.sorun.specs.declared.commands.Job.{Job}
 use Rattle.sorun.specs.declared.commands.Job.TheVariants.{Check, Sim}
 
@@ -56,9 +58,18 @@ abbrev pub Asks : Job → List ℕ → List (List ℕ) → Type 0
 Asks Check file ws = IsPlain (codes "check") file ws
 Asks (Sim mode units) file ws = IsOptioned (codes "sim") file mode units ws
 
+-- `load`, and decimal digits that write a number of agents from 1 to 4,000
+pub record IsLoad (count : ℕ) (ws : List (List ℕ)) : Type 0 where
+  pub digits : List ℕ
+  pub written : IsWritten most_size_digits count digits
+  pub some : 1 ≤ count
+  pub few : count ≤ most_in_ring
+  pub is : ws ≡ codes "load" ∷ digits ∷ []
+
 -- the words say this command
 abbrev pub IsSentenceOf : Command → List (List ℕ) → Type 0
-IsSentenceOf c ws = Asks c.job c.file ws
+IsSentenceOf (of_file file job) ws = Asks job file ws
+IsSentenceOf (load count) ws = IsLoad count ws
 
 -- they say some command
 pub record IsSentence (ws : List (List ℕ)) : Type 0 where

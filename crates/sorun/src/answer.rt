@@ -1,20 +1,22 @@
-//! The answer to the words: it follows the command, the file, the bytes and the scene.
+//! The answer to the words: it follows the command, the file, the bytes and the scene, or the ring.
 
 ghost use Rattle.std.specs.Prelude.{◌≡◌, ◌≤◌, ℕ, List};
+ghost use Rattle.so_ids.specs.Limits.{most_units};
 ghost use Rattle.so_scene_json.specs.Scene.{scene_of};
 ghost use Rattle.sorun.specs.Words.{texts};
-ghost use Rattle.sorun.specs.Options.{most_units};
 ghost use Rattle.sorun.specs.Commands.{IsWithin, command_of};
 ghost use Rattle.sorun.specs.Answers.{status_of, refusal_cause, IsChecked, IsRun, JobAnswers, SceneAnswers, FileAnswers, WordsAnswers};
 
-use crate::commands::{Job, command_of};
+use crate::commands::{Command, Job, command_of};
+use crate::load::answer_load;
 use crate::report::{Report, refused, status_of};
 use crate::summary::put_summary;
 use so_env::{Cause, Outcome, simulate};
+use so_fault::SceneRefusal;
 use so_history::Mode;
 use so_io::{Files, ReadFail, Sink, put_all};
 use so_lines::LineBuf;
-use so_scene::{Scene, SceneRefusal};
+use so_scene::Scene;
 use so_scene_json::read_scene;
 use std::alloc::Global;
 
@@ -36,7 +38,8 @@ pub(crate) fn answer<F: Files, K: Sink>(
 {
     match command_of(words) {
         Err(place) => refused(Cause::Usage(place)),
-        Ok(command) => answer_file(alloc, command.file, command.job, files, out),
+        Ok(Command::OfFile { file, job }) => answer_file(alloc, file, job, files, out),
+        Ok(Command::Load { count }) => answer_load(alloc, count, out),
     }
 }
 
@@ -126,6 +129,7 @@ fn answer_sim<K: Sink>(alloc: Global, mode: Mode, units: u32, scene: Scene, out:
     let Outcome {
         history,
         cause,
+        units: _,
         pieces,
     } = simulate(alloc, &scene, units, mode, out);
     Report {

@@ -1,12 +1,12 @@
-//! The commands of the program: `check FILE`, and `sim` with its options and FILE.
+//! The commands of the program: `check FILE`, `sim` with its options and FILE, and `load` with the number of a ring's agents.
 
 ghost use Rattle.std.specs.Prelude.{◌≡◌, ◌≤◌, Ok, Err, IfOk, MatchResult};
 ghost use Rattle.sorun.specs.Words.{texts, is_file};
 ghost use Rattle.sorun.specs.Options.{no_options, options_of};
 ghost use Rattle.sorun.specs.Sentences.{AreRead};
-ghost use Rattle.sorun.specs.Commands.{IsWithin, meant, check_of, sim_of, plain, file_at, after_options, command_of};
+ghost use Rattle.sorun.specs.Commands.{IsPossible, meant, check_of, sim_of, load_of, plain, file_at, after_options, command_of};
 
-use crate::options::{Options, options_of};
+use crate::options::{Options, options_of, size_of};
 use so_history::Mode;
 
 /// What is to be done with a scene.
@@ -18,11 +18,13 @@ pub(crate) enum Job {
     Sim { mode: Mode, units: u32 },
 }
 
-/// What the words ask for: a file by its name, and what is to be done with its scene.
+/// What the words ask for.
 #[derive(Clone, Copy)]
-pub(crate) struct Command<'a> {
-    pub(crate) file: &'a str,
-    pub(crate) job: Job,
+pub(crate) enum Command<'a> {
+    /// Something with the scene of a file, which is named.
+    OfFile { file: &'a str, job: Job },
+    /// To simulate a ring of so many agents, and to say how large its run is.
+    Load { count: u32 },
 }
 
 /// Tells whether a word names a file.
@@ -60,7 +62,7 @@ fn check_of(words: &[String]) -> Result<Command<'_>, u32>
     ensures { MatchResult result (λ c. plain check_of (file_at 1 (texts words.now)) ≡ Ok (meant c)) (λ k. plain check_of (file_at 1 (texts words.now)) ≡ Err k) }
 {
     let file = file_at(1, words)?;
-    Ok(Command {
+    Ok(Command::OfFile {
         file,
         job: Job::Check,
     })
@@ -76,7 +78,25 @@ fn sim_of(words: &[String]) -> Result<Command<'_>, u32>
         mode: options.mode,
         units: options.units(),
     };
-    Ok(Command { file, job })
+    Ok(Command::OfFile { file, job })
+}
+
+/// The command of the words after `load`.
+fn load_of(words: &[String]) -> Result<Command<'_>, u32>
+    ensures value { MatchResult result (λ c. load_of (texts words.now) ≡ Ok (meant c)) (λ k. load_of (texts words.now) ≡ Err k) }
+    ensures possible { IfOk result (λ c. IsPossible (meant c)) }
+{
+    match words {
+        [] => Err(1),
+        [size, rest @ ..] => {
+            let count = size_of(size.as_str()).ok_or(1u32)?;
+            if rest.is_empty() {
+                Ok(Command::Load { count })
+            } else {
+                Err(2)
+            }
+        }
+    }
 }
 
 /// The command of a sentence, or the place of the words' fault: the number, from 0, of the first
@@ -85,8 +105,8 @@ fn sim_of(words: &[String]) -> Result<Command<'_>, u32>
 pub(crate) fn command_of(words: &[String]) -> Result<Command<'_>, u32>
     ensures value { MatchResult result (λ c. command_of (texts words.now) ≡ Ok (meant c)) (λ k. command_of (texts words.now) ≡ Err k) }
 
-    // A simulation's units are within what may be given.
-    ensures within { IfOk result (λ c. IsWithin c.job) }
+    // A simulation's units are within what may be given, and so is the number of a ring's agents.
+    ensures possible { IfOk result (λ c. IsPossible (meant c)) }
 
     // Exactly the sentences have a command, and exactly the first faulty word is the fault.
     ensures read { AreRead (texts words.now) }
@@ -96,6 +116,7 @@ pub(crate) fn command_of(words: &[String]) -> Result<Command<'_>, u32>
         [name, rest @ ..] => match name.as_str() {
             "check" => check_of(rest),
             "sim" => sim_of(rest),
+            "load" => load_of(rest),
             _ => Err(0),
         },
     }

@@ -3,6 +3,7 @@
 
 mod answer;
 mod commands;
+mod load;
 mod message;
 mod options;
 mod report;

@@ -4,10 +4,10 @@ ghost use Rattle.std.specs.Prelude.{◌≡◌, []};
 ghost use Rattle.sorun.specs.Answers.{cause_line, fault_line, entries_of, IsTold};
 
 use so_env::Cause;
+use so_fault::{SceneFault, put_fault};
 use so_history::History;
 use so_io::{Sink, put_all};
 use so_lines::{LineBuf, put, put_word};
-use so_scene::{SceneFault, put_fault};
 
 /// How many entries a history has.
 pub(crate) fn entries_of(history: &Option<History>) -> u32

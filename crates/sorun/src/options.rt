@@ -1,17 +1,22 @@
 //! The options of a command: `--trace` and `--limit=N`, in any order, each at most once.
 
 ghost use Rattle.std.specs.Prelude.{◌≡◌, ◌==◌, ◌≤◌, ℕ, slice_index, IfSome, IfNone};
+ghost use Rattle.so_ids.specs.Limits.{most_units};
 ghost use Rattle.sorun.specs.Words.{texts};
 ghost use Rattle.sorun.specs.Sentences.{IsWritten, SetsLimit};
-ghost use Rattle.sorun.specs.Options.{most_units, with_trace, with_limit, with_option, options_of, count_of, units_of};
+ghost use Rattle.sorun.specs.Options.{with_trace, with_limit, with_option, options_of, count_of, units_of, size_of};
 
 use so_history::Mode;
+use so_ring::MOST_IN_RING;
 
 /// The greatest limit that may be given, in units.
 const MOST_UNITS: u32 = 1_000_000;
 
 /// The most digits of a limit.
 const MOST_DIGITS: usize = 7;
+
+/// The most digits of the number of a ring's agents.
+const MOST_SIZE_DIGITS: usize = 4;
 
 /// The limit where none is given, in units.
 const USUAL_UNITS: u32 = 100_000;
@@ -118,6 +123,14 @@ fn limit_of(word: &str) -> Option<u32>
     ensures none { IfNone result ((n : ℕ) → n ≤ most_units → SetsLimit n word.now → ⊥) }
 {
     number_of(word.strip_prefix("--limit=")?, MOST_DIGITS, MOST_UNITS)
+}
+
+/// The number of a ring's agents that a word gives, 1 to 4,000.
+pub(crate) fn size_of(word: &str) -> Option<u32>
+    ensures { result ≡ size_of word.now }
+{
+    let size = number_of(word, MOST_SIZE_DIGITS, MOST_IN_RING)?;
+    if size == 0 { None } else { Some(size) }
 }
 
 /// The options that stand before the file, and the words from there on.

@@ -13,7 +13,7 @@ pub struct Report {
     /// The exit status that the cause has.
     pub status: u8,
     pub cause: Cause,
-    /// The scene, exactly where the file's bytes gave one.
+    /// The scene, exactly where the file's bytes gave one or a ring was made.
     pub scene: Option<Scene>,
     /// The history, where the scene was run.
     pub history: Option<History>,

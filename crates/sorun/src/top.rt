@@ -14,8 +14,9 @@ use so_env::Cause;
 use so_io::{Files, Sink};
 use std::alloc::Global;
 
-/// Does what the words say: `check FILE` says how large the scene of a file is, and `sim`, its
-/// options and FILE simulate it. It always returns.
+/// Does what the words say: `check FILE` says how large the scene of a file is, `sim`, its options
+/// and FILE simulate it, and `load K` simulates a ring of K agents and says how large its run is. It
+/// always returns.
 pub fn quiet<F: Files, K: Sink, E: Sink>(
     alloc: Global,
     words: &[String],
@@ -27,7 +28,8 @@ pub fn quiet<F: Files, K: Sink, E: Sink>(
 
     // The answer follows the command, the file, the bytes and the scene: where the scene is run, the
     // history is the chain of its first legal steps within the units, legal, and `out` got its text
-    // in the mode; where it is checked, `out` got its line.
+    // in the mode; where it is checked, `out` got its line. A ring's history is such a chain too, and
+    // `out` got its line.
     ensures answer { WordsAnswers (command_of (texts words.now)) (F.content files.old) result (F.faults files.old) (F.faults files.new)
         (K.content out.old) (K.content out.new) (K.faults out.old) (K.faults out.new) }
 

@@ -4,12 +4,12 @@ ghost use Rattle.std.specs.Prelude.{◌≡◌};
 ghost use Rattle.so_tables.specs.AfterLanes.{MayAbsorb, after_entry};
 
 use crate::found::Found;
-use crate::slots::Slots;
+use crate::lane_turns::LaneTurns;
 use so_history::EntryKind;
 use so_ids::Place;
 
 /// Which turn runs on each lane after an entry at a place.
-pub(crate) fn absorb_lanes(lanes: &mut Slots, found: Found, place: Place, kind: EntryKind)
+pub(crate) fn absorb_lanes(lanes: &mut LaneTurns, found: Found, place: Place, kind: EntryKind)
     requires { MayAbsorb found kind lanes.old }
     ensures { lanes.new ≡ after_entry found place kind lanes.old }
 {

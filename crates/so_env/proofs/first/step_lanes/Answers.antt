@@ -1,14 +1,20 @@
-use Rattle.std.proofs.Common.{◌≡◌, ◌<◌, ◌+◌, ◌∙◌, sym, ap, Err, subst}
+use Rattle.std.proofs.Common.{◌≡◌, ◌<◌, ◌+◌, ◌∙◌, sym, ap, refl, Err, None, subst}
 use Rattle.so_scene.specs.Lanes.{lanes}
 use Rattle.so_history.specs.Chain.{taking_entry, lane_entry}
 use Rattle.so_history.specs.declared.entry.Pick.TheVariants.{Lane}
 use Rattle.so_ledger.specs.Shapes.{Core}
 use Rattle.so_ledger.specs.Gates.{gated}
-use Rattle.so_ledger.specs.declared.gate.Refused.TheVariants.{Nothing}
+use Rattle.so_ledger.specs.declared.gate.Barred.TheVariants.{Nothing}
 use Rattle.so_kernel.specs.declared.answers.Stepped.TheVariants.{Nothing as NothingStep}
 use Rattle.so_env.specs.Runs.{lanes_entry}
-use Rattle.so_env.proofs.StepLaws.{Steps, by_pick, unchanged, begins, first_lane, one_more}
+use Rattle.so_env.proofs.StepLaws.{Steps, by_pick, unchanged, begins, first_lane, one_more, none_before}
 use Rattle.so_env.proofs.first.step_lanes.Goals as goal
+
+pub loop-lane-init : goal.loop-lane-init
+loop-lane-init c =
+    let k = c.args.kernel.now in
+    let none : lanes_entry k c.first_lane-lane.result ≡ None = none_before k c.first_lane-lane.result c.first_lane-lane.ensures.none in
+    (refl, c.requires.held, ap (gated k) none ∙ c.requires.going)
 
 pub returns-in_default : goal.returns-in_default
 returns-in_default c =

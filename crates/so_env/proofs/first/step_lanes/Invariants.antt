@@ -1,7 +1,7 @@
 use Rattle.std.proofs.Common.{◌≡◌, Err}
 use Rattle.so_ledger.specs.Gates.{gated}
 use Rattle.so_kernel.specs.Held.{AreHeld}
-use Rattle.so_ledger.specs.declared.gate.Refused.TheVariants.{Nothing}
+use Rattle.so_ledger.specs.declared.gate.Barred.TheVariants.{Nothing}
 use Rattle.so_env.specs.Runs.{lanes_entry}
 use Rattle.so_env.proofs.first.step_lanes.Given as goal
 

@@ -1,7 +1,7 @@
 use Rattle.std.proofs.Common.{◌≡◌, Bool, true, false, ◌||◌, refl, sym, ◌∙◌, subst, length}
 use Rattle.std.proofs.lemmas.Bool.{ltb-false, or_left, or_right, true≢false}
 use Rattle.std.specs.Prelude.{Result}
-use Rattle.so_scene.specs.declared.fault.SceneRefusal.{SceneRefusal}
+use Rattle.so_fault.specs.declared.fault.SceneRefusal.{SceneRefusal}
 use Rattle.so_scene_fields.specs.Reads.{Returns}
 use Rattle.so_scene_json.proofs.finish.exceeds.Goals as goal
 

@@ -2,8 +2,8 @@ use Rattle.std.proofs.Common.{sym, refl, ap, ◌++◌, ◌∙◌, map}
 use Rattle.serde_json.specs.Data.{array}
 use Rattle.serde_json.specs.View.{view, items_of}
 use Rattle.serde_json.proofs.Views.{view-Array}
-use Rattle.so_scene_writer.specs.ActData.{act_data}
-use Rattle.so_scene_writer.specs.Sources.{acts_in}
+use Rattle.so_scene_data.specs.ActData.{act_data}
+use Rattle.so_scene_data.specs.Sources.{acts_in}
 use Rattle.so_scene_writer.proofs.Listed.{rest_more, rest_done, acts_go, acts_stop, acts_none}
 use Rattle.so_scene_writer.proofs.acts.acts_value.Goals as goal
 

@@ -1,5 +1,5 @@
 use Rattle.std.proofs.Common.{◌≡◌, drop}
-use Rattle.so_scene_writer.specs.Sources.{behind}
+use Rattle.so_scene_data.specs.Sources.{behind}
 use Rattle.so_scene_writer.proofs.acts.behind.Given as goal
 
 abbrev pub invariant-loop-at : goal.invariant-loop-at

@@ -2,7 +2,7 @@ use Rattle.std.proofs.Common.{ap, refl, ◌∙◌, map}
 use Rattle.serde_json.specs.Data.{array}
 use Rattle.serde_json.specs.View.{view, items_of}
 use Rattle.serde_json.proofs.Views.{view-Array}
-use Rattle.so_scene_writer.specs.ActData.{operand_data}
+use Rattle.so_scene_data.specs.ActData.{operand_data}
 use Rattle.so_scene_writer.proofs.Listed.{shown_more, shown_all}
 use Rattle.so_scene_writer.proofs.acts.with_operands.Goals as goal
 

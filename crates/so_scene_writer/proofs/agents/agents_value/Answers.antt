@@ -2,7 +2,7 @@ use Rattle.std.proofs.Common.{ap, [], ◌∙◌}
 use Rattle.serde_json.specs.Data.{array}
 use Rattle.serde_json.specs.View.{items_of}
 use Rattle.serde_json.proofs.Views.{view-Array}
-use Rattle.so_scene_writer.specs.Canonical.{agent_data}
+use Rattle.so_scene_data.specs.Canonical.{agent_data}
 use Rattle.so_scene_writer.proofs.Listed.{shown_more, shown_all}
 use Rattle.so_scene_writer.proofs.agents.agents_value.Goals as goal
 

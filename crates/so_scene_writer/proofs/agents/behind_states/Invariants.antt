@@ -1,5 +1,5 @@
 use Rattle.std.proofs.Common.{◌≡◌, ◌-◌}
-use Rattle.so_scene_writer.specs.Sources.{behind_states}
+use Rattle.so_scene_data.specs.Sources.{behind_states}
 use Rattle.so_scene_writer.proofs.agents.behind_states.Given as goal
 
 abbrev pub invariant-loop : goal.invariant-loop

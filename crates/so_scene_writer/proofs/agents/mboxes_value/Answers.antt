@@ -2,8 +2,8 @@ use Rattle.std.proofs.Common.{ap, [], ◌∙◌}
 use Rattle.serde_json.specs.Data.{array, string}
 use Rattle.serde_json.specs.View.{items_of}
 use Rattle.serde_json.proofs.Views.{view-Array}
-use Rattle.so_scene_writer.specs.ActData.{text_data}
-use Rattle.so_scene_writer.specs.ActData.{shown}
+use Rattle.so_scene_data.specs.ActData.{text_data}
+use Rattle.so_scene_data.specs.ActData.{shown}
 use Rattle.so_scene_writer.proofs.Listed.{shown_more, shown_all}
 use Rattle.so_scene_writer.proofs.agents.mboxes_value.Goals as goal
 

@@ -1,6 +1,6 @@
 use Rattle.std.proofs.Common.{◌≡◌, map, take}
 use Rattle.serde_json.specs.View.{view}
-use Rattle.so_scene_writer.specs.ActData.{text_data}
+use Rattle.so_scene_data.specs.ActData.{text_data}
 use Rattle.so_scene_writer.proofs.agents.mboxes_value.Given as goal
 
 abbrev pub invariant-loop-mbox : goal.invariant-loop-mbox

@@ -1,7 +1,7 @@
 use Rattle.std.proofs.Common.{◌≡◌, ◌++◌, map, drop}
 use Rattle.serde_json.specs.View.{view}
-use Rattle.so_scene_writer.specs.Canonical.{row_data}
-use Rattle.so_scene_writer.specs.Sources.{rows_in}
+use Rattle.so_scene_data.specs.Canonical.{row_data}
+use Rattle.so_scene_data.specs.Sources.{rows_in}
 use Rattle.so_scene_writer.proofs.agents.rows_value.Given as goal
 
 abbrev pub invariant-loop-k : goal.invariant-loop-k

@@ -2,8 +2,8 @@ use Rattle.std.proofs.Common.{ap, map, ◌∙◌}
 use Rattle.serde_json.specs.Data.{array}
 use Rattle.serde_json.specs.View.{items_of}
 use Rattle.serde_json.proofs.Views.{view-Array}
-use Rattle.so_scene_writer.specs.Canonical.{state_data}
-use Rattle.so_scene_writer.specs.Sources.{states_in}
+use Rattle.so_scene_data.specs.Canonical.{state_data}
+use Rattle.so_scene_data.specs.Sources.{states_in}
 use Rattle.so_scene_writer.proofs.Listed.{states_more, states_done}
 use Rattle.so_scene_writer.proofs.agents.states_value.Goals as goal
 

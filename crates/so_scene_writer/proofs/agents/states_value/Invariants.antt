@@ -1,7 +1,7 @@
 use Rattle.std.proofs.Common.{◌≡◌, ◌++◌, map, drop}
 use Rattle.serde_json.specs.View.{view}
-use Rattle.so_scene_writer.specs.Canonical.{state_data}
-use Rattle.so_scene_writer.specs.Sources.{states_in}
+use Rattle.so_scene_data.specs.Canonical.{state_data}
+use Rattle.so_scene_data.specs.Sources.{states_in}
 use Rattle.so_scene_writer.proofs.agents.states_value.Given as goal
 
 abbrev pub invariant-loop-k : goal.invariant-loop-k

@@ -1,6 +1,6 @@
 use Rattle.std.proofs.Common.{option_map}
 use Rattle.serde_json.specs.View.{view}
-use Rattle.so_scene_writer.specs.Sources.{row_source}
+use Rattle.so_scene_data.specs.Sources.{row_source}
 use Rattle.so_scene_writer.proofs.Joined.{if_ok, row_joined}
 use Rattle.so_scene_writer.proofs.objects.row_value.Goals as goal
 

@@ -1,8 +1,8 @@
 use Rattle.std.proofs.Common.{option_map, ap, ◌∙◌}
 use Rattle.serde_json.specs.View.{view}
-use Rattle.so_scene_writer.specs.ActData.{acts_data}
-use Rattle.so_scene_writer.specs.Sources.{acts_in}
-use Rattle.so_scene_writer.specs.Fields.{state_base}
+use Rattle.so_scene_data.specs.ActData.{acts_data}
+use Rattle.so_scene_data.specs.Sources.{acts_in}
+use Rattle.so_scene_data.specs.Fields.{state_base}
 use Rattle.so_scene_writer.proofs.Joined.{if_ok, state_joined}
 use Rattle.so_scene_writer.proofs.objects.state_value.Goals as goal
 

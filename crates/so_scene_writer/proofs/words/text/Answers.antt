@@ -1,5 +1,5 @@
 use Rattle.std.proofs.Common.{sym, ◌∙◌}
-use Rattle.so_scene_writer.proofs.Named.{shown_same, shown_none}
+use Rattle.so_scene_data.proofs.Named.{shown_same, shown_none}
 use Rattle.so_scene_writer.proofs.words.text.Goals as goal
 
 pub returns-in-Ok : goal.returns-in-Ok

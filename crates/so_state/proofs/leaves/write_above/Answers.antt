@@ -1,6 +1,6 @@
 use Rattle.std.proofs.Common.{◌<◌, ◌∙◌, get_or, length, arith}
 use Rattle.std.proofs.Math.ListN.{length-set}
-use Rattle.so_state.specs.States.{default_state}
+use Rattle.so_ids.specs.Ids.{default_state}
 use Rattle.so_state.proofs.Kept.{kept_more}
 use Rattle.so_state.proofs.leaves.write_above.Goals as goal
 

@@ -1,5 +1,5 @@
 use Rattle.std.proofs.Common.{refl, [], ◌∷◌}
-use Rattle.so_code.proofs.Checks.{agent_code}
+use Rattle.so_code_laws.proofs.Checks.{agent_code}
 use Rattle.so_twins.proofs.boxes.echoing.Goals as goal
 
 pub new-requires : goal.new-requires

@@ -24,5 +24,5 @@ add-requires-clause-sent c =
 
 pub gate-requires : goal.gate-requires
 gate-requires c =
-    let M : Core → Type 0 = λ k. HasMoved k.scene k.history c.args.turn (Fail c.args.kind) in
-    moves_fail c.self.inside.ledger.scene c.self.inside.ledger.history c.args.turn c.args.kind (subst M (sym c.self.view_is) c.requires.moved)
+    let M : Core → Type 0 = λ k. HasMoved k.scene k.history c.args.turn.now (Fail c.args.kind) in
+    moves_fail c.self.inside.ledger.scene c.self.inside.ledger.history c.args.turn.now c.args.kind (subst M (sym c.self.view_is) c.requires.moved)

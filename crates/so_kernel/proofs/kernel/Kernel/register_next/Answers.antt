@@ -2,13 +2,13 @@ use Rattle.std.proofs.Common.{sym, ◌∙◌, ap, subst}
 use Rattle.so_scene.specs.Cooperations.{admission}
 use Rattle.so_history.specs.declared.entry.Entry.{Entry}
 use Rattle.so_history.specs.Coops.{standing}
-use Rattle.so_history.proofs.ChainLaws.{registered}
+use Rattle.so_history_laws.proofs.ChainLaws.{registered}
 use Rattle.so_tables.specs.declared.found.Found.TheVariants as what
 use Rattle.so_tables.specs.AfterEvents.{IsSent}
 use Rattle.so_tables.specs.Found.{IsFound}
 use Rattle.so_ledger.specs.Shapes.{Core}
 use Rattle.so_ledger.specs.Gates.{gated}
-use Rattle.so_kernel.specs.Answers.{added, stepped}
+use Rattle.so_kernel.specs.Answers.{added, step_answers}
 use Rattle.so_kernel.proofs.AnswerLaws.{added_registered}
 use Rattle.so_kernel.proofs.HandLaws.{found_registered, sent_registered}
 use Rattle.so_kernel.proofs.kernel.Kernel.register_next.Goals as goal
@@ -30,4 +30,4 @@ returns-in-Ok-clause-answer c =
     rw (← c.self.view_is)
     (added_registered it.coop (admission k.scene (standing k.history) it.coop)
     ∙ (ap (λ (e : Entry). added e.kind) (sym it.is)
-    ∙ ap stepped (sym c.in-Ok.is ∙ (c.gate.ensures.value ∙ ap (gated k) c.registration-next.ensures.value))))
+    ∙ ap step_answers (sym c.in-Ok.is ∙ (c.gate.ensures.value ∙ ap (gated k) c.registration-next.ensures.value))))

@@ -2,12 +2,12 @@ use Rattle.std.proofs.Common.{◌≡◌, ◌≤◌, ℕ, List, [], ◌∷◌, �
 use Rattle.std.proofs.lemmas.Bool.{true≢false, le-ltb}
 use Rattle.serde_json.specs.Data.{Data}
 use Rattle.serde_json.specs.View.{view}
-use Rattle.so_scene.specs.declared.fault.SceneFault.{SceneFault}
-use Rattle.so_scene.specs.declared.fault.SceneRefusal.{SceneRefusal}
+use Rattle.so_fault.specs.declared.fault.SceneFault.{SceneFault}
+use Rattle.so_fault.specs.declared.fault.SceneRefusal.{SceneRefusal}
 use Rattle.so_scene.specs.declared.parts.AgentDef.{AgentDef}
 use Rattle.so_scene_build.specs.declared.build.Build.{Build}
 use Rattle.so_scene_passes.specs.declared.scope.Scope.{Scope}
-use Rattle.so_scene_build.specs.declared.code_writer.CodeWriter.{CodeWriter}
+use Rattle.so_scene_build.specs.declared.code_builder.CodeBuilder.{CodeBuilder}
 use Rattle.so_state.specs.declared.states.State.{State}
 use Rattle.so_scene_fields.specs.Visits.{Place, Leaves}
 use Rattle.so_scene_build.specs.declared.groups.Group.{Group}
@@ -21,12 +21,12 @@ use Rattle.so_scene_build.proofs.build.Build.with_code.Goals as goal
 abbrev ok : Build → Result Build SceneFault
 ok b = Ok b
 
-within : (place : Place) (s : Build) (d : Data) (tree : List State) (w : CodeWriter) (b : Bool) → nat_lt 1024 (length w.code) ≡ b → length w.code ≤ 1024
+within : (place : Place) (s : Build) (d : Data) (tree : List State) (w : CodeBuilder) (b : Bool) → nat_lt 1024 (length w.code) ≡ b → length w.code ≤ 1024
     → with_code place s d tree w ≡ Ok (agent_added s d tree w)
 within place s d tree w true e l = absurd (true≢false (sym e ∙ le-ltb 1024 (length w.code) l))
 within place s d tree w false e l = rw e
 
-begun : List (List ℕ) → Scope → CodeWriter
+begun : List (List ℕ) → Scope → CodeBuilder
 begun texts scope = record { texts = texts; code = []; scope = scope }
 
 abbrev grouped : Build → Data → Build
@@ -36,7 +36,7 @@ was : (a b : Build) → ok a ≡ Ok b → a ≡ b
 was a b e = cc
 
 -- the texts were taken out while the code was written
-added : (place : Place) (s taken next : Build) (d : Data) (tree : List State) (scope : Scope) (w : CodeWriter) (texts : List (List ℕ)) (groups : List Group) (agent : AgentDef) (n : ℕ) (coop : CoopId) → texts ≡ s.texts → taken ≡ record s { texts = [] } → n ≡ length s.agents → coop ≡ last_coop s.coops
+added : (place : Place) (s taken next : Build) (d : Data) (tree : List State) (scope : Scope) (w : CodeBuilder) (texts : List (List ℕ)) (groups : List Group) (agent : AgentDef) (n : ℕ) (coop : CoopId) → texts ≡ s.texts → taken ≡ record s { texts = [] } → n ≡ length s.agents → coop ≡ last_coop s.coops
     → agent_written taken.names (record { texts = texts; code = []; scope = scope }) d ≡ w → groups ≡ taken.groups → agent_with n coop taken.names groups d tree w.scope w.code ≡ agent → length w.code ≤ 1024 → ok (grouped taken d) ≡ Ok next
     → with_code place s d tree (agent_written s.names (record { texts = s.texts; code = []; scope = scope }) d) ≡ Ok (record next { coops = one_more next.coops; agents = next.agents ++ agent ∷ []; texts = w.texts })
 unfolding begun

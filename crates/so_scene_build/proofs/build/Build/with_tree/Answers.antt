@@ -3,11 +3,11 @@ use Rattle.serde_json.specs.Data.{Data, Items}
 use Rattle.serde_json.specs.Events.{items_len}
 use Rattle.serde_json.specs.Find.{get}
 use Rattle.serde_json.specs.View.{view}
-use Rattle.so_scene.specs.declared.fault.SceneFault.{SceneFault}
-use Rattle.so_scene.specs.declared.fault.SceneRefusal.{SceneRefusal}
+use Rattle.so_fault.specs.declared.fault.SceneFault.{SceneFault}
+use Rattle.so_fault.specs.declared.fault.SceneRefusal.{SceneRefusal}
 use Rattle.so_scene_build.specs.declared.build.Build.{Build}
 use Rattle.so_scene_passes.specs.declared.scope.Scope.{Scope}
-use Rattle.so_scene_build.specs.declared.code_writer.CodeWriter.{CodeWriter}
+use Rattle.so_scene_build.specs.declared.code_builder.CodeBuilder.{CodeBuilder}
 use Rattle.so_state.specs.declared.states.State.{State}
 use Rattle.so_scene_fields.specs.Visits.{Place, Leaves, list_of, listed, ◌>>=◌}
 use Rattle.so_scene_passes.specs.Scope.{scope_of, state_items}
@@ -17,7 +17,7 @@ use Rattle.so_scene_build.proofs.Codes.{is_short}
 use Rattle.so_scene_fields.proofs.Ends.{length_map, length_listed}
 use Rattle.so_scene_build.proofs.build.Build.with_tree.Goals as goal
 
-begun : List (List ℕ) → Scope → CodeWriter
+begun : List (List ℕ) → Scope → CodeBuilder
 begun texts scope = record { texts = texts; code = []; scope = scope }
 
 few_states : (d : Data) (scope : Scope) (ds : Items) (found : Option Data) (states : List State) → is_long d ≡ false → ds ≡ list_of found → found ≡ get (codes "states") d → states_of scope ds ≡ states → length states ≤ 63

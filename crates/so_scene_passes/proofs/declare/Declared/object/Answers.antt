@@ -1,6 +1,6 @@
 use Rattle.std.proofs.Common.{◌≡◌, List, ℕ, Option, Some, Result, sym, subst}
 use Rattle.serde_json.specs.Data.{Data}
-use Rattle.so_scene.specs.declared.fault.SceneRefusal.{SceneRefusal}
+use Rattle.so_fault.specs.declared.fault.SceneRefusal.{SceneRefusal}
 use Rattle.so_scene_passes.specs.declared.declare.Declared.{Declared}
 use Rattle.so_scene_fields.specs.declared.table.Space.{Space}
 use Rattle.so_scene_passes.specs.Twice.{name_for, declared_name, declared}

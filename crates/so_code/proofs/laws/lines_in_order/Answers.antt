@@ -1,5 +1,0 @@
-use Rattle.so_code.proofs.BodyLaws.{lines_in_order as law}
-use Rattle.so_code.proofs.laws.lines_in_order.Goals as goal
-
-pub returns : goal.returns
-returns c = law

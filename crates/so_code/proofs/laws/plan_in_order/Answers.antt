@@ -1,5 +1,0 @@
-use Rattle.so_code.proofs.PlanLaws.{parts_in_order as law}
-use Rattle.so_code.proofs.laws.plan_in_order.Goals as goal
-
-pub returns : goal.returns
-returns c = law

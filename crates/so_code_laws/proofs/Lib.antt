@@ -1,0 +1,4 @@
+pub mod TurnLaws
+pub mod BodyLaws
+pub mod PlanLaws
+pub mod Checks

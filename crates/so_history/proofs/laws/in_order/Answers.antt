@@ -1,5 +1,0 @@
-use Rattle.so_history.proofs.OrderLaws.{in_order as law}
-use Rattle.so_history.proofs.laws.in_order.Goals as goal
-
-pub returns : goal.returns
-returns c = law

@@ -1,0 +1,9 @@
+pub mod RoundLaws
+pub mod ChainLaws
+pub mod SharingLaws
+pub mod OverlapLaws
+pub mod PresenceLaws
+pub mod CoopLaws
+pub mod LeavingLaws
+pub mod UnfinishedLaws
+pub mod FactLaws

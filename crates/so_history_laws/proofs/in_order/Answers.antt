@@ -1,0 +1,5 @@
+use Rattle.so_history.proofs.OrderLaws.{in_order as law}
+use Rattle.so_history_laws.proofs.in_order.Goals as goal
+
+pub returns : goal.returns
+returns c = law

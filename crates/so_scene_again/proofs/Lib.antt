@@ -1,0 +1,5 @@
+pub mod ObjectLaws
+pub mod Kept
+pub mod AgentLaws
+pub mod CoopLaws
+pub mod SceneLaws

@@ -1,0 +1,10 @@
+pub mod Named
+pub mod Writable
+pub mod Shown
+pub mod Walks
+pub mod ActLaws
+pub mod Found
+pub mod BodyLaws
+pub mod DispLaws
+pub mod GroupLaws
+pub mod Blocks

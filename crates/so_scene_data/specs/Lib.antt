@@ -1,0 +1,4 @@
+pub mod Sources
+pub mod ActData
+pub mod Canonical
+pub mod Fields
