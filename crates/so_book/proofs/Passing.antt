@@ -10,7 +10,7 @@ use Rattle.so_book.specs.declared.view.Note.{Note}
 use Rattle.so_book.specs.History.{Began, signed_by}
 use Rattle.so_book.specs.Rule.{note, EachNote, first_note, told_notes}
 use Rattle.so_book.specs.Seats.{note_at}
-use Rattle.so_book.specs.Passes.{IsPassOf, party_of, ArePartiesFrom, IsKept}
+use Rattle.so_book.specs.Passes.{IsPassOf, party_of, ArePartiesFrom, KeepsOwn}
 
 module _ {E : Type 0} (signer : E → PartyId) where
   abbrev numbered : ℕ → PartyId
@@ -62,9 +62,9 @@ module _ {V E : Type 0} {g : Ghosts V E} where
   notes_count [] = refl
   notes_count (p ∷ ps) = ap suc (notes_count ps)
 
-  pub all_kept : (signer : E → PartyId) (now : List E) (ps : List (Pass V E g)) → EachNote (λ y. Began y.seen now × (signed_by signer y.party now ≡ y.mine)) (notes_of ps) → All (IsKept signer now) ps
-  all_kept signer now [] t = All-nil (IsKept signer now)
-  all_kept signer now (p ∷ ps) t = All-cons (IsKept signer now) p ps t.0 (all_kept signer now ps t.1)
+  pub all_kept : (signer : E → PartyId) (now : List E) (ps : List (Pass V E g)) → EachNote (λ y. Began y.seen now × (signed_by signer y.party now ≡ y.mine)) (notes_of ps) → All (KeepsOwn signer now) ps
+  all_kept signer now [] t = All-nil (KeepsOwn signer now)
+  all_kept signer now (p ∷ ps) t = All-cons (KeepsOwn signer now) p ps t.0 (all_kept signer now ps t.1)
 
 pub snoc_shift : {A : Type 0} (xs : List A) (x : A) (ys : List A) → (xs ++ x ∷ []) ++ ys ≡ xs ++ x ∷ ys
 snoc_shift [] x ys = refl

@@ -43,8 +43,8 @@ module _ {V E : Type 0} {g : Ghosts V E} where
   HasSeen signer now p = (seen_by p ≡ now) × (made_by p ≡ signed_by signer (party_of p) now) × (knows_last p ≡ false)
 
   -- the history began with what the party has seen, and the party's entries in it are those that it made
-  abbrev pub IsKept : (E → PartyId) → List E → Pass V E g → Type 0
-  IsKept signer now p = Began (seen_by p) now × (signed_by signer (party_of p) now ≡ made_by p)
+  abbrev pub KeepsOwn : (E → PartyId) → List E → Pass V E g → Type 0
+  KeepsOwn signer now p = Began (seen_by p) now × (signed_by signer (party_of p) now ≡ made_by p)
 
 module _ {V E : Type 0} where
   -- who has the value

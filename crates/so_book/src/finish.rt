@@ -1,6 +1,6 @@
 //! How a book ends.
 ghost use Rattle.std.specs.Prelude.{All, ◌≡◌, length};
-ghost use Rattle.so_book.specs.Passes.{seats_of, IsPassOf, IsKept};
+ghost use Rattle.so_book.specs.Passes.{seats_of, IsPassOf, KeepsOwn};
 
 use crate::Chronicle;
 use crate::book::{Book, Pass};
@@ -14,7 +14,7 @@ impl<V: Chronicle> Book<V> {
     pub fn finish(self, mut passes: Vec<Pass<V>>) -> V
         requires passes { All (IsPassOf self) passes.items }
         requires all { length passes.items ≡ seats_of self }
-        ensures { All (IsKept V.signer (V.history result)) passes.items }
+        ensures { All (KeepsOwn V.signer (V.history result)) passes.items }
     {
         let Some(last) = passes.pop() else {
             unreachable!()

@@ -2,9 +2,9 @@
 
 use crate::fault::CaseFault;
 use so_env::{Cause, Outcome, simulate};
-use so_history::Mode;
 use so_io::MemSink;
 use so_scene::Scene;
+use so_text::Mode;
 use std::alloc::{AllocError, Global};
 
 /// The units that a simulation may spend.

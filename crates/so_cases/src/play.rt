@@ -6,11 +6,12 @@ ghost use Rattle.so_history.specs.Chain.{IsPickInRange};
 ghost use Rattle.so_ledger.specs.Shapes.{Core};
 ghost use Rattle.so_kernel.specs.Held.{played};
 
-use so_history::{History, Mode, Pick};
+use so_history::{History, Pick};
 use so_ids::{NoMemory, Place};
 use so_kernel::{Kernel, Turns, play};
 use so_lines::LineBuf;
 use so_scene::Scene;
+use so_text::{Mode, put_line};
 use std::alloc::Global;
 
 /// The units that a row may spend.
@@ -24,7 +25,7 @@ pub(crate) fn trace_of(alloc: Global, scene: &Scene, picks: &[Pick]) -> Result<V
     let mut text = Vec::new(alloc);
     let mut line = LineBuf::new();
     for place in 0..history.len() {
-        history.line(scene, Mode::Trace, Place(place), &mut line);
+        put_line(&mut line, &history, scene, Mode::Trace, Place(place));
         text.extend_from_slice(line.as_slice())?;
     }
     Ok(text)

@@ -21,7 +21,7 @@ use Rattle.so_code.specs.Values.{in_range, holds, value, put, payload}
 use Rattle.so_code.specs.Machine.{Step, act, put_if, next_by, goes_on, does, with_todo, is_done, fails, plan_left, ran_one, body_ended}
 use Rattle.so_code.specs.Receives.{is_receive, past}
 use Rattle.so_code.specs.Places.{HasPlaces, IsAt, IsIn, IsReceiveAt, HasReceive, reach}
-use Rattle.so_code.specs.Running.{IsFrame, Stands, IsFree, IsBack, Waits}
+use Rattle.so_code.specs.Running.{IsFrame, GoesOnAt, IsFree, IsBack, Waits}
 use Rattle.so_code.proofs.Budget.{budget, budget_of, base}
 
 -- one instruction stands at a place
@@ -34,7 +34,7 @@ not_receive code place i a other_kind r =
     let same : is_receive i ≡ true = ap is_receive e ∙ r.receives in
     cc
 
-module _ (code : List Instr) (places : HasPlaces code) (receive place : ℕ) (i : Instr) (here : IsAt code place i) (other_kind : is_receive i ≡ false) (stands : Stands code receive place) where
+module _ (code : List Instr) (places : HasPlaces code) (receive place : ℕ) (i : Instr) (here : IsAt code place i) (other_kind : is_receive i ≡ false) (stands : GoesOnAt code receive place) where
   -- a receive whose handlers the jump leads into has them round the jump
   own_after : (n : ℕ) → ((other : ℕ) → IsReceiveAt code other → place < other → other < place + n → past code other ≤ place + n) → (other : ℕ) → IsReceiveAt code other → IsIn code other (place + n) → receive ≡ other
   own_after n enters_none other r around =
@@ -50,13 +50,13 @@ module _ (code : List Instr) (places : HasPlaces code) (receive place : ℕ) (i 
       c)
       (cases_order other place)
 
-  stands_jump : Stands code receive (place + reach i)
+  stands_jump : GoesOnAt code receive (place + reach i)
   stands_jump = record {
     inside = places.leads place i here;
     own = own_after (reach i) (λ other r h into. places.enters_none other place i r h here into);
   }
 
-  stands_one : 1 ≤ reach i → Stands code receive (place + 1)
+  stands_one : 1 ≤ reach i → GoesOnAt code receive (place + 1)
   stands_one h = record {
     inside = omega (arith, places.leads place i here);
     own = own_after 1 (λ other r before after. absurd (omega arith));
@@ -72,7 +72,7 @@ moved x P e = cc
 
 module _ (code : List Instr) (places : HasPlaces code) where
   -- on to a place further on, where only what an act writes has changed
-  goes_on_keeps : (f g : Frame) → IsFrame code f → f.todo ≡ todo.Act → g.todo ≡ todo.Act → g.back ≡ f.back → g.plan ≡ f.plan → g.ran ≡ f.ran → Stands code g.receive g.place → f.place < g.place → Kept code (budget code f) (goes_on g)
+  goes_on_keeps : (f g : Frame) → IsFrame code f → f.todo ≡ todo.Act → g.todo ≡ todo.Act → g.back ≡ f.back → g.plan ≡ f.plan → g.ran ≡ f.ran → GoesOnAt code g.receive g.place → f.place < g.place → Kept code (budget code f) (goes_on g)
   goes_on_keeps f g frame acts goes back plan ran stands further =
       let P : Option ℕ → Type 0 = λ b. IsBack b code in
       record {
@@ -119,13 +119,13 @@ module _ (code : List Instr) (places : HasPlaces code) where
   ended_keeps f (Row r) frame acts inside = done_keeps f (budget code f) frame
   ended_keeps f Thread frame acts inside = done_keeps f (budget code f) frame
 
-  module _ (f : Frame) (frame : IsFrame code f) (acts : f.todo ≡ todo.Act) (stands : Stands code f.receive f.place) where
-    put_if_keeps : (to : Dest) (o : Option ℤ) → Stands code f.receive (f.place + 1) → Kept code (budget code f) (put_if to o f)
+  module _ (f : Frame) (frame : IsFrame code f) (acts : f.todo ≡ todo.Act) (stands : GoesOnAt code f.receive f.place) where
+    put_if_keeps : (to : Dest) (o : Option ℤ) → GoesOnAt code f.receive (f.place + 1) → Kept code (budget code f) (put_if to o f)
     put_if_keeps to None next = fails_keeps f (budget code f) Overflow frame
     put_if_keeps (ToVar k) (Some n) next = goes_on_keeps f (next_by 1 (put f (ToVar k) n)) frame acts acts refl refl refl next (omega arith)
     put_if_keeps (ToTemp k) (Some n) next = goes_on_keeps f (next_by 1 (put f (ToTemp k) n)) frame acts acts refl refl refl next (omega arith)
 
-    if_keeps : (b : Bool) (count : ℕ) → Stands code f.receive (f.place + 1) → Stands code f.receive (f.place + (count + 1)) → Kept code (budget code f) (goes_on (next_by (if b then 1 else count + 1) f))
+    if_keeps : (b : Bool) (count : ℕ) → GoesOnAt code f.receive (f.place + 1) → GoesOnAt code f.receive (f.place + (count + 1)) → Kept code (budget code f) (goes_on (next_by (if b then 1 else count + 1) f))
     if_keeps true count one jump = goes_on_keeps f (next_by 1 f) frame acts acts refl refl refl one (omega arith)
     if_keeps false count one jump = goes_on_keeps f (next_by (count + 1) f) frame acts acts refl refl refl jump (omega arith)
 

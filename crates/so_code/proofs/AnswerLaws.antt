@@ -21,9 +21,9 @@ use Rattle.so_code.specs.declared.frame.Todo.{Todo}
 use Rattle.so_code.specs.declared.frame.Todo.TheVariants as todo
 use Rattle.so_code.specs.Machine.{landed, with_todo}
 use Rattle.so_code.specs.Places.{IsReceiveAt}
-use Rattle.so_code.specs.Running.{IsFrame, IsBack, Stands, IsReady, IsAwake, LeadsTo, IsTransfer, Waits}
-use Rattle.so_code.specs.Answers.{Fits, FitsChoose, FitsTake, IsAnswerTo, acted, acted_with, said, armed, put_done, sent, switched, has_transferred, chose, chosen_by, subscribed, registered, took, answered_to, answered_in, answered}
-use Rattle.so_code.specs.Openings.{fresh, opened, first_frame}
+use Rattle.so_code.specs.Running.{IsFrame, IsBack, GoesOnAt, IsReady, IsAwake, LeadsTo, IsTransfer, Waits}
+use Rattle.so_code.specs.Answers.{Fits, FitsChoose, FitsTake, IsAnswerTo, acted, acted_with, said, armed, put_done, after_send, after_switch, has_transferred, chose, chosen_by, after_subscribe, after_register, took, answered_to, answered_in, answered}
+use Rattle.so_code.specs.Openings.{new_frame, opened, first_frame}
 use Rattle.so_code.proofs.Found.{stands_free}
 
 -- what no answer looks at
@@ -34,39 +34,39 @@ record Rest (code : List Instr) (f : Frame) : Type 0 where
 
 module _ (code : List Instr) where
   module _ (f : Frame) (frame : Rest code f) where
-    acted_frame : (n : ℕ) → Stands code f.receive (f.place + 1) → IsFrame code (acted_with n f)
+    acted_frame : (n : ℕ) → GoesOnAt code f.receive (f.place + 1) → IsFrame code (acted_with n f)
     acted_frame n stands = record { ready = stands; back = frame.back; exits = frame.exits; enters = frame.enters }
 
-    plain_frame : Stands code f.receive (f.place + 1) → IsFrame code (acted f)
+    plain_frame : GoesOnAt code f.receive (f.place + 1) → IsFrame code (acted f)
     plain_frame stands = record { ready = stands; back = frame.back; exits = frame.exits; enters = frame.enters }
 
     todo_frame : (t : Todo) → IsReady t code (with_todo t f) → IsFrame code (with_todo t f)
     todo_frame t ready = record { ready = ready; back = frame.back; exits = frame.exits; enters = frame.enters }
 
-    said_frame : (a : Answer) → Stands code f.receive (f.place + 1) → IsFrame code (said a f)
+    said_frame : (a : Answer) → GoesOnAt code f.receive (f.place + 1) → IsFrame code (said a f)
     said_frame answer.Yes stands = acted_frame 1 stands
     said_frame other stands = acted_frame 0 stands
 
-    armed_frame : (a : Answer) → Stands code f.receive (f.place + 1) → IsFrame code (armed a f)
+    armed_frame : (a : Answer) → GoesOnAt code f.receive (f.place + 1) → IsFrame code (armed a f)
     armed_frame (answer.Armed timer) stands = acted_frame 1 stands
     armed_frame other stands = acted_frame 0 stands
 
-    put_frame : (p : Put) → Stands code f.receive (f.place + 1) → IsFrame code (put_done p f)
+    put_frame : (p : Put) → GoesOnAt code f.receive (f.place + 1) → IsFrame code (put_done p f)
     put_frame put.Throw stands = record { ready = tt; back = frame.back; exits = frame.exits; enters = frame.enters }
     put_frame put.Stored stands = acted_frame 1 stands
     put_frame put.RemovedOld stands = acted_frame 1 stands
     put_frame other stands = acted_frame 0 stands
 
-    sent_frame : (a : Answer) → Stands code f.receive (f.place + 1) → IsFrame code (sent a f)
+    sent_frame : (a : Answer) → GoesOnAt code f.receive (f.place + 1) → IsFrame code (after_send a f)
     sent_frame (answer.Sent s) stands = acted_frame s.queued stands
     sent_frame (answer.Put p) stands = put_frame p stands
     sent_frame other stands = plain_frame stands
 
-    subscribed_frame : (a : Answer) → Stands code f.receive (f.place + 1) → IsFrame code (subscribed a f)
+    subscribed_frame : (a : Answer) → GoesOnAt code f.receive (f.place + 1) → IsFrame code (after_subscribe a f)
     subscribed_frame answer.Yes stands = acted_frame 1 stands
     subscribed_frame other stands = record { ready = tt; back = frame.back; exits = frame.exits; enters = frame.enters }
 
-    registered_frame : (a : Answer) → Stands code f.receive (f.place + 1) → IsFrame code (registered a f)
+    registered_frame : (a : Answer) → GoesOnAt code f.receive (f.place + 1) → IsFrame code (after_register a f)
     registered_frame (answer.Refused cause) stands = acted_frame _ stands
     registered_frame other stands = acted_frame 0 stands
 
@@ -79,7 +79,7 @@ module _ (code : List Instr) where
     landed_frame None opening.Thread back opens = todo_frame todo.Over tt
     landed_frame None (opening.Time to) back opens = todo_frame todo.Over tt
 
-    switched_frame : (a : Answer) → Fits (effect.Switch (record { 0 = 0 })) a → IsFrame code (switched a f)
+    switched_frame : (a : Answer) → Fits (effect.Switch (record { 0 = 0 })) a → IsFrame code (after_switch a f)
     switched_frame (answer.Planned plan) fits = record { ready = tt; back = frame.back; exits = fits.exits; enters = fits.enters }
     switched_frame other fits = landed_frame f.back f.opening frame.back refl
 
@@ -141,7 +141,7 @@ module _ (code : List Instr) where
 
   -- a turn begins with them, in any code
   pub begun_frame : (o : Opening) (vars : Vars) (msg : Payload) → IsFrame code (first_frame o vars msg)
-  begun_frame o vars msg = opened_frame (fresh o vars msg) (record { back = tt; exits = omega arith; enters = omega arith }) o refl
+  begun_frame o vars msg = opened_frame (new_frame o vars msg) (record { back = tt; exits = omega arith; enters = omega arith }) o refl
 
 -- ---- a frame that has begun, or has its answer, waits for none
 
@@ -158,7 +158,7 @@ opened_awake (opening.Event c) f = chose_awake c f
 opened_awake other f = tt
 
 pub begun_awake : (o : Opening) (vars : Vars) (msg : Payload) → IsAwake (first_frame o vars msg).todo
-begun_awake o vars msg = opened_awake o (fresh o vars msg)
+begun_awake o vars msg = opened_awake o (new_frame o vars msg)
 
 landed_awake : (b : Option ℕ) (o : Opening) (f : Frame) → IsAwake (landed b o f).todo
 landed_awake (Some place) o f = tt
@@ -172,7 +172,7 @@ put_awake put.Stored f = tt
 put_awake put.RemovedOld f = tt
 put_awake other f = tt
 
-sent_awake : (a : Answer) (f : Frame) → IsAwake (sent a f).todo
+sent_awake : (a : Answer) (f : Frame) → IsAwake (after_send a f).todo
 sent_awake (answer.Put p) f = put_awake p f
 sent_awake (answer.Sent s) f = tt
 sent_awake other f = tt
@@ -185,15 +185,15 @@ said_awake : (a : Answer) (f : Frame) → IsAwake (said a f).todo
 said_awake answer.Yes f = tt
 said_awake other f = tt
 
-subscribed_awake : (a : Answer) (f : Frame) → IsAwake (subscribed a f).todo
+subscribed_awake : (a : Answer) (f : Frame) → IsAwake (after_subscribe a f).todo
 subscribed_awake answer.Yes f = tt
 subscribed_awake other f = tt
 
-registered_awake : (a : Answer) (f : Frame) → IsAwake (registered a f).todo
+registered_awake : (a : Answer) (f : Frame) → IsAwake (after_register a f).todo
 registered_awake (answer.Refused cause) f = tt
 registered_awake other f = tt
 
-switched_awake : (a : Answer) (f : Frame) → IsAwake (switched a f).todo
+switched_awake : (a : Answer) (f : Frame) → IsAwake (after_switch a f).todo
 switched_awake (answer.Planned plan) f = tt
 switched_awake other f = landed_awake f.back f.opening f
 

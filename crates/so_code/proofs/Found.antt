@@ -9,7 +9,7 @@ use Rattle.so_code.specs.declared.instr.Instr.TheVariants as instr
 use Rattle.so_code.specs.Bodies.{is_end, ends_body, body_from, body_at}
 use Rattle.so_code.specs.Receives.{is_receive, is_case, is_case_of, is_back, handlers_length, past, handler_from, handler_at}
 use Rattle.so_code.specs.Places.{HasPlaces, IsAt, IsReceiveAt, is_plain}
-use Rattle.so_code.specs.Running.{Stands, IsFree}
+use Rattle.so_code.specs.Running.{GoesOnAt, IsFree}
 
 -- ---- the beginning of a body
 
@@ -123,7 +123,7 @@ handler_from-within case msg (i ∷ code) false place h found =
     by_case case msg i code place h (is_case_of case msg i) (is_case i) refl refl (λ further. handler_from-within case msg code true (place + 1) h further) found
 
 -- a place in the handlers of a receive, or right after them
-pub stands_in : (code : List Instr) (receive h : ℕ) → HasPlaces code → IsReceiveAt code receive → receive < h → h ≤ past code receive → Stands code receive h
+pub stands_in : (code : List Instr) (receive h : ℕ) → HasPlaces code → IsReceiveAt code receive → receive < h → h ≤ past code receive → GoesOnAt code receive h
 stands_in code receive h places here after before = record {
   inside = omega (arith, places.receives receive here);
   own = λ other r around.
@@ -144,16 +144,16 @@ stands_in code receive h places here after before = record {
       (cases_order receive other);
 }
 
-pub stands_past : (code : List Instr) (receive : ℕ) → HasPlaces code → IsReceiveAt code receive → Stands code receive (past code receive)
+pub stands_past : (code : List Instr) (receive : ℕ) → HasPlaces code → IsReceiveAt code receive → GoesOnAt code receive (past code receive)
 stands_past code receive places here = stands_in code receive (past code receive) places here (omega arith) (omega arith)
 
 pub handler_at-after : (code : List Instr) (receive case : ℕ) (msg : MsgId) (h : ℕ) → handler_at code receive case msg ≡ Some h → receive < h
 handler_at-after code receive case msg h found = let within = handler_from-within case msg (drop (receive + 1) code) false (receive + 1) h found in omega (arith, within.0)
 
-pub stands_handler : (code : List Instr) (receive case : ℕ) (msg : MsgId) (h : ℕ) → HasPlaces code → IsReceiveAt code receive → handler_at code receive case msg ≡ Some h → Stands code receive h
+pub stands_handler : (code : List Instr) (receive case : ℕ) (msg : MsgId) (h : ℕ) → HasPlaces code → IsReceiveAt code receive → handler_at code receive case msg ≡ Some h → GoesOnAt code receive h
 stands_handler code receive case msg h places here found =
     let within = handler_from-within case msg (drop (receive + 1) code) false (receive + 1) h found in
     stands_in code receive h places here (omega (arith, within.0)) (omega (arith, within.1))
 
-pub stands_free : (code : List Instr) (receive place : ℕ) → IsFree code place → Stands code receive place
+pub stands_free : (code : List Instr) (receive place : ℕ) → IsFree code place → GoesOnAt code receive place
 stands_free code receive place free = record { inside = free.inside; own = λ other r around. absurd (free.outside other r around) }

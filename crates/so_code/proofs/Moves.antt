@@ -24,7 +24,7 @@ use Rattle.so_code.specs.Shape.{IsCode}
 use Rattle.so_code.specs.Places.{IsAt}
 use Rattle.so_code.specs.Machine.{landed, step, steps, first_move, after}
 use Rattle.so_code.specs.Running.{IsFrame, IsRunning}
-use Rattle.so_code.specs.Answers.{Fits, IsAnswerTo, said, armed, put_done, sent, switched, has_transferred, chose, chosen_by, subscribed, registered, took, answered_to, answered_in, answered}
+use Rattle.so_code.specs.Answers.{Fits, IsAnswerTo, said, armed, put_done, after_send, after_switch, has_transferred, chose, chosen_by, after_subscribe, after_register, took, answered_to, answered_in, answered}
 use Rattle.so_code.specs.Openings.{OpensEvent, Opens, FitsOpening}
 use Rattle.so_code.specs.Origins.{Origin}
 use Rattle.so_code.specs.Own.{is_own, RunsActs, IsOwnAct}
@@ -123,16 +123,16 @@ module _ (f : Frame) where
   put_opening put_is.RemovedOld = refl
   put_opening other = refl
 
-  sent_opening : (a : Answer) → (sent a f).opening ≡ f.opening
+  sent_opening : (a : Answer) → (after_send a f).opening ≡ f.opening
   sent_opening (answer.Put p) = put_opening p
   sent_opening (answer.Sent s) = refl
   sent_opening other = refl
 
-  subscribed_opening : (a : Answer) → (subscribed a f).opening ≡ f.opening
+  subscribed_opening : (a : Answer) → (after_subscribe a f).opening ≡ f.opening
   subscribed_opening answer.Yes = refl
   subscribed_opening other = refl
 
-  registered_opening : (a : Answer) → (registered a f).opening ≡ f.opening
+  registered_opening : (a : Answer) → (after_register a f).opening ≡ f.opening
   registered_opening (answer.Refused cause) = refl
   registered_opening other = refl
 
@@ -142,7 +142,7 @@ module _ (f : Frame) where
   landed_opening None (opening.Event other) = refl
   landed_opening None other = refl
 
-  switched_opening : (a : Answer) → (switched a f).opening ≡ f.opening
+  switched_opening : (a : Answer) → (after_switch a f).opening ≡ f.opening
   switched_opening (answer.Planned plan) = refl
   switched_opening other = landed_opening f.back f.opening
 
@@ -209,16 +209,16 @@ module _ (f : Frame) where
   put_plan put_is.RemovedOld = refl
   put_plan other = refl
 
-  sent_plan : (a : Answer) → (sent a f).plan ≡ f.plan
+  sent_plan : (a : Answer) → (after_send a f).plan ≡ f.plan
   sent_plan (answer.Put p) = put_plan p
   sent_plan (answer.Sent s) = refl
   sent_plan other = refl
 
-  subscribed_plan : (a : Answer) → (subscribed a f).plan ≡ f.plan
+  subscribed_plan : (a : Answer) → (after_subscribe a f).plan ≡ f.plan
   subscribed_plan answer.Yes = refl
   subscribed_plan other = refl
 
-  registered_plan : (a : Answer) → (registered a f).plan ≡ f.plan
+  registered_plan : (a : Answer) → (after_register a f).plan ≡ f.plan
   registered_plan (answer.Refused cause) = refl
   registered_plan other = refl
 
@@ -233,7 +233,7 @@ module _ (f : Frame) where
   took_plan (answer.Ended why) = refl
   took_plan other = refl
 
-switched_plan : (a : Answer) (f : Frame) → PlanAfter a f (switched a f)
+switched_plan : (a : Answer) (f : Frame) → PlanAfter a f (after_switch a f)
 switched_plan (answer.Planned plan) f = plans plan refl refl
 switched_plan other f = same (landed_plan f f.back f.opening)
 

@@ -29,7 +29,7 @@ use Rattle.so_code.specs.Values.{in_range, value, put}
 use Rattle.so_code.specs.Bodies.{body_at}
 use Rattle.so_code.specs.Receives.{is_receive}
 use Rattle.so_code.specs.Machine.{Step, goes_on, next_by, put_if, plan_left, with_todo, ran_one, is_done, body_ended, act, act_at, open_step, step_of, step, go_on, first_move, steps, after}
-use Rattle.so_code.specs.Answers.{acted_with, said, armed, put_done, sent, subscribed, registered, answered_to, answered_in, answered}
+use Rattle.so_code.specs.Answers.{acted_with, said, armed, put_done, after_send, after_subscribe, after_register, answered_to, answered_in, answered}
 use Rattle.so_code.specs.Openings.{first_frame}
 use Rattle.so_code.specs.Places.{HasPlaces, IsAt}
 use Rattle.so_code.specs.Running.{IsFrame}
@@ -142,16 +142,16 @@ put_done_runs put_is.Stored f none = acted_runs 1 f none
 put_done_runs put_is.RemovedOld f none = acted_runs 1 f none
 put_done_runs other f none = acted_runs 0 f none
 
-sent_runs : (a : Answer) (f : Frame) → plan_left f ≡ 0 → RunsActs (sent a f)
+sent_runs : (a : Answer) (f : Frame) → plan_left f ≡ 0 → RunsActs (after_send a f)
 sent_runs (answer.Sent s) f none = acted_runs s.queued f none
 sent_runs (answer.Put p) f none = put_done_runs p f none
 sent_runs other f none = record { todo = refl; no_plan = none }
 
-subscribed_runs : (a : Answer) (f : Frame) → plan_left f ≡ 0 → RunsActs (subscribed a f)
+subscribed_runs : (a : Answer) (f : Frame) → plan_left f ≡ 0 → RunsActs (after_subscribe a f)
 subscribed_runs answer.Yes f none = acted_runs 1 f none
 subscribed_runs other f none = record { todo = refl; no_plan = none }
 
-registered_runs : (a : Answer) (f : Frame) → plan_left f ≡ 0 → RunsActs (registered a f)
+registered_runs : (a : Answer) (f : Frame) → plan_left f ≡ 0 → RunsActs (after_register a f)
 registered_runs (answer.Refused cause) f none = acted_runs _ f none
 registered_runs other f none = acted_runs 0 f none
 

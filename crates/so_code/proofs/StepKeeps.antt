@@ -18,13 +18,13 @@ use Rattle.so_code.specs.Bodies.{body_at}
 use Rattle.so_code.specs.Receives.{past, handler_at}
 use Rattle.so_code.specs.Machine.{goes_on, with_todo, act_at, open_step, enter_body, landed, leave, handle_step, step_of, step, plan_left, ran_one, does, state_in, steps}
 use Rattle.so_code.specs.Places.{HasPlaces, IsReceiveAt}
-use Rattle.so_code.specs.Running.{IsFrame, IsReady, IsBack, IsTransfer, Stands}
+use Rattle.so_code.specs.Running.{IsFrame, IsReady, IsBack, IsTransfer, GoesOnAt}
 use Rattle.so_code.proofs.Budget.{budget, budget_of, base}
 use Rattle.so_code.proofs.Found.{Begins, body_at-begins, Begins-free, stands_free, stands_past, stands_handler, handler_at-after}
 use Rattle.so_code.proofs.ActKeeps.{Kept, does_keeps, done_keeps, fails_keeps, act_keeps, base_falls}
 
 module _ (code : List Instr) (places : HasPlaces code) where
-  act_at_keeps : (f : Frame) (o : Option Instr) → IsFrame code f → f.todo ≡ todo.Act → Stands code f.receive f.place → slice_get code f.place ≡ o → Kept code (budget code f) (act_at o f)
+  act_at_keeps : (f : Frame) (o : Option Instr) → IsFrame code f → f.todo ≡ todo.Act → GoesOnAt code f.receive f.place → slice_get code f.place ≡ o → Kept code (budget code f) (act_at o f)
   act_at_keeps f None frame acts stands e = done_keeps code places f (budget code f) frame
   act_at_keeps f (Some i) frame acts stands e = act_keeps code places f frame acts stands i (record { here = e })
 
@@ -97,7 +97,7 @@ module _ (code : List Instr) (places : HasPlaces code) where
   }
   handle_keeps f case msg (Some place) frame todo_is here e =
       let after : f.receive < place = handler_at-after code f.receive case msg place e in
-      let stands : Stands code f.receive place = stands_handler code f.receive case msg place places here e in
+      let stands : GoesOnAt code f.receive place = stands_handler code f.receive case msg place places here e in
       record {
         frame = record { ready = stands; back = frame.back; exits = frame.exits; enters = frame.enters };
         falls = λ m. let lower : budget code (handle_step (Some place) f).1 < budget_of (todo.Handle case msg) code f = omega (arith, stands.inside) in rw todo_is lower;

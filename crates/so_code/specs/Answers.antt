@@ -33,7 +33,7 @@ FitsPut put.WaitRoom = ⊥
 FitsPut other = Unit {0}
 
 abbrev pub FitsSend : Target → Answer → Type 0
-FitsSend (Mbox mbox) (answer.Sent sent) = Unit {0}
+FitsSend (Mbox mbox) (answer.Sent after_send) = Unit {0}
 FitsSend (Chain chain) (answer.Put p) = FitsPut p
 FitsSend target other = ⊥
 
@@ -144,15 +144,15 @@ put_done put.Throw f = with_todo (todo.Raise ChainThrow) f
 put_done other f = acted_with 0 f
 
 -- the number of a delivery's answer is how many it queued
-abbrev pub sent : Answer → Frame → Frame
-sent (answer.Sent s) f = acted_with s.queued f
-sent (answer.Put p) f = put_done p f
-sent other f = acted f
+abbrev pub after_send : Answer → Frame → Frame
+after_send (answer.Sent s) f = acted_with s.queued f
+after_send (answer.Put p) f = put_done p f
+after_send other f = acted f
 
 -- a plan is run from its first exit on
-abbrev pub switched : Answer → Frame → Frame
-switched (answer.Planned plan) f = record f { plan = plan; ran = 0; todo = todo.Plan }
-switched other f = landed f.back f.opening f
+abbrev pub after_switch : Answer → Frame → Frame
+after_switch (answer.Planned plan) f = record f { plan = plan; ran = 0; todo = todo.Plan }
+after_switch other f = landed f.back f.opening f
 
 -- the state has transferred this event already
 abbrev pub has_transferred : Frame → StateId → Bool
@@ -172,9 +172,9 @@ abbrev pub chosen_by : Answer → Frame → Frame
 chosen_by (answer.Chose c) f = chose c (record f { opening = opening.Event c })
 chosen_by other f = f
 
-abbrev pub subscribed : Answer → Frame → Frame
-subscribed answer.Yes f = acted_with 1 f
-subscribed other f = with_todo (todo.Raise AlreadySubscribed) f
+abbrev pub after_subscribe : Answer → Frame → Frame
+after_subscribe answer.Yes f = acted_with 1 f
+after_subscribe other f = with_todo (todo.Raise AlreadySubscribed) f
 
 abbrev pub refusal_number : Refusal → ℕ
 refusal_number refusal.Empty = 1
@@ -183,9 +183,9 @@ refusal_number refusal.Present = 3
 refusal_number (refusal.Binding agent) = 4
 refusal_number (refusal.Definition agent fault) = 5
 
-abbrev pub registered : Answer → Frame → Frame
-registered (answer.Refused cause) f = acted_with (refusal_number cause) f
-registered other f = acted_with 0 f
+abbrev pub after_register : Answer → Frame → Frame
+after_register (answer.Refused cause) f = acted_with (refusal_number cause) f
+after_register other f = acted_with 0 f
 
 abbrev pub reason_number : EndReason → ℕ
 reason_number reason.HandleN = 1
@@ -202,18 +202,18 @@ took other f = f
 
 abbrev pub answered_to : Effect → Answer → Frame → Frame
 answered_to (effect.Log text payload) a f = acted f
-answered_to (effect.Send target msg payload) a f = sent a f
+answered_to (effect.Send target msg payload) a f = after_send a f
 answered_to (effect.Delayed target msg payload ms) a f = armed a f
 answered_to (effect.Timer slot target msg payload ms period) a f = armed a f
 answered_to (effect.Cancel slot) a f = said a f
-answered_to (effect.Switch to) a f = switched a f
+answered_to (effect.Switch to) a f = after_switch a f
 answered_to (effect.SetState leaf) a f = with_todo todo.Plan (ran_one f)
 answered_to effect.Choose a f = chosen_by a f
-answered_to (effect.Subscribe row) a f = subscribed a f
+answered_to (effect.Subscribe row) a f = after_subscribe a f
 answered_to (effect.Unsubscribe row) a f = said a f
 answered_to (effect.SetFilter filter) a f = said a f
 answered_to (effect.DropFilter filter) a f = said a f
-answered_to (effect.Register coop) a f = registered a f
+answered_to (effect.Register coop) a f = after_register a f
 answered_to (effect.Deregister coop) a f = said a f
 answered_to effect.Stop a f = acted f
 answered_to (effect.Close chain keep) a f = acted f

@@ -55,8 +55,8 @@ abbrev pub no_plan : Plan
 no_plan = record { leaf = default_state; exits = replicate 16 default_state; n_exits = 0; enters = replicate 16 default_state; n_enters = 0 }
 
 -- a frame with nothing behind it: the temporaries and the last answer are 0, and no part of a plan is left
-abbrev pub fresh : Opening → Vars → Payload → Frame
-fresh o vars msg = record { todo = todo.Over; place = 0; opening = o; plan = no_plan; ran = 1; back = None; transferred = 0; receive = 0; handles_left = 0; extracts_left = 0; vars = vars; msg = msg; aside = msg; temps = replicate 4 (pos 0); ans = pos 0 }
+abbrev pub new_frame : Opening → Vars → Payload → Frame
+new_frame o vars msg = record { todo = todo.Over; place = 0; opening = o; plan = no_plan; ran = 1; back = None; transferred = 0; receive = 0; handles_left = 0; extracts_left = 0; vars = vars; msg = msg; aside = msg; temps = replicate 4 (pos 0); ans = pos 0 }
 
 -- what the opening has it do first
 abbrev pub opened : Opening → Frame → Frame
@@ -68,4 +68,4 @@ opened (opening.Event c) f = chose c f
 
 -- the frame of a turn that begins, with its owner's variables and its message
 abbrev pub first_frame : Opening → Vars → Payload → Frame
-first_frame o vars msg = opened o (fresh o vars msg)
+first_frame o vars msg = opened o (new_frame o vars msg)

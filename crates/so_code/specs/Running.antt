@@ -15,7 +15,7 @@ use Rattle.so_code.specs.Places.{IsReceiveAt, IsIn}
 use Rattle.so_code.specs.Machine.{plan_left}
 
 -- a place to run on from: in the code, and in the handlers of no other receive than this one
-pub record Stands (code : List Instr) (receive place : ℕ) : Type 0 where
+pub record GoesOnAt (code : List Instr) (receive place : ℕ) : Type 0 where
   pub inside : place < length code
   pub own : (other : ℕ) → IsReceiveAt code other → IsIn code other place → receive ≡ other
 
@@ -42,11 +42,11 @@ Waits (effect.SetState leaf) code f = 0 < plan_left f
 Waits effect.Choose code f = IsTransfer f.opening
 Waits (effect.Receive place) code f = IsReceiveAt code f.receive
 Waits (effect.Take place) code f = IsReceiveAt code f.receive
-Waits other code f = Stands code f.receive (f.place + 1)
+Waits other code f = GoesOnAt code f.receive (f.place + 1)
 
 -- what is kept for what the turn does next
 abbrev pub IsReady : Todo → List Instr → Frame → Type 0
-IsReady todo.Act code f = Stands code f.receive f.place
+IsReady todo.Act code f = GoesOnAt code f.receive f.place
 IsReady (todo.Switch to) code f = LeadsTo f.opening to
 IsReady todo.Choose code f = IsTransfer f.opening
 IsReady todo.Take code f = IsReceiveAt code f.receive

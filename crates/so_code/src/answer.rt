@@ -4,7 +4,7 @@ ghost use Rattle.std.specs.Prelude.{◌≡◌, ◌+◌, ◌-◌, ◌<◌, ◌≤
 ghost use Rattle.so_code.specs.declared.instr.Instr.{Instr as AnyInstr};
 ghost use Rattle.so_code.specs.Running.{IsFrame, IsAwake, IsRunning};
 ghost use Rattle.so_code.specs.Machine.{plan_left, ran_one, with_todo};
-ghost use Rattle.so_code.specs.Answers.{FitsChosen, FitsChoose, Fits, HasRoom, IsAnswerTo, acted, acted_with, said, armed, put_done, sent, switched, has_transferred, chose, chosen_by, subscribed, refusal_number, registered, reason_number, took, answered_to, answered};
+ghost use Rattle.so_code.specs.Answers.{FitsChosen, FitsChoose, Fits, HasRoom, IsAnswerTo, acted, acted_with, said, armed, put_done, after_send, after_switch, has_transferred, chose, chosen_by, after_subscribe, refusal_number, after_register, reason_number, took, answered_to, answered};
 
 use crate::effect::{Answer, Effect, FailKind};
 use crate::frame::{Frame, Todo};
@@ -86,9 +86,9 @@ impl Frame {
         }
     }
 
-    fn sent(&mut self, answer: Answer)
+    fn after_send(&mut self, answer: Answer)
         requires { self.old.place + 1 < 2 ^ 32 }
-        ensures { self.new ≡ sent answer self.old }
+        ensures { self.new ≡ after_send answer self.old }
     {
         match answer {
             Answer::Sent(sent) => self.acted_with(sent.queued),
@@ -97,8 +97,8 @@ impl Frame {
         }
     }
 
-    fn switched(&mut self, answer: Answer)
-        ensures { self.new ≡ switched answer self.old }
+    fn after_switch(&mut self, answer: Answer)
+        ensures { self.new ≡ after_switch answer self.old }
     {
         match answer {
             Answer::Planned(plan) => {
@@ -147,9 +147,9 @@ impl Frame {
         }
     }
 
-    fn subscribed(&mut self, answer: Answer)
+    fn after_subscribe(&mut self, answer: Answer)
         requires { self.old.place + 1 < 2 ^ 32 }
-        ensures { self.new ≡ subscribed answer self.old }
+        ensures { self.new ≡ after_subscribe answer self.old }
     {
         match answer {
             Answer::Yes => self.acted_with(1),
@@ -157,9 +157,9 @@ impl Frame {
         }
     }
 
-    fn registered(&mut self, answer: Answer)
+    fn after_register(&mut self, answer: Answer)
         requires { self.old.place + 1 < 2 ^ 32 }
-        ensures { self.new ≡ registered answer self.old }
+        ensures { self.new ≡ after_register answer self.old }
     {
         match answer {
             Answer::Refused(cause) => self.acted_with(refusal_number(cause) as u32),
@@ -188,21 +188,21 @@ impl Frame {
     {
         match effect {
             Effect::Log { .. } | Effect::Stop | Effect::Close { .. } => self.acted(),
-            Effect::Send { .. } => self.sent(answer),
+            Effect::Send { .. } => self.after_send(answer),
             Effect::Delayed { .. } | Effect::Timer { .. } => self.armed(answer),
             Effect::Cancel { .. }
             | Effect::Unsubscribe { .. }
             | Effect::SetFilter { .. }
             | Effect::DropFilter { .. }
             | Effect::Deregister { .. } => self.said(answer),
-            Effect::Switch { .. } => self.switched(answer),
+            Effect::Switch { .. } => self.after_switch(answer),
             Effect::SetState { .. } => {
                 self.ran += 1;
                 self.todo = Todo::Plan;
             }
             Effect::Choose => self.chosen_by(answer),
-            Effect::Subscribe { .. } => self.subscribed(answer),
-            Effect::Register { .. } => self.registered(answer),
+            Effect::Subscribe { .. } => self.after_subscribe(answer),
+            Effect::Register { .. } => self.after_register(answer),
             Effect::Receive { .. } => self.todo = Todo::Take,
             Effect::Take { .. } => self.took(answer),
         }

@@ -3,7 +3,7 @@
 ghost use Rattle.std.specs.Prelude.{◌≡◌, List};
 ghost use Rattle.so_code.specs.declared.instr.Instr.{Instr as AnyInstr};
 ghost use Rattle.so_code.specs.Running.{IsFrame, IsAwake};
-ghost use Rattle.so_code.specs.Openings.{FitsOpening, fresh, opened, first_frame};
+ghost use Rattle.so_code.specs.Openings.{FitsOpening, new_frame, opened, first_frame};
 
 use crate::frame::{Frame, Todo};
 use crate::instr::Body;
@@ -17,7 +17,7 @@ impl Frame {
         ensures frame { (code : List AnyInstr) → IsFrame code result }
         ensures awake { IsAwake result.todo }
     {
-        let mut frame = fresh(opening, vars, msg);
+        let mut frame = new_frame(opening, vars, msg);
         frame.opened(opening);
         frame
     }
@@ -37,8 +37,8 @@ impl Frame {
 }
 
 /// A frame with nothing behind it.
-fn fresh(opening: Opening, vars: Vars, msg: Payload) -> Frame
-    ensures { result ≡ fresh opening vars msg }
+fn new_frame(opening: Opening, vars: Vars, msg: Payload) -> Frame
+    ensures { result ≡ new_frame opening vars msg }
 {
     let plan = Plan {
         leaf: StateId(0),

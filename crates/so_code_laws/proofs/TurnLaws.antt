@@ -26,7 +26,7 @@ use Rattle.so_code.specs.declared.frame.Todo.{Todo}
 use Rattle.so_code.specs.declared.frame.Todo.TheVariants as todo
 use Rattle.so_code.specs.Values.{in_range, holds, value, put, payload}
 use Rattle.so_code.specs.Machine.{Step, goes_on, next_by, put_if, with_todo, fails, is_done, act, act_at, body_ended, step_of, step, go_on, first_move, after}
-use Rattle.so_code.specs.Answers.{said, armed, put_done, sent, subscribed, registered, answered}
+use Rattle.so_code.specs.Answers.{said, armed, put_done, after_send, after_subscribe, after_register, answered}
 use Rattle.so_code.specs.Shape.{IsCode}
 use Rattle.so_code.specs.Running.{IsFrame}
 use Rattle.so_code_laws.specs.Turns.{with_effect, effects_by, is_straight, ends_turn, is_acting, and_further, effects_in, is_log, and_line, lines_of, at_place, IsIf, GoesOnWith}
@@ -54,16 +54,16 @@ module _ (f : Frame) where
   put_led put_is.RemovedOld = goes_further refl refl
   put_led other = goes_further refl refl
 
-  sent_led : (a : Answer) → Led (f.place + 1) (sent a f)
+  sent_led : (a : Answer) → Led (f.place + 1) (after_send a f)
   sent_led (answer.Sent s) = goes_further refl refl
   sent_led (answer.Put p) = put_led p
   sent_led other = goes_further refl refl
 
-  subscribed_led : (a : Answer) → Led (f.place + 1) (subscribed a f)
+  subscribed_led : (a : Answer) → Led (f.place + 1) (after_subscribe a f)
   subscribed_led answer.Yes = goes_further refl refl
   subscribed_led other = raises _ refl
 
-  registered_led : (a : Answer) → Led (f.place + 1) (registered a f)
+  registered_led : (a : Answer) → Led (f.place + 1) (after_register a f)
   registered_led (answer.Refused cause) = goes_further refl refl
   registered_led other = goes_further refl refl
 

@@ -45,7 +45,7 @@ abbrev pub AreJudged : SceneParts → List (Option DefFault) → Type 0
 AreJudged s faults = faults ≡ each_below (fault_of s) (length s.agents)
 
 -- all of it
-pub record IsKept (t : CoopTable) (n : Counts) (children : List ℕ) (faults : List (Option DefFault)) : Type 0 where
+pub record AreTallied (t : CoopTable) (n : Counts) (children : List ℕ) (faults : List (Option DefFault)) : Type 0 where
   pub coops : length t.coops ≡ length t.scene.coops
   pub counts : AreCounted t.coops n
   pub have_children : HaveChildren t children

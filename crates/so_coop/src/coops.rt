@@ -85,13 +85,13 @@ pub struct Coops<'a> {
 
 impl<'a> Model for Coops<'a> {
     ghost use Rattle.so_coop.specs.Coops.{CoopTable};
-    ghost use Rattle.so_coop.specs.Counts.{IsKept};
+    ghost use Rattle.so_coop.specs.Counts.{AreTallied};
 
     ghost Value = { CoopTable };
 
     ghost view = { λ t. record { scene = t.scene.now; coops = t.coops.items } };
 
-    ghost invariant = { λ t. IsKept (record { scene = t.scene.now; coops = t.coops.items }) t.counts t.children.items t.faults.items };
+    ghost invariant = { λ t. AreTallied (record { scene = t.scene.now; coops = t.coops.items }) t.counts t.children.items t.faults.items };
 }
 
 impl<'a> Coops<'a> {

@@ -3,10 +3,10 @@ use Rattle.std.proofs.Common.{◌≡◌, ℕ, List, Bool, Option, sym, ◌∙◌
 use Rattle.so_scene.specs.declared.parts.SceneParts.{SceneParts}
 use Rattle.so_scene.specs.Checked.{IsScene}
 use Rattle.so_history.specs.declared.entry.Entry.{Entry}
-use Rattle.so_history.specs.declared.lines.Mode.{Mode}
+use Rattle.so_text.specs.declared.lines.Mode.{Mode}
 use Rattle.so_history.specs.Steps.{Legal}
 use Rattle.so_history.specs.Chain.{IsChain}
-use Rattle.so_history.specs.Text.{text}
+use Rattle.so_text.specs.Text.{text}
 use Rattle.so_history_laws.proofs.ChainLaws.{stops_at}
 use Rattle.so_facts.proofs.AllLaws.{has_all_facts}
 use Rattle.so_printer.specs.Printing.{IsPrinted}

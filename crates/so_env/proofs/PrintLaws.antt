@@ -7,8 +7,8 @@ use Rattle.so_io.proofs.Pieces.{Appends-none}
 use Rattle.so_io.proofs.Rising.{Rose-within}
 use Rattle.so_scene.specs.declared.parts.SceneParts.{SceneParts}
 use Rattle.so_history.specs.declared.entry.Entry.{Entry}
-use Rattle.so_history.specs.declared.lines.Mode.{Mode}
-use Rattle.so_history.specs.Text.{text, line_at, line_after}
+use Rattle.so_text.specs.declared.lines.Mode.{Mode}
+use Rattle.so_text.specs.Text.{text, line_at, line_after}
 use Rattle.so_printer.specs.Printing.{PrinterView, IsGoing, IsCut, IsPrinting, IsPrinted, RisesAnew}
 use Rattle.so_env.specs.Prints.{Printed, HasRisen}
 

@@ -7,7 +7,7 @@ use Rattle.so_scene.specs.Lanes.{lanes}
 use Rattle.so_history.specs.declared.entry.Entry.{Entry}
 use Rattle.so_history.specs.Turns.{running_at, lane_number}
 use Rattle.so_history.specs.Chain.{first, next_entry, FollowsFirst, IsChain}
-use Rattle.so_history.proofs.TurnLaws.{none_first}
+use Rattle.so_legal.proofs.TurnLaws.{none_first}
 use Rattle.so_ledger.specs.Shapes.{Core}
 use Rattle.so_ledger.specs.Gates.{gated, core_after}
 use Rattle.so_kernel.specs.Answers.{step_answers, entries}

@@ -5,12 +5,12 @@ use Rattle.so_io.specs.Count.{Rose}
 use Rattle.so_io.specs.Sink.{AppendsPart}
 use Rattle.so_scene.specs.declared.parts.SceneParts.{SceneParts}
 use Rattle.so_history.specs.declared.entry.Entry.{Entry}
-use Rattle.so_history.specs.declared.lines.Mode.{Mode}
+use Rattle.so_text.specs.declared.lines.Mode.{Mode}
 use Rattle.so_history.specs.Coops.{aborted}
 use Rattle.so_history.specs.Steps.{finished, is_over, Legal}
 use Rattle.so_history.specs.Chain.{IsChain, StopsAtLimit}
 use Rattle.so_printer.specs.Printing.{IsPrinted}
-use Rattle.so_history.specs.Text.{text}
+use Rattle.so_text.specs.Text.{text}
 use Rattle.so_facts.specs.All.{HasAllFacts}
 use Rattle.so_env.specs.declared.outcome.Cause.{Cause}
 use Rattle.so_env.specs.declared.outcome.Cause.TheVariants.{Done, Aborted, Limit, Write}

@@ -2,15 +2,16 @@
 
 ghost use Rattle.std.specs.Prelude.{◌≡◌, ◌<◌, ◌-◌, ◌++◌, ℕ, List, Option, length};
 ghost use Rattle.so_history.specs.Steps.{Legal};
-ghost use Rattle.so_history.specs.Text.{line_at};
+ghost use Rattle.so_text.specs.Text.{line_at};
 ghost use Rattle.so_printer.specs.Printing.{IsPrinting, IsOneAtMost, RisesAnew};
 
-use so_history::{History, Mode};
+use so_history::History;
 use so_ids::Place;
 use so_io::Sink;
 use so_lines::LineBuf;
 use so_printer::Printer;
 use so_scene::Scene;
+use so_text::{Mode, put_line};
 
 /// Prints the line of the newest entry, unless a piece has failed. `line` is where it is made.
 pub(crate) fn print_last<K: Sink>(
@@ -34,6 +35,6 @@ pub(crate) fn print_last<K: Sink>(
     if printer.failed() {
         return;
     }
-    history.line(scene, mode, Place(history.len() - 1), line);
+    put_line(line, history, scene, mode, Place(history.len() - 1));
     printer.add(out, line.as_slice());
 }

@@ -4,7 +4,7 @@ ghost use Rattle.std.specs.Prelude.{◌≡◌, ◌≤◌, [], ℕ, List, Option,
 ghost use Rattle.so_ids.specs.Limits.{most_units};
 ghost use Rattle.so_history.specs.Steps.{Legal};
 ghost use Rattle.so_history.specs.Chain.{IsChain};
-ghost use Rattle.so_history.specs.Text.{text};
+ghost use Rattle.so_text.specs.Text.{text};
 ghost use Rattle.so_history.specs.Units.{units as units_of};
 ghost use Rattle.so_printer.specs.Printing.{IsPrinting, IsPrinted, RisesAnew};
 ghost use Rattle.so_env.specs.Prints.{HasRisen, IsSimulated, cause_of};
@@ -13,13 +13,14 @@ ghost use Rattle.so_env.specs.Runs.{IsOnTheWay};
 use crate::first::step_first;
 use crate::outcome::{Cause, Outcome};
 use crate::print::print_last;
-use so_history::{History, Mode};
+use so_history::History;
 use so_ids::NoMemory;
 use so_io::Sink;
 use so_kernel::{Kernel, RunState, Turns};
 use so_lines::LineBuf;
 use so_printer::Printer;
 use so_scene::Scene;
+use so_text::Mode;
 use std::alloc::Global;
 
 /// Simulates a scene with so many units, and prints its text in this mode. It always returns. A

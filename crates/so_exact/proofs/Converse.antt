@@ -52,9 +52,9 @@ use Rattle.so_history.specs.Facts.{StandsAt, BeginsAt, BeginsWith, SkipsWith, En
 use Rattle.so_history.proofs.NameLaws.{same_place, itself, found_by_name}
 use Rattle.so_history.proofs.PlaceLaws.{inside, entry_at-last, entry_at-early, before-last, before-early, before-entry}
 use Rattle.so_history_laws.proofs.PresenceLaws.{stood_before}
-use Rattle.so_history.proofs.DemandLaws.{waiting_sorted, waiting_named, waiting_early, waiting_untaken, waiting_of, pick-free}
-use Rattle.so_history.proofs.OrderLaws.{takes_taken, named-early}
-use Rattle.so_history.proofs.TurnLaws.{turn_of, running_looked_up, running_of, turn_looked_up}
+use Rattle.so_legal.proofs.DemandLaws.{waiting_sorted, waiting_named, waiting_early, waiting_untaken, waiting_of, pick-free}
+use Rattle.so_legal.proofs.OrderLaws.{takes_taken, named-early}
+use Rattle.so_legal.proofs.TurnLaws.{turn_of, running_looked_up, running_of, turn_looked_up}
 use Rattle.so_facts.specs.Choosing.{BeginsFor}
 use Rattle.so_facts.specs.Refusals.{registers, refuses}
 use Rattle.so_facts.specs.Lanes.{BeginsOn, SkipsOn}

@@ -27,8 +27,8 @@ use Rattle.so_history.specs.Finishing.{IsQuiet}
 use Rattle.so_history.specs.Facts.{BeginsAt, EndsBefore, ShareOrder, TakesAt, TakenBefore, BeginsWith, SkipsWith, IsLast, demands_since, HasFacts}
 use Rattle.so_history.proofs.PlaceLaws.{is_last, is_early, place_of_entry, inside, entry_at-early, before-last, before-early}
 use Rattle.so_history_laws.proofs.PresenceLaws.{stands_now, stands_early, stands_later, now, earlier, registered_when}
-use Rattle.so_history.proofs.DemandLaws.{takings-cons, untaken_count, taken_early, waiting_named, waiting_early, waiting_untaken}
-use Rattle.so_history.proofs.OrderLaws.{takes_taken, wider, taken_somewhere, named-early, named_waits, place_before}
+use Rattle.so_legal.proofs.DemandLaws.{takings-cons, untaken_count, taken_early, waiting_named, waiting_early, waiting_untaken}
+use Rattle.so_legal.proofs.OrderLaws.{takes_taken, wider, taken_somewhere, named-early, named_waits, place_before}
 use Rattle.so_history_laws.proofs.CoopLaws.{asked_at, started_at, refused_at, starts_first}
 use Rattle.so_history_laws.proofs.FactLaws.{has_facts}
 use Rattle.so_facts.proofs.AtPlaces.{settled}

@@ -49,7 +49,7 @@ use Rattle.so_history.specs.Steps.{yes_where, may_subscribe, finished, is_auto, 
 use Rattle.so_history.specs.Facts.{StandsAt, BeginsWith, NoOverlap, by_main, RefusesAt, ShareQueue, HasFacts}
 use Rattle.so_history.proofs.NameLaws.{same_place}
 use Rattle.so_history.proofs.PlaceLaws.{inside, entry_at-last, before-last}
-use Rattle.so_history.proofs.RosterLaws.{admitted_open}
+use Rattle.so_legal.proofs.RosterLaws.{admitted_open}
 use Rattle.so_history_laws.proofs.CoopLaws.{asked_at, started_at, refused_at, starts_first}
 use Rattle.so_facts.specs.Choosing.{ByDemand}
 use Rattle.so_facts.specs.Firsts.{WaitsAt, TakesOn, TakenFirst}

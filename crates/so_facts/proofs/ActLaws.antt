@@ -18,7 +18,7 @@ use Rattle.so_history.specs.declared.entry.EventSource.{EventSource}
 use Rattle.so_history.specs.Places.{before}
 use Rattle.so_history.specs.Turns.{move_of}
 use Rattle.so_history.specs.Steps.{answer_of, entry_of, IsMove, Legal}
-use Rattle.so_history.proofs.MoveLaws.{acts_so}
+use Rattle.so_legal.proofs.MoveLaws.{acts_so}
 use Rattle.so_history_laws.proofs.CoopLaws.{may_leave_parts}
 use Rattle.so_facts.specs.Acts.{MovesSo, ActsSo, ByCode}
 use Rattle.so_facts.specs.Leavings.{ByReason}

@@ -11,8 +11,8 @@ use Rattle.so_history.specs.declared.entry.EntryKind.TheVariants.{Begin}
 use Rattle.so_history.specs.Places.{before}
 use Rattle.so_history.specs.Order.{opening_of, skipped}
 use Rattle.so_history.specs.Steps.{IsTaking, Legal}
-use Rattle.so_history.proofs.TakingLaws.{begins_as}
-use Rattle.so_history.proofs.HeadLaws.{picked_waits}
+use Rattle.so_legal.proofs.TakingLaws.{begins_as}
+use Rattle.so_legal.proofs.HeadLaws.{picked_waits}
 use Rattle.so_facts.specs.Choosing.{BeginsFor, ByDemand}
 use Rattle.so_facts.proofs.AtPlaces.{row_at}
 

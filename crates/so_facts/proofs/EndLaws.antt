@@ -37,7 +37,7 @@ use Rattle.so_history.specs.Coops.{next_coop, standing}
 use Rattle.so_history.specs.Order.{opening_of, skipped, pick, taking_as, taking}
 use Rattle.so_history.specs.Steps.{answer_of, entry_of, may_leave, left_at, left_next, may_stop, IsMove, IsTaking, MayFollow, is_over, Legal}
 use Rattle.so_history.specs.Chain.{by_main, signed, next_of, turn_entry, turn_on, taking_entry, registering, registration_of, registration, leaving_for, leaving_entry, left_for, left_entry, stop_entry, tidying, lane_entry, IsPickInRange, pick_entry, step_of, first_entry, first}
-use Rattle.so_history.proofs.TurnLaws.{turn_of, running_looked_up}
+use Rattle.so_legal.proofs.TurnLaws.{turn_of, running_looked_up}
 use Rattle.so_history.specs.Places.{before}
 use Rattle.so_history.proofs.PlaceLaws.{before-early, before-last}
 use Rattle.so_history_laws.proofs.ChainLaws.{goes_on, first-going, first-some, step_of-going, step_of-some}

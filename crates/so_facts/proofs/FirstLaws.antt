@@ -32,9 +32,9 @@ use Rattle.so_history.specs.Order.{may_take, pick}
 use Rattle.so_history.specs.Steps.{IsTaking, Legal}
 use Rattle.so_history.specs.Facts.{ShareQueue}
 use Rattle.so_history.proofs.NameLaws.{same_place, itself, found_least}
-use Rattle.so_history.proofs.DemandLaws.{waiting_sorted, picked}
-use Rattle.so_history.proofs.TakingLaws.{takes-taking}
-use Rattle.so_history.proofs.HeadLaws.{picked_waits, picked_next}
+use Rattle.so_legal.proofs.DemandLaws.{waiting_sorted, picked}
+use Rattle.so_legal.proofs.TakingLaws.{takes-taking}
+use Rattle.so_legal.proofs.HeadLaws.{picked_waits, picked_next}
 use Rattle.so_facts.specs.Firsts.{WaitsAt, TakesOn, begins, skips, TakenFirst}
 use Rattle.so_facts.proofs.AtPlaces.{row_at}
 

@@ -27,10 +27,10 @@ use Rattle.so_history.specs.Order.{opening_of, skipped, runs_safe, pick}
 use Rattle.so_history.specs.Steps.{IsTaking, Legal}
 use Rattle.so_history.specs.Facts.{BeginsAt, EndsBefore, ShareQueue}
 use Rattle.so_history.specs.Safety.{is_safe}
-use Rattle.so_history.proofs.TakingLaws.{begins_as, skips_as}
-use Rattle.so_history.proofs.DemandLaws.{picked, picked_of}
-use Rattle.so_history.proofs.HeadLaws.{picked_may, picked_waits}
-use Rattle.so_history.proofs.TurnLaws.{lanes_free, alone, takes_beside}
+use Rattle.so_legal.proofs.TakingLaws.{begins_as, skips_as}
+use Rattle.so_legal.proofs.DemandLaws.{picked, picked_of}
+use Rattle.so_legal.proofs.HeadLaws.{picked_may, picked_waits}
+use Rattle.so_legal.proofs.TurnLaws.{lanes_free, alone, takes_beside}
 use Rattle.so_history_laws.proofs.PresenceLaws.{stands_before}
 use Rattle.so_facts.specs.Lanes.{BeginsOn, SkipsOn, ServesAgent, LanesInTurn}
 use Rattle.so_facts.proofs.AtPlaces.{row_at, settled, ended_before}

@@ -18,7 +18,7 @@ use Rattle.so_history.specs.Places.{entry_at, before}
 use Rattle.so_history.specs.Turns.{Started, started_by, turns, ends, ended, running, turn_at}
 use Rattle.so_history.specs.Steps.{IsMove, MayFollow, Legal}
 use Rattle.so_history.proofs.PlaceLaws.{is_last, is_early, place_of_entry, inside, entry_at-last, entry_at-early, before-entry, steps_at}
-use Rattle.so_history.proofs.TurnLaws.{turn_of, started_at_entry, turn_looked_up, turn_found}
+use Rattle.so_legal.proofs.TurnLaws.{turn_of, started_at_entry, turn_looked_up, turn_found}
 use Rattle.so_facts.specs.Moves.{moved_turn, RunsThen, MaySign, WhileRunning}
 
 -- ---- the turn at a place began there

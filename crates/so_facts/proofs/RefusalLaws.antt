@@ -24,10 +24,10 @@ use Rattle.so_history.specs.Demands.{queued_by, takes, waiting}
 use Rattle.so_history.specs.Turns.{started_by, ends, running, move_of}
 use Rattle.so_history.specs.Steps.{answer_to_register, IsMove, Legal}
 use Rattle.so_history.specs.Facts.{StandsAt, RegistersAt, by_main, by_act, RefusesAt}
-use Rattle.so_history.proofs.MoveLaws.{acts_so}
-use Rattle.so_history.proofs.RosterLaws.{joins, joins_admitted, roster-kept}
-use Rattle.so_history.proofs.DemandLaws.{waiting-same}
-use Rattle.so_history.proofs.TurnLaws.{running-same}
+use Rattle.so_legal.proofs.MoveLaws.{acts_so}
+use Rattle.so_legal.proofs.RosterLaws.{joins, joins_admitted, roster-kept}
+use Rattle.so_legal.proofs.DemandLaws.{waiting-same}
+use Rattle.so_legal.proofs.TurnLaws.{running-same}
 use Rattle.so_facts.specs.Refusals.{up_to, LeavesAll, MainTries, registers, refuses, ByAdmission}
 use Rattle.so_facts.proofs.AtPlaces.{row_at}
 

@@ -15,6 +15,3 @@ pub mod Chain
 pub mod Finishing
 pub mod Facts
 pub mod Sharing
-pub mod Trace
-pub mod Rooms
-pub mod Text

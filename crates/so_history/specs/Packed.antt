@@ -1,5 +1,5 @@
 -- What the short forms of entries stand for.
-use Rattle.std.specs.Prelude.{ℕ, ℤ, pos, ◌<◌, List, [], ◌∷◌, map, reverse, slice_index_or, Option, Some, None}
+use Rattle.std.specs.Prelude.{ℕ, ℤ, pos, ◌<◌, List, [], ◌∷◌, map, reverse, slice_index_or, Bool, true, false, Option, Some, None}
 use Rattle.so_ids.specs.Ids.{main_party}
 use Rattle.so_ids.specs.declared.Chosen.TheVariants as chosen
 use Rattle.so_ids.specs.declared.Opening.TheVariants as opening
@@ -9,6 +9,7 @@ use Rattle.so_ids.specs.declared.Target.TheVariants as target
 use Rattle.so_code.specs.declared.effect.Effect.TheVariants as effect
 use Rattle.so_code.specs.declared.effect.Answer.TheVariants as answer
 use Rattle.so_history.specs.declared.entry.Entry.{Entry}
+use Rattle.so_history.specs.declared.entry.EntryKind.{EntryKind}
 use Rattle.so_history.specs.declared.entry.EntryKind.TheVariants as kind
 use Rattle.so_history.specs.declared.entry.StopCause.TheVariants as stop
 use Rattle.so_history.specs.declared.packed.Short.{Short}
@@ -34,6 +35,14 @@ entry_of entries (End by turn) = record { by = by; kind = kind.End turn }
 entry_of entries (Send by turn mbox msg first used queued) = record { by = by; kind = kind.Act turn (effect.Send (target.Mbox mbox) msg (short_payload first used)) (answer.Sent (all_queued queued)) }
 entry_of entries (Log by turn text first used) = record { by = by; kind = kind.Act turn (effect.Log text (short_payload first used)) answer.Okay }
 entry_of entries (Whole at) = slice_index_or entries at no_entry
+
+-- no line in names comes of such an entry: a turn begins or ends, a demand is skipped, a message is sent
+abbrev pub tells_nothing : EntryKind → Bool
+tells_nothing (kind.Begin lane demand begins agent) = true
+tells_nothing (kind.Skip lane demand why) = true
+tells_nothing (kind.End turn) = true
+tells_nothing (kind.Act turn (effect.Send to msg payload) sent) = true
+tells_nothing other = false
 
 -- where the short form names one kept whole, it is one of this number
 abbrev pub Fits : ℕ → Short → Type 0

@@ -1,10 +1,12 @@
 //! The entries of a run, in memory that is reserved at the start.
 
-ghost use Rattle.std.specs.Prelude.{◌≡◌, ◌+◌, ◌-◌, ◌<◌, ◌≤◌, ◌^◌, List, [], ◌∷◌, length, reverse, vec_len, vec_capacity, IfOk, Some, None};
+ghost use Rattle.std.specs.Prelude.{◌≡◌, ◌+◌, ◌-◌, ◌<◌, ◌≤◌, ◌^◌, List, [], ◌∷◌, length, reverse, vec_len, vec_capacity, IfOk, Some, None, true};
+ghost use Rattle.so_history.specs.declared.entry.Entry.{Entry as AnyEntry};
+ghost use Rattle.so_history.specs.Packed.{tells_nothing};
 ghost use Rattle.so_history.specs.Places.{entry_at};
 
 use crate::entry::Entry;
-use crate::packed::{Short, pack, unpack};
+use crate::packed::{Short, is_silent, pack, unpack};
 use so_ids::{NoMemory, Place};
 use std::alloc::Global;
 use std::marker::Model;
@@ -86,6 +88,15 @@ impl History {
             self.whole.push_reserved(entry);
             self.entries.push_reserved(Short::Whole { at });
         }
+    }
+
+    /// Tells of an entry that no line in names comes of it, without reading it whole. It says so of no entry that tells
+    /// something, and need not of each that doesn't.
+    pub fn is_silent(&self, place: Place) -> bool
+        requires { place.0 < length self.now.entries }
+        ensures { (entry : AnyEntry) → entry_at self.now.entries place.0 ≡ Some entry → result ≡ true → tells_nothing entry.kind ≡ true }
+    {
+        is_silent(self.entries[place.0 as usize])
     }
 
     /// The entry at a place.

@@ -3,13 +3,9 @@
 
 mod entry;
 mod history;
-mod lines;
 mod packed;
-mod trace;
-mod words;
 
 pub use entry::{
     AbortCause, Demand, DemandKind, Entry, EntryKind, EventSource, Pick, SkipWhy, StopCause,
 };
 pub use history::History;
-pub use lines::Mode;

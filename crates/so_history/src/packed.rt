@@ -1,7 +1,7 @@
 //! Entries in short. The most frequent are kept in a few words, and only the others whole.
 
-ghost use Rattle.std.specs.Prelude.{◌≡◌, IfSome, List, length};
-ghost use Rattle.so_history.specs.Packed.{short_payload, all_queued, entry_of, Fits};
+ghost use Rattle.std.specs.Prelude.{◌≡◌, IfSome, List, length, true};
+ghost use Rattle.so_history.specs.Packed.{short_payload, all_queued, entry_of, tells_nothing, Fits};
 ghost use Rattle.so_history.specs.declared.entry.Entry.{Entry as AnyEntry};
 ghost use Rattle.so_history.specs.declared.entry.EntryKind.TheVariants as entry_kind;
 
@@ -167,6 +167,16 @@ fn sent_with(queued: u32) -> Sent
         logged: 0,
         first: None,
     }
+}
+
+/// Tells whether a short form is of an entry that tells nothing.
+pub(crate) fn is_silent(short: Short) -> bool
+    ensures { (whole : List AnyEntry) → result ≡ true → tells_nothing (entry_of whole short).kind ≡ true }
+{
+    matches!(
+        short,
+        Short::Run { .. } | Short::Skip { .. } | Short::End { .. } | Short::Send { .. }
+    )
 }
 
 /// The entry that a short form stands for, where `whole` are those kept whole.

@@ -48,26 +48,26 @@ use Rattle.so_history.specs.Units.{fits}
 use Rattle.so_history.specs.Order.{opening_of, is_allowed_beside, is_allowed, is_free, may_take, pick}
 use Rattle.so_history.specs.Steps.{choice_for, NamesEffect, may_leave, left_at, left_next, is_auto, may_stop, is_idle, finished, is_over, answer_to_send, answer_of, entry_of, Legal}
 use Rattle.so_history.specs.Chain.{by_main, signed, next_of, turn_entry, turn_on, taking_entry, registration_of, registration, leaving_for, leaving_entry, left_for, left_entry, stop_entry, tidying, lane_entry, pick_entry, step_of, first_entry, first, fitting, next_entry, StopsAtLimit}
-use Rattle.so_history.proofs.DemandLaws.{pick-free, waiting_of}
-use Rattle.so_history.proofs.HeadLaws.{HasNext, some_next}
-use Rattle.so_history.proofs.TurnLaws.{turn_of, at_looked_up, running_nowhere, running_at-nil}
-use Rattle.so_history.proofs.CourseLaws.{has_course}
-use Rattle.so_history.proofs.RosterLaws.{present_within, last_childless}
-use Rattle.so_history.proofs.SoundLaws.{names_parts, course_sound}
+use Rattle.so_legal.proofs.DemandLaws.{pick-free, waiting_of}
+use Rattle.so_legal.proofs.HeadLaws.{HasNext, some_next}
+use Rattle.so_legal.proofs.TurnLaws.{turn_of, at_looked_up, running_nowhere, running_at-nil}
+use Rattle.so_legal.proofs.CourseLaws.{has_course}
+use Rattle.so_legal.proofs.RosterLaws.{present_within, last_childless}
+use Rattle.so_legal.proofs.SoundLaws.{names_parts, course_sound}
 
--- what main registers, or refuses, is its next cooperation
+-- what main registers_of, or refuses, is its next cooperation
 pub record Registers (s : SceneParts) (h : List Entry) (e : Entry) : Type 0 where
   pub coop : CoopId
   pub next : next_coop s h ≡ Some coop
   pub is : e ≡ registration_of s h coop
 
-registers : (s : SceneParts) (h : List Entry) (e : Entry) (o : Option CoopId) → next_coop s h ≡ o → option_map (registration_of s h) o ≡ Some e → Registers s h e
-registers s h e None next is = absurd cc
-registers s h e (Some coop) next is = record { coop = coop; next = next; is = sym (same_Some _ e is) }
+registers_case : (s : SceneParts) (h : List Entry) (e : Entry) (o : Option CoopId) → next_coop s h ≡ o → option_map (registration_of s h) o ≡ Some e → Registers s h e
+registers_case s h e None next is = absurd cc
+registers_case s h e (Some coop) next is = record { coop = coop; next = next; is = sym (same_Some _ e is) }
 
-pub registered : (s : SceneParts) (h : List Entry) (e : Entry) → registration s h ≡ Some e → Registers s h e
+pub registers_of : (s : SceneParts) (h : List Entry) (e : Entry) → registration s h ≡ Some e → Registers s h e
 unfolding registration
-registered s h e r = registers s h e (next_coop s h) refl r
+registers_of s h e r = registers_case s h e (next_coop s h) refl r
 
 -- what is tidied is one of three
 abbrev pub IsTidying : EntryKind → Type 0

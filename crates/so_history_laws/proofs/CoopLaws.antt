@@ -43,11 +43,11 @@ use Rattle.so_history.specs.Coops.{present, leaving, leaving_by, standing}
 use Rattle.so_history.specs.Steps.{may_leave, waiting_for, running_for, MayFollow, Legal}
 use Rattle.so_history.specs.Finishing.{IsQuiet}
 use Rattle.so_history.specs.Facts.{StandsAt, RegistersAt, by_main, by_act, RefusesAt, queued_at, LeftBetween, WholeCoops, demands_for, demands_since, IsFirst, IsLast, StartsAndFinishes}
-use Rattle.so_history.proofs.AskedLaws.{effect_asks, asked_of_each, delivered_open}
-use Rattle.so_history.proofs.DemandLaws.{queued_here, demands_early}
+use Rattle.so_legal.proofs.AskedLaws.{effect_asks, asked_of_each, delivered_open}
+use Rattle.so_legal.proofs.DemandLaws.{queued_here, demands_early}
 use Rattle.so_history.proofs.PlaceLaws.{Where, is_last, is_early, place_of_entry, inside, entry_at-last, before-last, before-early, length-before, steps_at}
 use Rattle.so_history_laws.proofs.PresenceLaws.{stands_later, stood_before, Registered, now, earlier, registered_when, registers_nowhere, registers_before, present_now, goes_left, begins_leaving, leaves_present}
-use Rattle.so_history.proofs.RosterLaws.{joins, joins_by_effect, admitted_open, joins_admitted, leaving_present}
+use Rattle.so_legal.proofs.RosterLaws.{joins, joins_by_effect, admitted_open, joins_admitted, leaving_present}
 
 -- ---- what is queued at a place
 

@@ -5,9 +5,9 @@ use Rattle.so_scene.specs.Checked.{IsScene}
 use Rattle.so_history.specs.declared.entry.Entry.{Entry}
 use Rattle.so_history.specs.Steps.{Legal}
 use Rattle.so_history.specs.Facts.{HasFacts}
-use Rattle.so_history.proofs.DemandLaws.{taken_once}
+use Rattle.so_legal.proofs.DemandLaws.{taken_once}
 use Rattle.so_history_laws.proofs.OverlapLaws.{no_overlap}
-use Rattle.so_history.proofs.OrderLaws.{in_order, by_choice}
+use Rattle.so_legal.proofs.OrderLaws.{in_order, by_choice}
 use Rattle.so_history_laws.proofs.CoopLaws.{whole_coops, starts_and_finishes}
 
 pub has_facts : (s : SceneParts) (h : List Entry) → IsScene s → Legal s h → HasFacts s h

@@ -37,11 +37,11 @@ use Rattle.so_history.specs.Steps.{waiting_for, running_for, IsTaking, MayFollow
 use Rattle.so_history.specs.Finishing.{asks_finish, is_finish, is_finishing, finishes, unfinished, IsQuiet}
 use Rattle.so_history.specs.Facts.{ShareOrder, IsLast}
 use Rattle.so_history.proofs.NameLaws.{first_with_rest, rest_spared}
-use Rattle.so_history.proofs.TakingLaws.{takes-taking, begins_as, skips_as}
-use Rattle.so_history.proofs.DemandLaws.{waiting_sorted, waiting_of, waiting-queued, waiting-taken}
-use Rattle.so_history.proofs.HeadLaws.{is_in_order_with, picked_in_order, picked_waits}
-use Rattle.so_history.proofs.OrderLaws.{in_order_with}
-use Rattle.so_history.proofs.TurnLaws.{running-begun, running-ended, running-same, begins_alone, running_of}
+use Rattle.so_legal.proofs.TakingLaws.{takes-taking, begins_as, skips_as}
+use Rattle.so_legal.proofs.DemandLaws.{waiting_sorted, waiting_of, waiting-queued, waiting-taken}
+use Rattle.so_legal.proofs.HeadLaws.{is_in_order_with, picked_in_order, picked_waits}
+use Rattle.so_legal.proofs.OrderLaws.{in_order_with}
+use Rattle.so_legal.proofs.TurnLaws.{running-begun, running-ended, running-same, begins_alone, running_of}
 use Rattle.so_history_laws.proofs.PresenceLaws.{begins_leaving}
 use Rattle.so_history_laws.proofs.CoopLaws.{is_for, none_for, none_asked, asks_it, all_last, last-append}
 

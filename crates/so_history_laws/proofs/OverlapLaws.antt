@@ -22,7 +22,7 @@ use Rattle.so_history.specs.Order.{runs_safe}
 use Rattle.so_history.specs.Steps.{MayFollow, IsStep, Legal}
 use Rattle.so_history.specs.Facts.{BeginsAt, EndsBefore, ShareQueue, AreSafe, NoOverlap}
 use Rattle.so_history.proofs.PlaceLaws.{Where, is_last, is_early, place_of_entry, entry_at-last, entry_at-early}
-use Rattle.so_history.proofs.TurnLaws.{ends_early, begins_beside}
+use Rattle.so_legal.proofs.TurnLaws.{ends_early, begins_beside}
 
 -- what ends before a place ends there in a longer history too
 later : (e : Entry) (h : List Entry) (i j : ℕ) → j ≤ length h → EndsBefore h i j → EndsBefore (e ∷ h) i j

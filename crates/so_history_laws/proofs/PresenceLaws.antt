@@ -15,7 +15,7 @@ use Rattle.so_history.specs.Places.{entry_at, before}
 use Rattle.so_history.specs.Coops.{is_same, is_other, present, leaving, leaving_by}
 use Rattle.so_history.specs.Steps.{MayFollow}
 use Rattle.so_history.specs.Facts.{StandsAt, RegistersAt, by_main, by_act}
-use Rattle.so_history.proofs.RosterLaws.{joins, change_of, one_joins, one_goes, all_stay, present-joined, present-left, present-kept}
+use Rattle.so_legal.proofs.RosterLaws.{joins, change_of, one_joins, one_goes, all_stay, present-joined, present-left, present-kept}
 use Rattle.so_history.proofs.PlaceLaws.{inside, entry_at-last, entry_at-early, before-entry}
 
 -- ---- what stands at a place, with one entry more and among those before a place

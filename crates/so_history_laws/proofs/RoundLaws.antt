@@ -27,8 +27,8 @@ use Rattle.so_history.specs.Demands.{waiting}
 use Rattle.so_history.specs.Safety.{kind_of}
 use Rattle.so_history.specs.Heads.{is_of_priority, some_of_priority, on_dispatcher, moved_round, has_rounds, takes_on, round, in_queue, next_by}
 use Rattle.so_history.specs.Order.{pick, opening_of, skipped, taking_as, taking}
-use Rattle.so_history.proofs.DemandLaws.{picked_of}
-use Rattle.so_history.proofs.HeadLaws.{picked_may, picked_waits, picked_next}
+use Rattle.so_legal.proofs.DemandLaws.{picked_of}
+use Rattle.so_legal.proofs.HeadLaws.{picked_may, picked_waits, picked_next}
 
 -- ---- who takes
 

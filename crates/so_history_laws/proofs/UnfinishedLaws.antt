@@ -38,10 +38,10 @@ use Rattle.so_history.specs.Coops.{leaving, leaving_by, standing}
 use Rattle.so_history.specs.Steps.{waiting_for, running_for, may_leave, IsTaking, MayFollow, Legal}
 use Rattle.so_history.specs.Finishing.{asks_finish, is_finish, is_finishing, finishes, unfinished}
 use Rattle.so_history.proofs.NameLaws.{length-demands_from, named_alone, filter-without}
-use Rattle.so_history.proofs.TakingLaws.{begins_as, skips_as}
-use Rattle.so_history.proofs.DemandLaws.{waiting_sorted, waiting-queued, waiting-same, length-asked}
-use Rattle.so_history.proofs.HeadLaws.{picked_waits}
-use Rattle.so_history.proofs.TurnLaws.{Frees, started_here, running_early, running-begun, running-ended, running-same, alone, turn_found}
+use Rattle.so_legal.proofs.TakingLaws.{begins_as, skips_as}
+use Rattle.so_legal.proofs.DemandLaws.{waiting_sorted, waiting-queued, waiting-same, length-asked}
+use Rattle.so_legal.proofs.HeadLaws.{picked_waits}
+use Rattle.so_legal.proofs.TurnLaws.{Frees, started_here, running_early, running-begun, running-ended, running-same, alone, turn_found}
 use Rattle.so_history_laws.proofs.PresenceLaws.{stops_leaving, leaves_present}
 use Rattle.so_history_laws.proofs.CoopLaws.{AsksSo, of_none, to_handle, to_start, to_finish, asks_so, others_asked, may_leave_parts}
 use Rattle.so_history_laws.proofs.LeavingLaws.{Takes, what_takes, finishes_all, none_unfinished}

@@ -15,7 +15,7 @@ use Rattle.so_history.specs.Turns.{move_of}
 use Rattle.so_history.specs.Steps.{NamesEffect, answer_of, IsMove, Legal}
 use Rattle.so_history.specs.declared.entry.Entry.{Entry}
 use Rattle.so_scene.specs.declared.parts.SceneParts.{SceneParts}
-use Rattle.so_history.proofs.SoundLaws.{IsSound, agent_code, moved_waits, moved_frame, names_parts, answer_fits, course_sound}
+use Rattle.so_legal.proofs.SoundLaws.{IsSound, agent_code, moved_waits, moved_frame, names_parts, answer_fits, course_sound}
 use Rattle.so_kernel.specs.declared.answers.Turn.{Turn}
 use Rattle.so_ledger.specs.Shapes.{Core}
 use Rattle.so_history.specs.declared.entry.EntryKind.TheVariants.{Act, End, Abort}

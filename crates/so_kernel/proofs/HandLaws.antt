@@ -33,9 +33,9 @@ use Rattle.so_history.specs.Demands.{message_of, event_of}
 use Rattle.so_history.specs.Order.{runs_safe, pick, opening_for, opening_of, skipped, taking_as, taking}
 use Rattle.so_history.specs.Steps.{Legal}
 use Rattle.so_history.specs.Chain.{registering, registration}
-use Rattle.so_history.proofs.TurnLaws.{turn_found, turn-begun, turn-spared, turn_of, turn_looked_up, turn_agent}
-use Rattle.so_history.proofs.CourseLaws.{course-acted, course-begun, has_course}
-use Rattle.so_history_laws.proofs.ChainLaws.{registered, IsTidying}
+use Rattle.so_legal.proofs.TurnLaws.{turn_found, turn-begun, turn-spared, turn_of, turn_looked_up, turn_agent}
+use Rattle.so_legal.proofs.CourseLaws.{course-acted, course-begun, has_course}
+use Rattle.so_history_laws.proofs.ChainLaws.{registers_of, IsTidying}
 use Rattle.so_kernel.specs.declared.answers.Turn.{Turn}
 use Rattle.so_tables.specs.declared.found.Found.TheVariants as what
 use Rattle.so_tables.specs.AfterEvents.{IsSent}
@@ -140,7 +140,7 @@ found_registering s h coop (Some why) = tt
 
 pub found_registered : (s : SceneParts) (h : List Entry) (e : Entry) → registration s h ≡ Some e → IsFound s h e.kind what.Nothing
 found_registered s h e is =
-    let it = registered s h e is in
+    let it = registers_of s h e is in
     subst (λ (x : Entry). IsFound s h x.kind what.Nothing) (sym it.is) (found_registering s h it.coop (admission s (standing h) it.coop))
 
 pub found_tidied : (s : SceneParts) (h : List Entry) (kind : EntryKind) → IsTidying kind → IsFound s h kind what.Nothing
@@ -156,7 +156,7 @@ sent_registering s h coop (Some why) sent = tt
 
 pub sent_registered : (s : SceneParts) (h : List Entry) (e : Entry) (sent : List Queued) → registration s h ≡ Some e → IsSent s h e.kind sent
 sent_registered s h e sent is =
-    let it = registered s h e is in
+    let it = registers_of s h e is in
     subst (λ (x : Entry). IsSent s h x.kind sent) (sym it.is) (sent_registering s h it.coop (admission s (standing h) it.coop) sent)
 
 pub sent_tidied : (s : SceneParts) (h : List Entry) (kind : EntryKind) (sent : List Queued) → IsTidying kind → IsSent s h kind sent

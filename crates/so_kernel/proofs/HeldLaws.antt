@@ -34,9 +34,9 @@ use Rattle.so_history.specs.Order.{pick, opening_of, skipped, taking_as, taking}
 use Rattle.so_history.specs.Steps.{answer_of, Legal}
 use Rattle.so_history.specs.Chain.{registering, registration, tidying, turn_on, turn_entry, lane_entry, first_entry, first}
 use Rattle.so_ledger.proofs.GateLaws.{gated_first}
-use Rattle.so_history.proofs.TurnLaws.{running_at-begun, running_at-same, running_at-ended, alone, turn_found, turn-spared, lanes_free}
-use Rattle.so_history.proofs.CourseLaws.{acts_for, course-spared}
-use Rattle.so_history_laws.proofs.ChainLaws.{answered_named, registered, tidied, IsTidying, first-turn, lane_entry-turn, lane_entry-free, has_move}
+use Rattle.so_legal.proofs.TurnLaws.{running_at-begun, running_at-same, running_at-ended, alone, turn_found, turn-spared, lanes_free}
+use Rattle.so_legal.proofs.CourseLaws.{acts_for, course-spared}
+use Rattle.so_history_laws.proofs.ChainLaws.{answered_named, registers_of, tidied, IsTidying, first-turn, lane_entry-turn, lane_entry-free, has_move}
 use Rattle.so_kernel.specs.declared.answers.Turn.{Turn}
 use Rattle.so_kernel.specs.declared.answers.Turned.{Turned}
 use Rattle.so_kernel.specs.declared.answers.Turned.TheVariants as turned_answer
@@ -170,7 +170,7 @@ pub held_registered : (k : Core) (ts : List (Option Turn)) → Legal k.scene k.h
 held_registered k ts legal held =
     main_spared k (gated k (registration k.scene k.history)) ts legal (λ e g. ok_going k (registration k.scene k.history) e g)
     (λ e g j.
-    let it = registered k.scene k.history e (gated_next k (registration k.scene k.history) e g) in
+    let it = registers_of k.scene k.history e (gated_next k (registration k.scene k.history) e g) in
     let P : Entry → Type 0 = λ x. Spares k.history x.kind j in
     subst P (sym it.is) (registered_spares k.history it.coop (admission k.scene (standing k.history) it.coop) j))
     held

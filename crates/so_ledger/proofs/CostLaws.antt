@@ -43,11 +43,11 @@ use Rattle.so_history.specs.Order.{pick, opening_of, skipped, taking_as, taking}
 use Rattle.so_history.specs.Steps.{NamesEffect, IsSigner, IsTaking, MayFollow, Legal, answer_of, answer_to_register, answer_to_switch, choice_for, yes_where, may_subscribe, is_active}
 use Rattle.so_history.specs.Turns.{move_of}
 use Rattle.so_history.specs.Units.{cost}
-use Rattle.so_history.proofs.DemandLaws.{length-asked, registered_of}
+use Rattle.so_legal.proofs.DemandLaws.{length-asked, registered_of}
 use Rattle.so_history.proofs.NameLaws.{length-demands_from}
-use Rattle.so_history.proofs.RosterLaws.{registered_once}
-use Rattle.so_history.proofs.MoveLaws.{acts_so}
-use Rattle.so_history.proofs.SoundLaws.{names_parts, course_sound}
+use Rattle.so_legal.proofs.RosterLaws.{registered_once}
+use Rattle.so_legal.proofs.MoveLaws.{acts_so}
+use Rattle.so_legal.proofs.SoundLaws.{names_parts, course_sound}
 use Rattle.so_mbox.specs.Table.{IsAgentOf}
 use Rattle.so_mbox.proofs.TableLaws.{few_agents}
 use Rattle.so_ledger.specs.Gates.{NamesCoop, queued_by_act}

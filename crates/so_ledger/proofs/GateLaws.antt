@@ -9,7 +9,7 @@ use Rattle.so_history.specs.Steps.{finished, is_over}
 use Rattle.so_history.specs.declared.entry.Pick.{Pick}
 use Rattle.so_history.specs.Chain.{pick_entry, step_of, first_entry, fitting, first, next_entry}
 use Rattle.so_history_laws.proofs.ChainLaws.{first-over}
-use Rattle.so_history.proofs.DemandLaws.{waiting-units}
+use Rattle.so_legal.proofs.DemandLaws.{waiting-units}
 use Rattle.so_ledger.specs.declared.gate.Barred.{Barred}
 use Rattle.so_ledger.specs.declared.gate.Barred.TheVariants.{Nothing, Full, Over}
 use Rattle.so_ledger.specs.Shapes.{Core}

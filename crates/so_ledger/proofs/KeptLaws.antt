@@ -7,7 +7,7 @@ use Rattle.so_history.specs.declared.entry.Entry.{Entry}
 use Rattle.so_history.specs.Units.{units, cost}
 use Rattle.so_history.specs.Steps.{Legal}
 use Rattle.so_history.specs.Demands.{demands, queued_by}
-use Rattle.so_history.proofs.DemandLaws.{waiting-units}
+use Rattle.so_legal.proofs.DemandLaws.{waiting-units}
 use Rattle.so_tables.specs.declared.tables.Tables.{Tables}
 use Rattle.so_tables.specs.Tables.{tables_of}
 use Rattle.so_ledger.specs.Kept.{IsKept, MayAdd}

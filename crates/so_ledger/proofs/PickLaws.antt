@@ -29,7 +29,7 @@ use Rattle.so_history.specs.Heads.{round, first_of_priority, in_queue, moved_rou
 use Rattle.so_history.specs.Order.{opening_of, skipped, runs_safe, is_allowed_beside, is_allowed, may_take}
 use Rattle.so_history.specs.Safety.{kind_of, is_safe}
 use Rattle.so_history.specs.Turns.{Started, running_with}
-use Rattle.so_history.proofs.DemandLaws.{demands_of, waiting_of, waiting_named}
+use Rattle.so_legal.proofs.DemandLaws.{demands_of, waiting_of, waiting_named}
 use Rattle.so_events.specs.Events.{allows, may_take_by}
 use Rattle.so_tables.specs.Tables.{is_other, rounds, events_of}
 use Rattle.so_ledger.specs.Classes.{class_by, class_of, class_in, class_named}

@@ -29,13 +29,13 @@ impl<'a> Model for Ledger<'a> {
     ghost use Rattle.so_ledger.specs.Shapes.{Core};
     ghost use Rattle.so_history.specs.Leaves.{leaves};
     ghost use Rattle.so_ledger.specs.Kept.{IsKept};
-    ghost use Rattle.so_tables.specs.States.{AllStand};
+    ghost use Rattle.so_tables.specs.States.{AllHaveEntered};
 
     ghost Value = { Core };
 
     ghost view = { λ k. record { scene = k.scene.now; limit = k.history.limit; history = k.history.entries; full = k.full } };
 
-    ghost invariant = { λ k. IsKept k.scene.now k.history.limit k.history.entries k.tables k.full × AllStand k.scene.now (leaves k.scene.now k.history.entries) k.states };
+    ghost invariant = { λ k. IsKept k.scene.now k.history.limit k.history.entries k.tables k.full × AllHaveEntered k.scene.now (leaves k.scene.now k.history.entries) k.states };
 }
 
 impl<'a> Ledger<'a> {

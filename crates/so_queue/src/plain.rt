@@ -6,7 +6,7 @@ ghost use Rattle.so_queue.specs.Fronts.{height_of_key};
 ghost use Rattle.so_queue.specs.Queues.{keys_of, queue_of, list_at, slot_of, head_of, front_of_key, IsAfterAll, IsNextKey, no_demands, after_push, after_take, after_start, after_end, running_of};
 ghost use Rattle.so_queue.specs.Plain.{on_slot, IsPlaceOf};
 
-use crate::queues::lesser_of;
+use crate::queues::{lesser_of, slot_of};
 use crate::ring::is_less;
 use so_ids::{DemandId, KeyId, NoMemory, Priority};
 use std::alloc::Global;
@@ -79,7 +79,7 @@ impl PlainQueues {
         requires last { IsAfterAll self.old.lists demand }
         ensures { self.new ≡ after_push key priority demand self.old }
     {
-        let slot = 8 * key.0 as usize + priority.level as usize;
+        let slot = slot_of(key, priority);
         self.waiting.push_reserved(Waiting { slot, demand });
         self.room -= 1;
     }
@@ -91,7 +91,7 @@ impl PlainQueues {
         ensures first { head_of (queue_of self.old key priority) ≡ Some result }
         ensures after { self.new ≡ after_take key priority self.old }
     {
-        let slot = 8 * key.0 as usize + priority.level as usize;
+        let slot = slot_of(key, priority);
         let Some(at) = first_on(&self.waiting, slot) else {
             unreachable!()
         };
@@ -125,7 +125,7 @@ impl PlainQueues {
         requires { key.0 < keys_of self.now }
         ensures { result ≡ head_of (queue_of self.now key priority) }
     {
-        self.head(8 * key.0 as usize + priority.level as usize)
+        self.head(slot_of(key, priority))
     }
 
     /// The key of the lesser front above a height: the best so far, or this one.

@@ -5,8 +5,8 @@ use Rattle.so_scene.specs.declared.parts.SceneParts.{SceneParts}
 use Rattle.so_history.specs.declared.entry.Entry.{Entry}
 use Rattle.so_history.specs.Places.{entry_at, before}
 use Rattle.so_history.proofs.PlaceLaws.{entry_at-last, entry_at-early, before-last, before-early}
-use Rattle.so_history.specs.declared.lines.Mode.{Mode}
-use Rattle.so_history.specs.Text.{text, line_at, line_of, line_after}
+use Rattle.so_text.specs.declared.lines.Mode.{Mode}
+use Rattle.so_text.specs.Text.{text, line_at, line_of, line_after}
 use Rattle.so_printer.specs.Printing.{PrinterView, IsPrinting, IsPrinted, RisesAnew, IsOneAtMost}
 use Rattle.so_env.specs.Prints.{HasRisen}
 use Rattle.so_env.proofs.PrintLaws.{printing_none, printed_of, risen_on}

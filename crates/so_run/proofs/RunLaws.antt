@@ -7,7 +7,7 @@ use Rattle.so_ids.specs.declared.PartyId.{PartyId}
 use Rattle.so_scene.specs.declared.parts.SceneParts.{SceneParts}
 use Rattle.so_scene.specs.Checked.{IsScene}
 use Rattle.so_history.specs.declared.entry.Entry.{Entry}
-use Rattle.so_history.specs.declared.lines.Mode.{Mode}
+use Rattle.so_text.specs.declared.lines.Mode.{Mode}
 use Rattle.so_history.specs.Steps.{is_over, Legal}
 use Rattle.so_history.specs.Units.{units}
 use Rattle.so_facts.proofs.AllLaws.{has_all_facts}
@@ -16,7 +16,7 @@ use Rattle.so_book.specs.declared.Chronicle.{Ghosts}
 use Rattle.so_book.specs.declared.book.Book.{Book}
 use Rattle.so_book.specs.declared.book.Pass.{Pass}
 use Rattle.std.specs.Option.{ForSome}
-use Rattle.so_book.specs.Passes.{seen_by, IsPassOf, IsKept, HasSeen}
+use Rattle.so_book.specs.Passes.{seen_by, IsPassOf, KeepsOwn, HasSeen}
 use Rattle.so_run.specs.declared.shared.Run.{Run}
 use Rattle.so_run.specs.declared.shared.Line.{Line}
 use Rattle.so_env.specs.declared.outcome.Cause.{Cause}
@@ -79,10 +79,10 @@ limit_case s n q h scene limit same (inr full) sound going =
     subst (HasTooLarge s n) (sym same) (subst (λ (m : ℕ). HasTooLarge s m q.kernel.history) limit (subst (λ (z : SceneParts). HasTooLarge z q.kernel.limit q.kernel.history) scene (sound.full full)))
 
 -- the value that comes out of the book has just main's history
-pub has_run : {g : Ghosts Run Line} (b : Book Run Line) (s : SceneParts) (n : ℕ) (mode : Mode) (failed : Bool) (m : ℕ) (u v : Option (List ℕ)) (x y : ℕ) (passes : List (Pass Run Line g)) → IsLed b s n mode failed m u v x y passes → (q : Run) → All (IsKept line_signer (lines_of q)) passes → IsSound q →
+pub has_run : {g : Ghosts Run Line} (b : Book Run Line) (s : SceneParts) (n : ℕ) (mode : Mode) (failed : Bool) (m : ℕ) (u v : Option (List ℕ)) (x y : ℕ) (passes : List (Pass Run Line g)) → IsLed b s n mode failed m u v x y passes → (q : Run) → All (KeepsOwn line_signer (lines_of q)) passes → IsSound q →
     (h : List Entry) (cause : Cause) (w p : ℕ) → h ≡ q.kernel.history → cause ≡ cause_of q.kernel.scene q.kernel.history failed → w ≡ units q.kernel.scene q.kernel.history → p ≡ m → HasRun s n mode h cause w p u v x y
 has_run b s n mode failed m u v x y passes led q all sound h cause w p same why cost count =
-    let kept : IsKept line_signer (lines_of q) led.first = All-head (IsKept line_signer (lines_of q)) led.first led.others (subst (All (IsKept line_signer (lines_of q))) led.is all) in
+    let kept : KeepsOwn line_signer (lines_of q) led.first = All-head (KeepsOwn line_signer (lines_of q)) led.first led.others (subst (All (KeepsOwn line_signer (lines_of q))) led.is all) in
     let end = ended s (seen_by led.first) q led.end.knows kept.0 sound.legal led.end.ended in
     let limit : q.kernel.limit ≡ n = (found s (seen_by led.first) q led.end.knows kept.0).1 ∙ led.limit in
     let legal : Legal s h = subst (Legal s) (sym same) (subst (λ (z : SceneParts). Legal z q.kernel.history) end.scene sound.legal) in

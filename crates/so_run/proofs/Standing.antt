@@ -13,8 +13,8 @@ use Rattle.so_history.specs.declared.entry.EntryKind.{EntryKind}
 use Rattle.so_history.specs.declared.entry.EntryKind.TheVariants.{Register, Refuse, Begin, Skip, Act, End, Leaving, Left, Stop, Abort}
 use Rattle.so_history.specs.Turns.{Started, Course, ends, turn_at, course}
 use Rattle.so_history.specs.Steps.{MayFollow, is_over, Legal}
-use Rattle.so_history.proofs.TurnLaws.{turn_of, turn_found, turn-spared, turn_looked_up, turn_agent}
-use Rattle.so_history.proofs.CourseLaws.{acts_for, course-spared, has_course}
+use Rattle.so_legal.proofs.TurnLaws.{turn_of, turn_found, turn-spared, turn_looked_up, turn_agent}
+use Rattle.so_legal.proofs.CourseLaws.{acts_for, course-spared, has_course}
 use Rattle.so_kernel.specs.declared.answers.Turn.{Turn}
 use Rattle.so_kernel.specs.Hands.{IsHeld, HasMoved}
 use Rattle.so_run.specs.Knowing.{NoneBy}

@@ -4,8 +4,8 @@ use Rattle.so_ids.specs.declared.PartyId.{PartyId}
 use Rattle.so_scene.specs.declared.parts.SceneParts.{SceneParts}
 use Rattle.so_history.specs.declared.entry.Entry.{Entry}
 use Rattle.so_history.specs.Steps.{is_over}
-use Rattle.so_history.specs.declared.lines.Mode.{Mode}
-use Rattle.so_history.specs.Text.{text}
+use Rattle.so_text.specs.declared.lines.Mode.{Mode}
+use Rattle.so_text.specs.Text.{text}
 use Rattle.so_printer.specs.Printing.{PrinterView, IsPrinting, IsPrinted}
 use Rattle.so_env.specs.Prints.{Printed, HasRisen}
 use Rattle.so_run.specs.declared.shared.Line.{Line}

@@ -3,7 +3,7 @@ use Rattle.std.specs.Prelude.{◌≡◌, ℕ, ◌≤◌, List, [], ◌∷◌, Al
 use Rattle.so_scene.specs.declared.parts.SceneParts.{SceneParts}
 use Rattle.so_scene.specs.Checked.{IsScene}
 use Rattle.so_history.specs.declared.entry.Entry.{Entry}
-use Rattle.so_history.specs.declared.lines.Mode.{Mode}
+use Rattle.so_text.specs.declared.lines.Mode.{Mode}
 use Rattle.so_facts.specs.All.{HasAllFacts}
 use Rattle.so_history.specs.Steps.{is_over, Legal}
 use Rattle.so_history.specs.Units.{units}

@@ -5,7 +5,7 @@ use Rattle.so_ids.specs.declared.LaneId.{LaneId}
 use Rattle.so_ids.specs.Ids.{main_party, party_of as lane_party}
 use Rattle.so_scene.specs.declared.parts.SceneParts.{SceneParts}
 use Rattle.so_scene.specs.Lanes.{lanes}
-use Rattle.so_history.specs.declared.lines.Mode.{Mode}
+use Rattle.so_text.specs.declared.lines.Mode.{Mode}
 use Rattle.so_kernel.specs.declared.answers.Turn.{Turn}
 use Rattle.so_kernel.specs.Hands.{IsHeld}
 use Rattle.so_book.specs.declared.Chronicle.{Ghosts}

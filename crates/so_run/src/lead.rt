@@ -5,7 +5,7 @@ ghost use Rattle.std.specs.Prelude.{All, ◌≡◌, ◌<◌, ◌≤◌, ◌-◌,
 ghost use Rattle.so_ids.specs.Ids.{main_party};
 ghost use Rattle.so_ids.specs.Limits.{most_units};
 ghost use Rattle.so_history.specs.Steps.{Legal};
-ghost use Rattle.so_history.specs.Text.{line_at};
+ghost use Rattle.so_text.specs.Text.{line_at};
 ghost use Rattle.so_book.specs.History.{Began};
 ghost use Rattle.so_book.specs.Passes.{IsPassOf, party_of, seen_by};
 ghost use Rattle.so_run.specs.Lines.{made_in, opened_in};
@@ -19,13 +19,13 @@ use crate::crew::{Worker, drive_all};
 use crate::shared::Run;
 use crate::worker::close;
 use so_book::{Book, Pass};
-use so_history::Mode;
 use so_ids::Place;
 use so_io::{Gate, Sink};
 use so_kernel::Stepped;
 use so_lines::LineBuf;
 use so_printer::Printer;
 use so_scene::Scene;
+use so_text::{Mode, put_line};
 use std::sync::Wait;
 
 /// What main found in a round.
@@ -152,7 +152,7 @@ fn look<'a>(
     let _scene = run.kernel.scene();
     let history = run.kernel.history();
     if count < history.len() {
-        history.line(scene, mode, Place(count), line);
+        put_line(line, history, scene, mode, Place(count));
         return Round::Line;
     }
     if !run.goes_on() {

@@ -10,7 +10,7 @@ use Rattle.so_code.specs.declared.instr.Instr.TheVariants as instr
 use Rattle.so_code.specs.declared.instr.Operand.{Operand}
 use Rattle.so_code.specs.declared.instr.Operand.TheVariants as operand
 use Rattle.so_code.specs.Bodies.{is_end}
-use Rattle.so_code.specs.Values.{fits}
+use Rattle.so_code.specs.Values.{is_number}
 use Rattle.so_state.specs.declared.choice.Row.{Row}
 use Rattle.so_state.specs.declared.states.State.{State}
 use Rattle.so_scene.specs.declared.parts.MessageDef.{MessageDef}
@@ -32,7 +32,7 @@ HasParent state = state.initial ≡ true → is_some state.parent ≡ true
 
 -- a number of 64 bits
 abbrev pub IsNumber : ℤ → Type 0
-IsNumber z = fits z ≡ true
+IsNumber z = is_number z ≡ true
 
 abbrev pub IsWrittenOperand : Operand → Type 0
 IsWrittenOperand (operand.Num z) = IsNumber z

@@ -13,7 +13,7 @@ use Rattle.serde_json.specs.View.{items_of}
 use Rattle.so_ids.specs.declared.CoopId.{CoopId}
 use Rattle.so_ids.specs.declared.DispId.{DispId}
 use Rattle.so_ids.specs.declared.Priority.{Priority}
-use Rattle.so_code.specs.Values.{fits}
+use Rattle.so_code.specs.Values.{is_number}
 use Rattle.so_state.specs.declared.choice.Row.{Row}
 use Rattle.so_state.specs.declared.states.State.{State}
 use Rattle.so_state.specs.Fault.{tree_fault}
@@ -47,7 +47,7 @@ use Rattle.so_scene_fields.specs.declared.table.Space.TheVariants as space
 use Rattle.so_scene_fields.specs.declared.values.Trouble.{Trouble}
 use Rattle.so_scene_build.specs.declared.code_builder.CodeBuilder.{CodeBuilder}
 use Rattle.so_scene_fields.specs.Table.{required, optional, later}
-use Rattle.so_scene_build.specs.Build.{build_step, agent_added, agent_written, agent_with, with_agent, with_code, tree_of, is_long, last_coop, one_more, written, fresh}
+use Rattle.so_scene_build.specs.Build.{build_step, agent_added, agent_written, agent_with, with_agent, with_code, tree_of, is_long, last_coop, one_more, written, new_code}
 use Rattle.so_scene_build.specs.Defs.{disp_in, level_in, priority_in, narrow_or_zero, state_of, row_of, filter_of, states_of as states_read, rows_of as rows_read, filters_of as filters_read, vars_in, var_at}
 use Rattle.so_scene_build.specs.Groups.{with_group, group_number}
 use Rattle.so_scene_passes.specs.Known.{known_step, group_fault, group_unfit, kind_at}
@@ -63,7 +63,7 @@ use Rattle.so_scene_data.proofs.Writable.{IsWritable, AreNumbered, texts_behind}
 use Rattle.so_scene_data.proofs.Named.{name_utf8, next_new, next_distinct}
 use Rattle.so_scene_data.proofs.Shown.{number_again}
 use Rattle.so_scene_data.proofs.Walks.{ok, object_run, field_run, fields_none, plain_field, plain_found, list_field, list_found, shown_len, map_again, first_fine, every, run_same, items_go, items_done}
-use Rattle.so_scene_data.proofs.ActLaws.{Stands, Told, at, scope_for, knows_at, is_there, name_read, shown_name, narrow_small}
+use Rattle.so_scene_data.proofs.ActLaws.{AreDeclared, Told, at, scope_for, knows_at, is_there, name_read, shown_name, narrow_small}
 use Rattle.so_scene_data.proofs.DispLaws.{disp_legal, disp_number_again, disp_kind_again}
 use Rattle.so_scene_data.proofs.Found.{got, got_group}
 use Rattle.so_scene_data.proofs.BodyLaws.{agent_again}
@@ -171,7 +171,7 @@ list_fine f shown limit xs l h = rw (shown_len shown xs, le-leb (length xs) limi
 vars_shape : (sh : Shape) (s : SceneParts) (a : AgentDef) (place : Place) → Told s a → Tries shape_step sh place (agent_data s a) vars_rule (Some (list_data number_data a.vars.0))
 vars_shape sh s a place c =
     let len : length a.vars.0 ≡ 16 = c.agent.vars in
-    rw (list_fine number_trouble number_data 16 a.vars.0 (omega arith) (each-weaker (λ z. fits z ≡ true) (λ z. number_trouble (number_data z) ≡ None) (λ z e. rw (number_again z e)) a.vars.0 c.written.vars))
+    rw (list_fine number_trouble number_data 16 a.vars.0 (omega arith) (each-weaker (λ z. is_number z ≡ true) (λ z. number_trouble (number_data z) ≡ None) (λ z e. rw (number_again z e)) a.vars.0 c.written.vars))
 
 states_shape : (sh : Shape) (s : SceneParts) (a : AgentDef) (place : Place) → Told s a → Tries shape_step sh place (agent_data s a) states_rule (Some (list_data (state_data s a) (states_of a)))
 states_shape sh s a place c =
@@ -338,17 +338,17 @@ scope_again s a c = scope_same _ _ _ _ _ _ (names_again s a c) (row_ids_again s 
 abbrev knows_in : Declared → Scope → Known
 knows_in names scope = record { names = names; scope = scope }
 
-start_known : (s : SceneParts) (a : AgentDef) (names : Declared) (place : Place) → Told s a → Stands s names → Tries known_step (knows_at names a) place (agent_data s a) start_rule (Some (acts_data s a (start_acts a)))
+start_known : (s : SceneParts) (a : AgentDef) (names : Declared) (place : Place) → Told s a → AreDeclared s names → Tries known_step (knows_at names a) place (agent_data s a) start_rule (Some (acts_data s a (start_acts a)))
 start_known s a names place c st = rw (acts_known s a names AnyAct (start_acts a) (at_key place start_rule) c st (agent_start s a c))
 
-finish_known : (s : SceneParts) (a : AgentDef) (names : Declared) (place : Place) → Told s a → Stands s names → Tries known_step (knows_at names a) place (agent_data s a) finish_rule (Some (acts_data s a (finish_acts a)))
+finish_known : (s : SceneParts) (a : AgentDef) (names : Declared) (place : Place) → Told s a → AreDeclared s names → Tries known_step (knows_at names a) place (agent_data s a) finish_rule (Some (acts_data s a (finish_acts a)))
 finish_known s a names place c st = rw (acts_known s a names AnyAct (finish_acts a) (at_key place finish_rule) c st (agent_finish s a c))
 
-disp_again : (s : SceneParts) (names : Declared) (a : AgentDef) → Told s a → Stands s names → disp_number_in names (agent_data s a) ≡ Some a.disp.0
+disp_again : (s : SceneParts) (names : Declared) (a : AgentDef) → Told s a → AreDeclared s names → disp_number_in names (agent_data s a) ≡ Some a.disp.0
 disp_again s names a c st =
     ap (λ (d : Data). disp_number names (as_str d)) (shown_name (disp_text s a.disp) (disp_legal s a.disp c.scene c.agent.disp)) ∙ disp_number_again s names a.disp c.scene st c.agent.disp
 
-disp_field_known : (s : SceneParts) (a : AgentDef) (names : Declared) (place : Place) → Told s a → Stands s names → Tries known_step (knows_at names a) place (agent_data s a) disp_rule (Some (text_data (disp_text s a.disp)))
+disp_field_known : (s : SceneParts) (a : AgentDef) (names : Declared) (place : Place) → Told s a → AreDeclared s names → Tries known_step (knows_at names a) place (agent_data s a) disp_rule (Some (text_data (disp_text s a.disp)))
 disp_field_known s a names place c st =
     let k : Known = knows_at names a in
     ap (λ (d : Data). known_step k (tries disp_rule (at_key place disp_rule) (agent_data s a) (Some d))) (shown_name (disp_text s a.disp) (disp_legal s a.disp c.scene c.agent.disp))
@@ -373,17 +373,17 @@ group_fits OnePerPrio n place f o h = rw h refl
 unfit_at : (kind : Option DispKind) (place : Place) (found : Option Data) (k : DispKind) (o : Option Data) → kind ≡ Some k → found ≡ o → group_unfit (Some k) place (is_some o) ≡ None → group_unfit kind place (is_some found) ≡ None
 unfit_at kind place found k o e f g = rw (e, f) g
 
-group_known : (s : SceneParts) (names : Declared) (a : AgentDef) (place : Place) → Told s a → Stands s names → group_fault names place (agent_data s a) ≡ None
+group_known : (s : SceneParts) (names : Declared) (a : AgentDef) (place : Place) → Told s a → AreDeclared s names → group_fault names place (agent_data s a) ≡ None
 group_known s names a place c st =
     unfit_at (option_map (kind_at names) (disp_number_in names (agent_data s a))) place (get (codes "group") (agent_data s a)) (scene_disp s a.disp).kind (group_field s a)
     (ap (option_map (kind_at names)) (disp_again s names a c st) ∙ ap Some (disp_kind_again s names a.disp st c.agent.disp)) (got_group s a)
     (group_fits (scene_disp s a.disp).kind (length (groups_of s a.disp)) place (group_at s a.disp) a.group c.agent.group)
 
-enter_known : (s : SceneParts) (names : Declared) (scope : Scope) (a : AgentDef) (place : Place) → Told s a → Stands s names → known_step (knows_in names scope) (enters object.Agent place (agent_data s a)) ≡ Ok (knows_at names a)
+enter_known : (s : SceneParts) (names : Declared) (scope : Scope) (a : AgentDef) (place : Place) → Told s a → AreDeclared s names → known_step (knows_in names scope) (enters object.Agent place (agent_data s a)) ≡ Ok (knows_at names a)
 enter_known s names scope a place c st =
     ap (λ (o : Option SceneFault). unless_faulty (knows_in names (scope_of (agent_data s a))) o) (group_known s names a place c st) ∙ ap (λ (x : Scope). ok (knows_in names x)) (scope_again s a c)
 
-pub agent_known : (s : SceneParts) (names : Declared) (scope : Scope) (n : ℕ) (a : AgentDef) (place : Place) → Told s a → Stands s names → run known_step (knows_in names scope) (visits (suc (suc n)) object.Agent place (agent_data s a)) ≡ Ok (knows_at names a)
+pub agent_known : (s : SceneParts) (names : Declared) (scope : Scope) (n : ℕ) (a : AgentDef) (place : Place) → Told s a → AreDeclared s names → run known_step (knows_in names scope) (visits (suc (suc n)) object.Agent place (agent_data s a)) ≡ Ok (knows_at names a)
 agent_known s names scope n a place c st =
     let k : Known = knows_at names a in
     agent_run known_step (knows_in names scope) k k k k n s a place (λ f x. refl) (enter_known s names scope a place c st) refl (disp_field_known s a names place c st) (group_field_known k place (agent_data s a) (group_field s a)) refl refl
@@ -394,12 +394,12 @@ agent_known s names scope n a place c st =
 
 -- ---- the fourth pass
 
-var_again : (zs : List ℤ) (k : ℕ) → AllByRecursion (λ z. fits z ≡ true) zs → k < length zs → get_or zs k (pos 0) ≡ var_at k (items_of (map number_data zs))
+var_again : (zs : List ℤ) (k : ℕ) → AllByRecursion (λ z. is_number z ≡ true) zs → k < length zs → get_or zs k (pos 0) ≡ var_at k (items_of (map number_data zs))
 var_again [] k h l = absurd (omega arith)
 var_again (z ∷ zs) zero h l = sym (ap (ok_or (pos 0)) (number_again z h.0))
 var_again (z ∷ zs) (suc k) h l = var_again zs k h.1 (omega arith)
 
-vars_again : (zs : List ℤ) → length zs ≡ 16 → AllByRecursion (λ z. fits z ≡ true) zs → vars_in (items_of (map number_data zs)) ≡ zs
+vars_again : (zs : List ℤ) → length zs ≡ 16 → AllByRecursion (λ z. is_number z ≡ true) zs → vars_in (items_of (map number_data zs)) ≡ zs
 vars_again zs e h = sym (fill_by_all (λ (k : ℕ). var_at k (items_of (map number_data zs))) zs 16 (pos 0) e (λ k l. var_again zs k h (subst (λ m. k < m) (sym e) l)))
 
 states_again : (s : SceneParts) (a : AgentDef) → Told s a → states_read (scope_for a) (state_items (agent_data s a)) ≡ a.tree
@@ -407,7 +407,7 @@ states_again s a c =
     ap (λ (o : Option Data). states_read (scope_for a) (list_of o)) (got s a (codes "states") (λ x y. refl)) ∙ map_again (state_data s a) (state_of (scope_for a)) (λ x. x.state) (states_of a) (each-weaker (IsStateOf s a) (λ x. state_of (scope_for a) (state_data s a x) ≡ x.state) (λ x h. state_read s a x c h) (states_of a) (agent_states s a c))
     ∙ states_stated a.state_names a.tree (behind (behind a.code)) c.agent.state_names
 
-rows_again : (k : ℕ) (s : SceneParts) (a : AgentDef) (names : Declared) → Told s a → Stands s names → rows_read k names (scope_for a) (row_items (agent_data s a)) ≡ a.rows
+rows_again : (k : ℕ) (s : SceneParts) (a : AgentDef) (names : Declared) → Told s a → AreDeclared s names → rows_read k names (scope_for a) (row_items (agent_data s a)) ≡ a.rows
 rows_again k s a names c st =
     ap (λ (o : Option Data). rows_read k names (scope_for a) (list_of o)) (got s a (codes "on") (λ x y. refl)) ∙ map_again (row_data s a) (row_of k names (scope_for a)) (λ x. x.row) (rows_of a) (each-weaker (IsRowOf s a) (λ x. row_of k names (scope_for a) (row_data s a x) ≡ x.row) (λ x h. row_read k s a names x c st h) (rows_of a) (agent_rows s a c))
     ∙ rows_rows a.row_ids a.rows (behind_states (length a.tree) (behind (behind a.code))) c.agent.row_ids
@@ -416,7 +416,7 @@ map_same : {X : Type 0} (xs : List X) → map (λ (x : X). x) xs ≡ xs
 map_same [] = refl
 map_same {X = X} (x ∷ xs) = ap (λ (l : List X). x ∷ l) (map_same xs)
 
-filters_again : (s : SceneParts) (a : AgentDef) (names : Declared) → Told s a → Stands s names → filters_read names (filter_items (agent_data s a)) ≡ a.filters
+filters_again : (s : SceneParts) (a : AgentDef) (names : Declared) → Told s a → AreDeclared s names → filters_read names (filter_items (agent_data s a)) ≡ a.filters
 filters_again s a names c st =
     map_again (filter_data s) (filter_of names) (λ x. x) a.filters (each-weaker (IsFilterOf s) (λ x. filter_of names (filter_data s x) ≡ x) (λ x h. filter_read names s x c.scene c.writable st h) a.filters (agent_filters s a c))
     ∙ map_same a.filters
@@ -445,13 +445,13 @@ small_disp : (s : SceneParts) (d : DispId) → IsScene s → d.0 < length s.disp
 small_disp s d h l = let few : length s.dispatchers ≤ 64 = h.few_dispatchers in narrow_small d.0 (omega arith)
 
 -- the dispatcher and the group of an agent
-disp_id_again : (s : SceneParts) (names : Declared) (a : AgentDef) → Told s a → Stands s names → (disp_in names (agent_data s a)).0 ≡ a.disp.0
+disp_id_again : (s : SceneParts) (names : Declared) (a : AgentDef) → Told s a → AreDeclared s names → (disp_in names (agent_data s a)).0 ≡ a.disp.0
 disp_id_again s names a c st = ap narrow_or_zero (disp_again s names a c st) ∙ small_disp s a.disp c.scene c.agent.disp
 
 disp_numbered : ℕ → DispId
 disp_numbered k = record { 0 = k }
 
-disp_in_again : (s : SceneParts) (names : Declared) (a : AgentDef) → Told s a → Stands s names → disp_in names (agent_data s a) ≡ a.disp
+disp_in_again : (s : SceneParts) (names : Declared) (a : AgentDef) → Told s a → AreDeclared s names → disp_in names (agent_data s a) ≡ a.disp
 unfolding disp_numbered
 disp_in_again s names a c st = ap disp_numbered (disp_id_again s names a c st)
 
@@ -468,7 +468,7 @@ agent_name_read s a e = rw (got s a (codes "name") (λ x y. refl), name_utf8 a.n
 vars_found : (s : SceneParts) (a : AgentDef) → Told s a → vars_in (list_of (get (codes "vars") (agent_data s a))) ≡ a.vars.0
 vars_found s a c = ap (λ (o : Option Data). vars_in (list_of o)) (got s a (codes "vars") (λ x y. refl)) ∙ vars_again a.vars.0 c.agent.vars c.written.vars
 
-agent_read : (k : ℕ) (s : SceneParts) (a : AgentDef) (names : Declared) (groups : List Group) (coop : CoopId) → Told s a → Stands s names → coop.0 ≡ a.coop.0 → group_number a.disp (group_text s a) groups ≡ a.group → agent_with k coop names groups (agent_data s a) a.tree (scope_for a) a.code ≡ a
+agent_read : (k : ℕ) (s : SceneParts) (a : AgentDef) (names : Declared) (groups : List Group) (coop : CoopId) → Told s a → AreDeclared s names → coop.0 ≡ a.coop.0 → group_number a.disp (group_text s a) groups ≡ a.group → agent_with k coop names groups (agent_data s a) a.tree (scope_for a) a.code ≡ a
 agent_read k s a names groups coop c st o g =
     agent_made a _ _ _ _ _ _ _ _ (agent_name_read s a c.written.name) o (disp_id_again s names a c st)
     (ap (λ (d : DispId). group_number d (group_in (agent_data s a)) groups) (disp_in_again s names a c st) ∙ (ap (λ (o : Option (List ℕ)). group_number a.disp o groups) (group_in_again s a c) ∙ g))
@@ -477,8 +477,8 @@ agent_read k s a names groups coop c st o g =
 abbrev fresh_at : List (List ℕ) → Scope → CodeBuilder
 fresh_at texts scope = record { texts = texts; code = []; scope = scope }
 
-written_again : (s : SceneParts) (a : AgentDef) (names : Declared) (n : ℕ) → Told s a → Stands s names → AreNumbered n a.code → n ≤ length s.texts
-    → agent_written names (fresh (take n s.texts) (agent_data s a)) (agent_data s a) ≡ at s a (texts_behind n a.code) a.code
+written_again : (s : SceneParts) (a : AgentDef) (names : Declared) (n : ℕ) → Told s a → AreDeclared s names → AreNumbered n a.code → n ≤ length s.texts
+    → agent_written names (new_code (take n s.texts) (agent_data s a)) (agent_data s a) ≡ at s a (texts_behind n a.code) a.code
 written_again s a names n c st m l = ap (λ (x : Scope). agent_written names (fresh_at (take n s.texts) x) (agent_data s a)) (scope_again s a c) ∙ agent_again s a names n c st m l
 
 not_long : (s : SceneParts) (a : AgentDef) → Told s a → is_long (agent_data s a) ≡ false
@@ -505,14 +505,14 @@ regrouped s groups a = with_group a.disp (group_text s a) groups
 tree_sound : (place : Place) (states : List State) → tree_fault states ≡ None → tree_of place states ≡ Ok states
 tree_sound place states e = rw e
 
-agent_added_again : (s : SceneParts) (names : Declared) (coops : List CoopDef) (agents : List AgentDef) (n : ℕ) (groups : List Group) (a : AgentDef) → Told s a → Stands s names → IsLast coops a → group_number a.disp (group_text s a) groups ≡ a.group
+agent_added_again : (s : SceneParts) (names : Declared) (coops : List CoopDef) (agents : List AgentDef) (n : ℕ) (groups : List Group) (a : AgentDef) → Told s a → AreDeclared s names → IsLast coops a → group_number a.disp (group_text s a) groups ≡ a.group
     → agent_added (built s names coops agents n groups) (agent_data s a) a.tree (at s a (texts_behind n a.code) a.code) ≡ built s names (one_more coops) (agents ++ a ∷ []) (texts_behind n a.code) (regrouped s groups a)
 agent_added_again s names coops agents n groups a c st o g =
     ap (λ (x : AgentDef). built s names (one_more coops) (agents ++ x ∷ []) (texts_behind n a.code) (with_group (disp_in names (agent_data s a)) (group_in (agent_data s a)) groups)) (agent_read (length agents) s a names groups (last_coop coops) c st o.last g)
     ∙ (ap (λ (d : DispId). built s names (one_more coops) (agents ++ a ∷ []) (texts_behind n a.code) (with_group d (group_in (agent_data s a)) groups)) (disp_in_again s names a c st)
     ∙ ap (λ (o : Option (List ℕ)). built s names (one_more coops) (agents ++ a ∷ []) (texts_behind n a.code) (with_group a.disp o groups)) (group_in_again s a c))
 
-agent_opens : (s : SceneParts) (names : Declared) (coops : List CoopDef) (agents : List AgentDef) (n : ℕ) (groups : List Group) (a : AgentDef) (place : Place) → Told s a → Stands s names → AreNumbered n a.code → n ≤ length s.texts → IsLast coops a → group_number a.disp (group_text s a) groups ≡ a.group
+agent_opens : (s : SceneParts) (names : Declared) (coops : List CoopDef) (agents : List AgentDef) (n : ℕ) (groups : List Group) (a : AgentDef) (place : Place) → Told s a → AreDeclared s names → AreNumbered n a.code → n ≤ length s.texts → IsLast coops a → group_number a.disp (group_text s a) groups ≡ a.group
     → with_agent place (built s names coops agents n groups) (agent_data s a) ≡ Ok (built s names (one_more coops) (agents ++ a ∷ []) (texts_behind n a.code) (regrouped s groups a))
 agent_opens s names coops agents n groups a place c st m l o g =
     let b : Build = built s names coops agents n groups in
@@ -541,7 +541,7 @@ pub all_unit : {X : Type 0} (xs : List X) → AllByRecursion (λ (x : X). Unit {
 all_unit [] = tt
 all_unit (x ∷ xs) = (tt, all_unit xs)
 
-pub agent_build : (s : SceneParts) (names : Declared) (coops : List CoopDef) (agents : List AgentDef) (n : ℕ) (groups : List Group) (k : ℕ) (a : AgentDef) (place : Place) → Told s a → Stands s names → AreNumbered n a.code → n ≤ length s.texts → IsLast coops a → group_number a.disp (group_text s a) groups ≡ a.group
+pub agent_build : (s : SceneParts) (names : Declared) (coops : List CoopDef) (agents : List AgentDef) (n : ℕ) (groups : List Group) (k : ℕ) (a : AgentDef) (place : Place) → Told s a → AreDeclared s names → AreNumbered n a.code → n ≤ length s.texts → IsLast coops a → group_number a.disp (group_text s a) groups ≡ a.group
     → run build_step (built s names coops agents n groups) (visits (suc (suc k)) object.Agent place (agent_data s a)) ≡ Ok (built s names (one_more coops) (agents ++ a ∷ []) (texts_behind n a.code) (regrouped s groups a))
 agent_build s names coops agents n groups k a place c st m l o g =
     let b : Build = built s names (one_more coops) (agents ++ a ∷ []) (texts_behind n a.code) (regrouped s groups a) in

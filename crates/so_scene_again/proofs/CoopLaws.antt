@@ -44,7 +44,7 @@ use Rattle.so_scene_data.specs.Canonical.{given, agents_of, agent_data, coop_dat
 use Rattle.so_scene_data.proofs.Writable.{IsWritable, AreNumberedIn, texts_behind, texts_of_agents, next_text}
 use Rattle.so_scene_data.proofs.Named.{absent, each_back, each_of, front_new, name_utf8, next_distinct, next_new}
 use Rattle.so_scene_data.proofs.Walks.{ok, object_run, field_run, fields_none, plain_field, plain_found, list_field, first_fine, every, run_same, items_go, items_done}
-use Rattle.so_scene_data.proofs.ActLaws.{Stands, Told, coop_legal, coop_number, few_coops, is_there, name_read, narrow_small, scope_for, shown_name}
+use Rattle.so_scene_data.proofs.ActLaws.{AreDeclared, Told, coop_legal, coop_number, few_coops, is_there, name_read, narrow_small, scope_for, shown_name}
 use Rattle.so_scene_data.proofs.BodyLaws.{next_log}
 use Rattle.so_scene_again.proofs.AgentLaws.{with_agent_names, agent_shape, agent_twice, agent_known, agent_build, built, regrouped, IsLast, Tries, Passes}
 use Rattle.so_scene_data.proofs.GroupLaws.{AreLeft, group_again}
@@ -274,7 +274,7 @@ pub scope_behind_coops : SceneParts → Scope → List CoopDef → Scope
 scope_behind_coops s scope [] = scope
 scope_behind_coops s scope (c ∷ coops) = scope_behind_coops s (scope_behind scope (agents_of s c)) coops
 
-agents_known : (s : SceneParts) (names : Declared) (scope : Scope) (agents : List AgentDef) (place : Place) (i : ℕ) → AllByRecursion (Told s) agents → Stands s names
+agents_known : (s : SceneParts) (names : Declared) (scope : Scope) (agents : List AgentDef) (place : Place) (i : ℕ) → AllByRecursion (Told s) agents → AreDeclared s names
     → run known_step (knows_with names scope) (items_from (visits 2 object.Agent) place i (items_of (map (agent_data s) agents))) ≡ Ok (knows_with names (scope_behind scope agents))
 unfolding scope_behind
 agents_known s names scope [] place i h st = items_done known_step (visits 2 object.Agent) (knows_with names scope) place i
@@ -282,20 +282,20 @@ agents_known s names scope (a ∷ agents) place i h st =
     items_go known_step (visits 2 object.Agent) (knows_with names scope) (knows_with names (scope_for a)) (agent_data s a) (items_of (map (agent_data s) agents)) place i (agent_known s names scope 0 a (at_item place i) h.0 st)
     ∙ agents_known s names (scope_for a) agents place (suc i) h.1 st
 
-parent_known : (k : Known) (s : SceneParts) (place : Place) (d : Data) (o : Option CoopId) → IsScene s → IsWritable s → Stands s k.names → IsParent (length s.coops) o → Tries known_step k place d parent_rule (parent_field s o)
+parent_known : (k : Known) (s : SceneParts) (place : Place) (d : Data) (o : Option CoopId) → IsScene s → IsWritable s → AreDeclared s k.names → IsParent (length s.coops) o → Tries known_step k place d parent_rule (parent_field s o)
 parent_known k s place d None h g st l = refl
 parent_known k s place d (Some p) h g st l =
     ap (λ (x : Data). known_step k (tries parent_rule (at_key place parent_rule) d (Some x))) (shown_name (coop_text s p) (coop_legal s p g l))
     ∙ ap (λ (t : Option Trouble). unless_faulty k (trouble_at (at_key place parent_rule) t)) (is_there k.names.coops (coop_text s p) p.0 (coop_number s k.names p h st l))
 
-coop_known : (s : SceneParts) (names : Declared) (scope : Scope) (c : CoopDef) (place : Place) → IsScene s → IsWritable s → Stands s names → IsCoopOf s c
+coop_known : (s : SceneParts) (names : Declared) (scope : Scope) (c : CoopDef) (place : Place) → IsScene s → IsWritable s → AreDeclared s names → IsCoopOf s c
     → run known_step (knows_with names scope) (visits 3 object.Coop place (coop_data s c)) ≡ Ok (knows_with names (scope_behind scope (agents_of s c)))
 coop_known s names scope c place h g st i =
     let k : Known = knows_with names scope in
     coop_run known_step k k (knows_with names (scope_behind scope (agents_of s c))) s c place (λ x. refl) refl refl (parent_known k s place (coop_data s c) c.parent h g st i.coop.parent) refl refl
     (agents_known s names scope (agents_of s c) _ 0 i.told st) refl
 
-pub coops_known : (s : SceneParts) (names : Declared) (scope : Scope) (coops : List CoopDef) (place : Place) (i : ℕ) → IsScene s → IsWritable s → Stands s names → AllByRecursion (IsCoopOf s) coops
+pub coops_known : (s : SceneParts) (names : Declared) (scope : Scope) (coops : List CoopDef) (place : Place) (i : ℕ) → IsScene s → IsWritable s → AreDeclared s names → AllByRecursion (IsCoopOf s) coops
     → run known_step (knows_with names scope) (items_from (visits 3 object.Coop) place i (items_of (map (coop_data s) coops))) ≡ Ok (knows_with names (scope_behind_coops s scope coops))
 unfolding scope_behind_coops
 coops_known s names scope [] place i h g st cs = items_done known_step (visits 3 object.Coop) (knows_with names scope) place i
@@ -371,7 +371,7 @@ is_last coops c a l own =
 same_built : (s : SceneParts) (names : Declared) (n : ℕ) (groups : List Group) (cs ds : List CoopDef) (xs ys : List AgentDef) → cs ≡ ds → xs ≡ ys → ok (built s names cs xs n groups) ≡ ok (built s names ds ys n groups)
 same_built s names n groups cs ds xs ys e f = rw (e, f) refl
 
-one_agent : (s : SceneParts) (names : Declared) (coops : List CoopDef) (c : CoopDef) (j : ℕ) (done : List AgentDef) (n : ℕ) (groups : List Group) (a : AgentDef) (more : List AgentDef) (place : Place) → Told s a → IsOf (length coops) a → Stands s names
+one_agent : (s : SceneParts) (names : Declared) (coops : List CoopDef) (c : CoopDef) (j : ℕ) (done : List AgentDef) (n : ℕ) (groups : List Group) (a : AgentDef) (more : List AgentDef) (place : Place) → Told s a → IsOf (length coops) a → AreDeclared s names
     → length coops < 2 ^ 32 → suc j < 2 ^ 32 → AreNumberedIn n (a ∷ []) → n ≤ length s.texts → AreLeft s groups (a ∷ more)
     → run build_step (built s names (coops ++ counted c j ∷ []) done n groups) (visits 2 object.Agent place (agent_data s a)) ≡ Ok (built s names (coops ++ counted c (suc j) ∷ []) (done ++ a ∷ []) (texts_behind n a.code) (regrouped s groups a))
 one_agent s names coops c j done n groups a more place h own st few small m l left =
@@ -379,7 +379,7 @@ one_agent s names coops c j done n groups a more place h own st few small m l le
     agent_build s names (coops ++ counted c j ∷ []) done n groups 0 a place h st m.0 l (is_last coops (counted c j) a few own) group.0
     ∙ same_built s names (texts_behind n a.code) (regrouped s groups a) _ _ _ _ (one_more_last coops c j small) refl
 
-agents_build : (s : SceneParts) (names : Declared) (coops : List CoopDef) (c : CoopDef) (j : ℕ) (done : List AgentDef) (n : ℕ) (groups : List Group) (agents more : List AgentDef) (place : Place) (i : ℕ) → AllByRecursion (Told s) agents → AllByRecursion (IsOf (length coops)) agents → Stands s names
+agents_build : (s : SceneParts) (names : Declared) (coops : List CoopDef) (c : CoopDef) (j : ℕ) (done : List AgentDef) (n : ℕ) (groups : List Group) (agents more : List AgentDef) (place : Place) (i : ℕ) → AllByRecursion (Told s) agents → AllByRecursion (IsOf (length coops)) agents → AreDeclared s names
     → length coops < 2 ^ 32 → j + length agents < 2 ^ 32 → AreNumberedIn n agents → n ≤ length s.texts → AreLeft s groups (agents ++ more)
     → run build_step (built s names (coops ++ counted c j ∷ []) done n groups) (items_from (visits 2 object.Agent) place i (items_of (map (agent_data s) agents)))
     ≡ Ok (built s names (coops ++ counted c (j + length agents) ∷ []) (done ++ agents) (texts_of_agents n agents) (groups_behind s groups agents))
@@ -401,7 +401,7 @@ agents_build s names coops c j done n groups (a ∷ agents) more place i h own s
 abbrev parent_made : Declared → Option Data → Option CoopId
 parent_made names found = if is_some found then Some (record { 0 = narrow_or_zero (number_in names.coops (text_or_empty (option_and_then as_str found))) }) else None
 
-parent_again : (s : SceneParts) (names : Declared) (o : Option CoopId) → IsScene s → IsWritable s → Stands s names → IsParent (length s.coops) o → parent_made names (parent_field s o) ≡ o
+parent_again : (s : SceneParts) (names : Declared) (o : Option CoopId) → IsScene s → IsWritable s → AreDeclared s names → IsParent (length s.coops) o → parent_made names (parent_field s o) ≡ o
 parent_again s names None h g st l = refl
 parent_again s names (Some p) h g st l = rw (name_utf8 _ (coop_legal s p g l), coop_number s names p h st l, narrow_small p.0 (few_coops s p h l)) refl
 
@@ -412,11 +412,11 @@ coop_made c name parent first e f g = rw (e, f, g) refl
 legal_again : (name : List ℕ) → is_name name ≡ true → text_or_empty (if is_name name then Some name else None) ≡ name
 legal_again name e = rw e refl
 
-coop_again : (s : SceneParts) (names : Declared) (c : CoopDef) (n : ℕ) → IsScene s → IsWritable s → Stands s names → IsCoop s c → n < 2 ^ 32 → n ≡ c.first.0 → coop_read n names (coop_data s c) ≡ counted c 0
+coop_again : (s : SceneParts) (names : Declared) (c : CoopDef) (n : ℕ) → IsScene s → IsWritable s → AreDeclared s names → IsCoop s c → n < 2 ^ 32 → n ≡ c.first.0 → coop_read n names (coop_data s c) ≡ counted c 0
 coop_again s names c n h g st i l e =
     coop_made c _ _ _ (rw (name_utf8 c.name i.named) (legal_again c.name i.named)) (ap (parent_made names) (got_parent s c) ∙ parent_again s names c.parent h g st i.parent) (narrow_small n l ∙ e)
 
-coop_opens : (s : SceneParts) (names : Declared) (coops : List CoopDef) (done : List AgentDef) (n : ℕ) (groups : List Group) (c : CoopDef) (place : Place) → IsScene s → IsWritable s → Stands s names → IsCoop s c → length done < 2 ^ 32 → length done ≡ c.first.0
+coop_opens : (s : SceneParts) (names : Declared) (coops : List CoopDef) (done : List AgentDef) (n : ℕ) (groups : List Group) (c : CoopDef) (place : Place) → IsScene s → IsWritable s → AreDeclared s names → IsCoop s c → length done < 2 ^ 32 → length done ≡ c.first.0
     → build_step (built s names coops done n groups) (enters object.Coop place (coop_data s c)) ≡ Ok (built s names (coops ++ counted c 0 ∷ []) done n groups)
 coop_opens s names coops done n groups c place h g st i l e = ap (λ (x : CoopDef). ok (built s names (coops ++ x ∷ []) done n groups)) (coop_again s names c (length done) h g st i l e)
 
@@ -424,7 +424,7 @@ coop_opens s names coops done n groups c place h g st i l e = ap (λ (x : CoopDe
 abbrev pub all_behind : SceneParts → Declared → List CoopDef → List AgentDef → ℕ → List Group → List AgentDef → Build
 all_behind s names coops done n groups agents = built s names coops (done ++ agents) (texts_of_agents n agents) (groups_behind s groups agents)
 
-coop_build : (s : SceneParts) (names : Declared) (coops : List CoopDef) (from : ℕ) (done : List AgentDef) (n : ℕ) (groups : List Group) (c : CoopDef) (more : List AgentDef) (place : Place) → IsScene s → IsWritable s → Stands s names
+coop_build : (s : SceneParts) (names : Declared) (coops : List CoopDef) (from : ℕ) (done : List AgentDef) (n : ℕ) (groups : List Group) (c : CoopDef) (more : List AgentDef) (place : Place) → IsScene s → IsWritable s → AreDeclared s names
     → IsBlock s (length coops) from c → length done ≡ from → from ≤ length s.agents → length (agents_of s c) ≤ length s.agents → length coops < 2 ^ 32 → AreNumberedIn n (agents_of s c ++ more) → n ≤ length s.texts → AreLeft s groups (agents_of s c ++ more)
     → run build_step (built s names coops done n groups) (visits 3 object.Coop place (coop_data s c)) ≡ Ok (all_behind s names (coops ++ c ∷ []) done n groups (agents_of s c))
 coop_build s names coops from done n groups c more place h g st b e low few small m l left =
@@ -447,7 +447,7 @@ unfolding groups_behind
 none_left s names coops done n groups left e =
     same_built s names n groups coops (coops ++ []) done (done ++ []) (sym (append-nil coops)) (sym (append-nil done)) ∙ ap (λ (xs : List AgentDef). ok (all_behind s names (coops ++ []) done n groups xs)) (sym e)
 
-pub coops_build : (s : SceneParts) (names : Declared) (done : List CoopDef) (k from : ℕ) (before : List AgentDef) (n : ℕ) (groups : List Group) (coops : List CoopDef) (place : Place) (i : ℕ) → IsScene s → IsWritable s → Stands s names
+pub coops_build : (s : SceneParts) (names : Declared) (done : List CoopDef) (k from : ℕ) (before : List AgentDef) (n : ℕ) (groups : List Group) (coops : List CoopDef) (place : Place) (i : ℕ) → IsScene s → IsWritable s → AreDeclared s names
     → AreBlocks s k from coops → length done ≡ k → length before ≡ from → from + length (drop from s.agents) ≡ length s.agents → k + length coops ≤ 1024 → AreNumberedIn n (drop from s.agents) → n ≤ length s.texts → AreLeft s groups (drop from s.agents)
     → run build_step (built s names done before n groups) (items_from (visits 3 object.Coop) place i (items_of (map (coop_data s) coops))) ≡ Ok (all_behind s names (done ++ coops) before n groups (drop from s.agents))
 coops_build s names done k from before n groups [] place i h g st b d e f few m l left =

@@ -52,8 +52,8 @@ use Rattle.so_scene_data.proofs.Writable.{IsStateName, IsWritable}
 use Rattle.so_scene_data.proofs.Named.{name_utf8, number_at}
 use Rattle.so_scene_data.proofs.Shown.{number_again, cmp_again}
 use Rattle.so_scene_data.proofs.Walks.{ok, AllFine, acts_fine, shown_len}
-use Rattle.so_code.specs.Values.{fits}
-use Rattle.so_scene_data.proofs.ActLaws.{narrow_small, Stands, Told, scope_for, knows_at, is_there, act_fine, act_known, shown_name, message_legal, message_number, mbox_legal, mbox_number, state_legal, state_number_again}
+use Rattle.so_code.specs.Values.{is_number}
+use Rattle.so_scene_data.proofs.ActLaws.{narrow_small, AreDeclared, Told, scope_for, knows_at, is_there, act_fine, act_known, shown_name, message_legal, message_number, mbox_legal, mbox_number, state_legal, state_number_again}
 use Rattle.so_scene_data.proofs.BodyLaws.{AreTold, handler_of}
 
 -- ---- messages
@@ -104,7 +104,7 @@ told_fine : (s : SceneParts) (a : AgentDef) (allowed : Allowed) (acts : List Ins
 told_fine s a allowed [] c t l = tt
 told_fine s a allowed (i ∷ acts) c t l = (act_fine s a allowed (length acts) i c t.0 (omega arith), told_fine s a allowed acts c t.1 (omega arith))
 
-told_known : (s : SceneParts) (a : AgentDef) (names : Declared) (allowed : Allowed) (acts : List Instr) → Told s a → Stands s names → AreTold s a allowed acts → AllFine (act_data s a) (λ rest d. act_unknown (knows_at names a) d) acts
+told_known : (s : SceneParts) (a : AgentDef) (names : Declared) (allowed : Allowed) (acts : List Instr) → Told s a → AreDeclared s names → AreTold s a allowed acts → AllFine (act_data s a) (λ rest d. act_unknown (knows_at names a) d) acts
 told_known s a names allowed [] c n t = tt
 told_known s a names allowed (i ∷ acts) c n t = (act_known s a names allowed (length acts) i c n t.0, told_known s a names allowed acts c n t.1)
 
@@ -118,7 +118,7 @@ acts_shape s a allowed acts place c h =
     let few : length acts ≤ 256 = h.few in
     rw (shown_len (act_data s a) acts, le-leb (length acts) 256 few) (acts_fine (act_data s a) (act_trouble allowed) place 0 acts (told_fine s a allowed acts c h.told (omega arith)))
 
-pub acts_known : (s : SceneParts) (a : AgentDef) (names : Declared) (allowed : Allowed) (acts : List Instr) (place : Place) → Told s a → Stands s names → IsBody s a allowed acts → acts_from (λ rest d. act_unknown (knows_at names a) d) place 0 (items_of (map (act_data s a) acts)) ≡ None
+pub acts_known : (s : SceneParts) (a : AgentDef) (names : Declared) (allowed : Allowed) (acts : List Instr) (place : Place) → Told s a → AreDeclared s names → IsBody s a allowed acts → acts_from (λ rest d. act_unknown (knows_at names a) d) place 0 (items_of (map (act_data s a) acts)) ≡ None
 acts_known s a names allowed acts place c n h = acts_fine (act_data s a) (λ rest d. act_unknown (knows_at names a) d) place 0 acts (told_known s a names allowed acts c n h.told)
 
 -- ---- ids
@@ -156,7 +156,7 @@ filter_plain active c n id mbox msg value = object
     (member (codes "msg") (string msg)
     (member (codes "value") (number_data value) no_members)))))))
 
-filter_shape_at : (s : Shape) (n : ℕ) (place : Place) (active : Bool) (c : Cmp) (k : ℕ) (id : Option (List ℕ)) (x y : List ℕ) (z : ℤ) → k ≤ 3 → IsId id → is_name x ≡ true → is_name y ≡ true → fits z ≡ true
+filter_shape_at : (s : Shape) (n : ℕ) (place : Place) (active : Bool) (c : Cmp) (k : ℕ) (id : Option (List ℕ)) (x y : List ℕ) (z : ℤ) → k ≤ 3 → IsId id → is_name x ≡ true → is_name y ≡ true → is_number z ≡ true
     → run shape_step s (visits (suc n) object.Filter place (filter_plain active c k id x y z)) ≡ Ok s
 unfolding visits fields_of field_visits run has_unknown is_known filter_plain
 filter_shape_at s n place active c k None x y z l i e f g = rw (cmp_again c, field_again k l, e, f, number_again z g)
@@ -177,7 +177,7 @@ unfolding visits fields_of field_visits run filter_plain
 filter_known_at w n place active c k None x y z i j e f = rw (e, f)
 filter_known_at w n place active c k (Some id) x y z i j e f = rw (e, f)
 
-filter_read_at : (names : Declared) (active : Bool) (c : Cmp) (k : ℕ) (id : Option (List ℕ)) (x y : List ℕ) (z : ℤ) (mbox : MboxId) (msg : MsgId) → k ≤ 3 → IsId id → fits z ≡ true → number_in (names_in space.Mboxes names) x ≡ Some mbox.0 → number_in names.messages y ≡ Some msg.0
+filter_read_at : (names : Declared) (active : Bool) (c : Cmp) (k : ℕ) (id : Option (List ℕ)) (x y : List ℕ) (z : ℤ) (mbox : MboxId) (msg : MsgId) → k ≤ 3 → IsId id → is_number z ≡ true → number_in (names_in space.Mboxes names) x ≡ Some mbox.0 → number_in names.messages y ≡ Some msg.0
     → narrow mbox.0 ≡ mbox.0 → narrow msg.0 ≡ msg.0 → filter_of names (filter_plain active c k id x y z) ≡ record { id = id; mbox = mbox; msg = msg; field = k; cmp = c; value = z; active = active }
 unfolding filter_plain
 filter_read_at names active c k None x y z mbox msg l i g e f p q = rw (cmp_again c, field_again k l, e, f, p, q, number_again z g)
@@ -187,7 +187,7 @@ filter_read_at names active c k (Some id) x y z mbox msg l i g e f p q = rw (cmp
 pub record IsFilterOf (s : SceneParts) (f : FilterDef) : Type 0 where
   pub filter : IsFilter s f
   pub id : IsId f.id
-  pub value : fits f.value ≡ true
+  pub value : is_number f.value ≡ true
 
 few_names : (s : SceneParts) → IsScene s → (mboxes s ≤ 4352) × (length s.messages ≤ 256)
 few_names s h =
@@ -219,12 +219,12 @@ filter_twice d s n f place g h e =
     ap (λ (x : Data). run twice_step d (visits (suc n) object.Filter place x)) (filter_shown s f g h)
     ∙ filter_twice_at d n place f.active f.cmp f.field f.id (mbox_name s f.mbox) (message_text s f.msg) f.value h.id e
 
-pub filter_known : (w : Known) (s : SceneParts) (n : ℕ) (f : FilterDef) (place : Place) → IsScene s → IsWritable s → Stands s w.names → IsFilterOf s f → run known_step w (visits (suc n) object.Filter place (filter_data s f)) ≡ Ok w
+pub filter_known : (w : Known) (s : SceneParts) (n : ℕ) (f : FilterDef) (place : Place) → IsScene s → IsWritable s → AreDeclared s w.names → IsFilterOf s f → run known_step w (visits (suc n) object.Filter place (filter_data s f)) ≡ Ok w
 filter_known w s n f place sc g st h =
     ap (λ (x : Data). run known_step w (visits (suc n) object.Filter place x)) (filter_shown s f g h)
     ∙ filter_known_at w n place f.active f.cmp f.field f.id (mbox_name s f.mbox) (message_text s f.msg) f.value f.mbox.0 f.msg.0 (mbox_number s w.names f.mbox sc st h.filter.mbox) (message_number s w.names f.msg sc st h.filter.msg)
 
-pub filter_read : (names : Declared) (s : SceneParts) (f : FilterDef) → IsScene s → IsWritable s → Stands s names → IsFilterOf s f → filter_of names (filter_data s f) ≡ f
+pub filter_read : (names : Declared) (s : SceneParts) (f : FilterDef) → IsScene s → IsWritable s → AreDeclared s names → IsFilterOf s f → filter_of names (filter_data s f) ≡ f
 filter_read names s f sc g st h =
     ap (filter_of names) (filter_shown s f g h)
     ∙ filter_read_at names f.active f.cmp f.field f.id (mbox_name s f.mbox) (message_text s f.msg) f.value f.mbox f.msg h.filter.field h.id h.value (mbox_number s names f.mbox sc st h.filter.mbox) (message_number s names f.msg sc st h.filter.msg)
@@ -358,7 +358,7 @@ state_twice d s a n x place c h e =
     ap (λ (y : Data). run twice_step d (visits (suc n) object.State place y)) (state_shown s a x c h)
     ∙ state_twice_at d n place (act_items s a x.enter) (act_items s a x.exit) x.state.history x.state.initial x.name (option_map (state_text a) x.state.parent) h.name.legal e
 
-pub state_known : (s : SceneParts) (a : AgentDef) (names : Declared) (n : ℕ) (x : StateSource) (place : Place) → Told s a → Stands s names → IsStateOf s a x → run known_step (knows_at names a) (visits (suc n) object.State place (state_data s a x)) ≡ Ok (knows_at names a)
+pub state_known : (s : SceneParts) (a : AgentDef) (names : Declared) (n : ℕ) (x : StateSource) (place : Place) → Told s a → AreDeclared s names → IsStateOf s a x → run known_step (knows_at names a) (visits (suc n) object.State place (state_data s a x)) ≡ Ok (knows_at names a)
 state_known s a names n x place c st h =
     ap (λ (y : Data). run known_step (knows_at names a) (visits (suc n) object.State place y)) (state_shown s a x c h)
     ∙ state_known_at (knows_at names a) n place (act_items s a x.enter) (act_items s a x.exit) x.state.history x.state.initial x.name (option_map (state_text a) x.state.parent) (parent_among s a x.state.parent c h.parent)
@@ -608,7 +608,7 @@ what_fine s a acts state Suppress safe place c f b h = (tt, state_legal s a stat
 state_there : (s : SceneParts) (a : AgentDef) (x : StateId) → Told s a → x.0 ≤ length a.tree → absent_from (all_states (scope_for a)) (Some (state_text a x)) ≡ None
 state_there s a x c l = is_there (all_states (scope_for a)) (state_text a x) x.0 (state_number_again s a x c l)
 
-what_known : (s : SceneParts) (a : AgentDef) (names : Declared) (acts : List Instr) (state : StateId) (kind : RowKind) (allowed : Allowed) (place : Place) → Told s a → Stands s names → (has_handler kind ≡ true → IsBody s a allowed acts) → OnStates (IsStateId a) state kind
+what_known : (s : SceneParts) (a : AgentDef) (names : Declared) (acts : List Instr) (state : StateId) (kind : RowKind) (allowed : Allowed) (place : Place) → Told s a → AreDeclared s names → (has_handler kind ≡ true → IsBody s a allowed acts) → OnStates (IsStateId a) state kind
     → IsKnownWhat (knows_at names a) place (what_of (act_items s a acts) (state_text a) state kind)
 unfolding what_of
 what_known s a names acts state Run allowed place c st b h = (acts_known s a names allowed acts _ c st (b refl), state_there s a state c h)
@@ -628,7 +628,7 @@ row_twice d s a n x place c h e =
     ap (λ (y : Data). run twice_step d (visits (suc n) object.Row place y)) (row_shown s a x c h)
     ∙ row_twice_at d n place x.row.active x.id (mbox_name s x.row.mbox) (message_text s x.row.msg) x.row.safe _ h.id e
 
-pub row_known : (s : SceneParts) (a : AgentDef) (names : Declared) (n : ℕ) (x : RowSource) (place : Place) → Told s a → Stands s names → IsRowOf s a x → run known_step (knows_at names a) (visits (suc n) object.Row place (row_data s a x)) ≡ Ok (knows_at names a)
+pub row_known : (s : SceneParts) (a : AgentDef) (names : Declared) (n : ℕ) (x : RowSource) (place : Place) → Told s a → AreDeclared s names → IsRowOf s a x → run known_step (knows_at names a) (visits (suc n) object.Row place (row_data s a x)) ≡ Ok (knows_at names a)
 row_known s a names n x place c st h =
     ap (λ (y : Data). run known_step (knows_at names a) (visits (suc n) object.Row place y)) (row_shown s a x c h)
     ∙ row_known_at (knows_at names a) n place x.row.active x.id (mbox_name s x.row.mbox) (message_text s x.row.msg) x.row.mbox.0 x.row.msg.0 x.row.safe _ (mbox_number s names x.row.mbox c.scene st h.row.mbox) (message_number s names x.row.msg c.scene st h.row.msg)
@@ -637,7 +637,7 @@ row_known s a names n x place c st h =
 state_numbered : (s : SceneParts) (a : AgentDef) (x : StateId) → Told s a → x.0 ≤ length a.tree → IsNumbered (scope_for a) (state_text a) x
 state_numbered s a x c l = let few : length a.tree ≤ 63 = c.agent.tree.few in (state_number_again s a x c l, narrow_small x.0 (omega arith))
 
-pub row_read : (k : ℕ) (s : SceneParts) (a : AgentDef) (names : Declared) (x : RowSource) → Told s a → Stands s names → IsRowOf s a x → row_of k names (scope_for a) (row_data s a x) ≡ x.row
+pub row_read : (k : ℕ) (s : SceneParts) (a : AgentDef) (names : Declared) (x : RowSource) → Told s a → AreDeclared s names → IsRowOf s a x → row_of k names (scope_for a) (row_data s a x) ≡ x.row
 row_read k s a names x c st h =
     ap (row_of k names (scope_for a)) (row_shown s a x c h)
     ∙ row_read_at k names (scope_for a) x.row.active x.id (mbox_name s x.row.mbox) (message_text s x.row.msg) x.row.safe (act_items s a x.acts) (state_text a) x.row.state x.row.kind x.row.mbox x.row.msg (mbox_number s names x.row.mbox c.scene st h.row.mbox) (message_number s names x.row.msg c.scene st h.row.msg)

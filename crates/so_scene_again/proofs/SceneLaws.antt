@@ -44,7 +44,7 @@ use Rattle.so_scene_data.specs.Canonical.{scene_data, declared, disp_data, coop_
 use Rattle.so_scene_data.proofs.Writable.{writable, IsName, IsWritable, IsWritableAgent, texts_of_agents}
 use Rattle.so_scene_data.proofs.Named.{each_of, next_distinct, next_new}
 use Rattle.so_scene_data.proofs.Walks.{ok, object_run, field_run, fields_none, plain_field, list_field, every, run_same, items_go, items_done}
-use Rattle.so_scene_data.proofs.ActLaws.{Stands, Told, name_read}
+use Rattle.so_scene_data.proofs.ActLaws.{AreDeclared, Told, name_read}
 use Rattle.so_scene_again.proofs.ObjectLaws.{with_message, message_shape, message_twice, message_known, message_build, build_message}
 use Rattle.so_scene_again.proofs.AgentLaws.{list_fine, built, all_unit, Tries, Passes}
 use Rattle.so_scene_data.proofs.DispLaws.{first_default, each_declared, few_declared, distinct_declared, names_declared, kinds_declared, disp_shape, disp_known, disps_twice, disps_build}
@@ -189,7 +189,7 @@ outside s = record { messages = map message_name s.messages; dispatchers = map d
 names_for : SceneParts → Declared
 names_for s = names_behind_coops s (outside s) s.coops
 
-stands : (s : SceneParts) → IsScene s → IsWritable s → Stands s (names_for s)
+stands : (s : SceneParts) → IsScene s → IsWritable s → AreDeclared s (names_for s)
 unfolding names_for
 stands s h g =
     let r = behind_coops s (outside s) 0 0 s.coops (all_blocks s h g) in
@@ -218,7 +218,7 @@ scene_twice s h g =
 abbrev known_all : SceneParts → Declared → Known
 known_all s names = record { names = names; scope = scope_behind_coops s no_scope s.coops }
 
-scene_known : (s : SceneParts) (names : Declared) → IsScene s → IsWritable s → Stands s names → run known_step (knows names) (fields (scene_data s)) ≡ Ok (known_all s names)
+scene_known : (s : SceneParts) (names : Declared) → IsScene s → IsWritable s → AreDeclared s names → run known_step (knows names) (fields (scene_data s)) ≡ Ok (known_all s names)
 scene_known s names h g st =
     let k : Known = knows names in
     scene_run known_step k k k k k (known_all s names) s (λ f x. refl) refl refl refl refl
@@ -254,7 +254,7 @@ dispatchers_build s names place h =
 abbrev all_built : SceneParts → Declared → Build
 all_built s names = all_behind s names s.coops [] 0 [] s.agents
 
-scene_build : (s : SceneParts) (names : Declared) → IsScene s → IsWritable s → Stands s names → run build_step (no_parts names) (fields (scene_data s)) ≡ Ok (all_built s names)
+scene_build : (s : SceneParts) (names : Declared) → IsScene s → IsWritable s → AreDeclared s names → run build_step (no_parts names) (fields (scene_data s)) ≡ Ok (all_built s names)
 unfolding message_list
 scene_build s names h g st =
     let few : length s.coops ≤ 1024 = h.few_coops in
@@ -272,7 +272,7 @@ parts_same : (s : SceneParts) (mboxes : List (List ℕ)) (groups : List (List (L
     → (record { messages = s.messages; mboxes = mboxes; dispatchers = s.dispatchers; groups = groups; coops = s.coops; agents = s.agents; texts = texts; autoshutdown = s.autoshutdown }) ≡ s
 parts_same s mboxes groups texts e f g = rw (e, f, g) refl
 
-scene_parts : (s : SceneParts) (names : Declared) → IsScene s → IsWritable s → Stands s names → parts_of (all_built s names) ≡ s
+scene_parts : (s : SceneParts) (names : Declared) → IsScene s → IsWritable s → AreDeclared s names → parts_of (all_built s names) ≡ s
 scene_parts s names h g st = parts_same s _ _ _ st.mboxes (groups_again s (groups_behind s [] s.agents) h (groups_done s [] s.agents (told_all s h g) (all_left s h))) (all_texts s g)
 
 within_totals : (s : SceneParts) → IsScene s → exceeds s ≡ false
@@ -281,14 +281,14 @@ within_totals s h = rw (le-ltb 4096 (length s.agents) h.few_agents, le-ltb 4096 
 is_checked : (s : SceneParts) → IsScene s → checked s ≡ Ok s
 is_checked s h = rw (within_totals s h) refl
 
-is_finished : (s : SceneParts) (names : Declared) → IsScene s → IsWritable s → Stands s names → finished (all_built s names) ≡ Ok s
+is_finished : (s : SceneParts) (names : Declared) → IsScene s → IsWritable s → AreDeclared s names → finished (all_built s names) ≡ Ok s
 is_finished s names h g st = ap checked (scene_parts s names h g st) ∙ is_checked s h
 
 passes_again : (s : SceneParts) → IsScene s → IsWritable s → passes (scene_data s) ≡ Ok s
 unfolding passes
 passes_again s h g =
     let names : Declared = names_for s in
-    let st : Stands s names = stands s h g in
+    let st : AreDeclared s names = stands s h g in
     rw (scene_shape no_state s h g, scene_twice s h g, scene_known s names h g st, scene_build s names h g st) (is_finished s names h g st)
 
 -- the data of a scene reads as the scene

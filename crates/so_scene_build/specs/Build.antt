@@ -140,11 +140,11 @@ abbrev pub agent_of : ℕ → CoopId → Declared → List Group → Data → Li
 agent_of a coop names groups d tree w = agent_with a coop names groups d tree w.scope w.code
 
 -- a writer for an agent, with the texts so far
-abbrev pub fresh : List (List ℕ) → Data → CodeBuilder
-fresh texts d = record { texts = texts; code = []; scope = scope_of d }
+abbrev pub new_code : List (List ℕ) → Data → CodeBuilder
+new_code texts d = record { texts = texts; code = []; scope = scope_of d }
 
 abbrev pub written : Build → Data → CodeBuilder
-written s d = agent_written s.names (fresh s.texts d) d
+written s d = agent_written s.names (new_code s.texts d) d
 
 -- an agent, with its texts and its group
 abbrev pub agent_added : Build → Data → List State → CodeBuilder → Build

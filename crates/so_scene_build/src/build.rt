@@ -22,7 +22,7 @@ use serde_json::Value;
 use so_code::{Body, Code, Instr};
 use so_fault::{Field, PlaceStep, SceneFault, ScenePlace, SceneRefusal};
 use so_ids::{CoopId, RowId, StateId};
-use so_scene::{AgentDef, CoopDef, DispDef, Items, MessageDef, Name, Names};
+use so_scene::{AgentDef, CoopDef, DispDef, Items, MessageDef, Name, Strings};
 use so_scene_fields::act_table::{Allowed, handler_acts};
 use so_scene_fields::table::{Form, ObjectKind, Rule};
 use so_scene_fields::values::{flag_or, group_in, object_name};
@@ -167,7 +167,7 @@ fn count(found: Option<&Value>) -> usize
 /// The code of an agent of these names and ids, with the texts so far and its own.
 fn written(
     names: &Declared,
-    texts: Names,
+    texts: Strings,
     scope: Scope,
     value: &Value,
 ) -> Result<CodeBuilder, SceneRefusal>
@@ -251,7 +251,7 @@ pub struct Build {
     /// The last is that of the agents that follow.
     pub coops: Items<CoopDef>,
     pub agents: Items<AgentDef>,
-    pub texts: Names,
+    pub texts: Strings,
     pub autoshutdown: bool,
 }
 
@@ -269,7 +269,7 @@ impl Build {
             groups: Items::new(alloc),
             coops: Items::new(alloc),
             agents: Items::new(alloc),
-            texts: Names::new(alloc),
+            texts: Strings::new(alloc),
             autoshutdown: true,
         })
     }
@@ -319,12 +319,12 @@ impl Build {
     }
 
     /// The texts, which are taken out.
-    fn take_texts(&mut self) -> Names
+    fn take_texts(&mut self) -> Strings
         ensures taken { result ≡ self.old.texts }
         ensures rest { self.new ≡ record self.old { texts = [] } }
     {
         let alloc = self.texts.alloc();
-        mem::replace(&mut self.texts, Names::new(alloc))
+        mem::replace(&mut self.texts, Strings::new(alloc))
     }
 
     /// An agent.
@@ -395,7 +395,7 @@ impl Build {
     }
 
     /// An agent of the last cooperation, and all texts with its own.
-    fn add(&mut self, agent: AgentDef, texts: Names) -> Result<(), SceneRefusal>
+    fn add(&mut self, agent: AgentDef, texts: Strings) -> Result<(), SceneRefusal>
         ensures { Leaves (Ok (record self.old { coops = one_more self.old.coops; agents = self.old.agents ++ agent ∷ []; texts = texts })) result self.new }
     {
         self.texts = texts;

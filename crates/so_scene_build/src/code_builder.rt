@@ -15,7 +15,7 @@ use serde_json::Value;
 use so_code::{Args, Cmp, Dest, Instr, Operand};
 use so_fault::SceneRefusal;
 use so_ids::{CoopId, FilterId, MboxId, MsgId, RowId, StateId, Target, TextId};
-use so_scene::{Items, Names, is_text};
+use so_scene::{Items, Strings, is_text};
 use so_scene_fields::act_table::{Allowed, Word, is_allowed};
 use so_scene_fields::acts::parts;
 use so_scene_fields::table::Space;
@@ -27,7 +27,7 @@ use so_scene_passes::scope::{Scope, number_with};
 /// The texts so far, and the instructions of an agent so far with the names and ids that they may use.
 #[derive(Drop)]
 pub struct CodeBuilder {
-    pub texts: Names,
+    pub texts: Strings,
     pub code: Items<Instr>,
     pub scope: Scope,
 }

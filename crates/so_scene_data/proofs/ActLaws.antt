@@ -103,7 +103,7 @@ pub message_signal : MessageDef → Bool
 message_signal m = m.signal
 
 -- the names that the second pass leaves
-pub record Stands (s : SceneParts) (names : Declared) : Type 0 where
+pub record AreDeclared (s : SceneParts) (names : Declared) : Type 0 where
   pub coops : names.coops ≡ map coop_name s.coops
   pub agents : names.agents ≡ map agent_name s.agents
   pub mboxes : names.mboxes ≡ s.mboxes
@@ -128,7 +128,7 @@ message_at s m l = get_map message_name s.messages m.0 no_message [] l
 pub message_legal : (s : SceneParts) (m : MsgId) → IsWritable s → m.0 < length s.messages → is_name (message_text s m) ≡ true
 message_legal s m g l = subst (λ t. is_name t ≡ true) (message_at s m l) (each_at IsName (map message_name s.messages) m.0 [] g.messages (omega (arith, map_len message_name s.messages)))
 
-pub message_number : (s : SceneParts) (names : Declared) (m : MsgId) → IsScene s → Stands s names → m.0 < length s.messages → number_in names.messages (message_text s m) ≡ Some m.0
+pub message_number : (s : SceneParts) (names : Declared) (m : MsgId) → IsScene s → AreDeclared s names → m.0 < length s.messages → number_in names.messages (message_text s m) ≡ Some m.0
 message_number s names m h n l =
     ap (λ (l : List (List ℕ)). number_in l (message_text s m)) n.messages
     ∙ (ap (λ t. number_in (map message_name s.messages) t) (sym (message_at s m l))
@@ -144,13 +144,13 @@ mboxes_len s = omega (arith, length-append (map agent_name s.agents) s.mboxes, m
 pub mbox_legal : (s : SceneParts) (m : MboxId) → IsWritable s → m.0 < mboxes s → is_name (mbox_name s m) ≡ true
 mbox_legal s m g l = each_at IsName (mbox_names s) m.0 [] (each-append IsName (map agent_name s.agents) s.mboxes (names_legal s s.agents g.agents) g.mboxes) (omega (arith, mboxes_len s))
 
-pub mbox_number : (s : SceneParts) (names : Declared) (m : MboxId) → IsScene s → Stands s names → m.0 < mboxes s → number_in (names_in space.Mboxes names) (mbox_name s m) ≡ Some m.0
+pub mbox_number : (s : SceneParts) (names : Declared) (m : MboxId) → IsScene s → AreDeclared s names → m.0 < mboxes s → number_in (names_in space.Mboxes names) (mbox_name s m) ≡ Some m.0
 mbox_number s names m h n l = rw (n.agents, n.mboxes) (number_at (mbox_names s) m.0 h.names (omega (arith, mboxes_len s)))
 
 pub coop_legal : (s : SceneParts) (c : CoopId) → IsWritable s → c.0 < length s.coops → is_name (coop_text s c) ≡ true
 coop_legal s c g l = each_at (λ c. is_name c.name ≡ true) s.coops c.0 no_coop g.coops l
 
-pub coop_number : (s : SceneParts) (names : Declared) (c : CoopId) → IsScene s → Stands s names → c.0 < length s.coops → number_in names.coops (coop_text s c) ≡ Some c.0
+pub coop_number : (s : SceneParts) (names : Declared) (c : CoopId) → IsScene s → AreDeclared s names → c.0 < length s.coops → number_in names.coops (coop_text s c) ≡ Some c.0
 coop_number s names c h n l =
     ap (λ (l : List (List ℕ)). number_in l (coop_text s c)) n.coops
     ∙ (ap (λ t. number_in (map coop_name s.coops) t) (sym (get_map coop_name s.coops c.0 no_coop [] l))
@@ -291,7 +291,7 @@ signal_fine names name (suc used) [] b e f = refl
 signal_fine names name (suc used) (x ∷ list) false e f = rw e
 signal_fine names name (suc used) (x ∷ list) true e f = let z : suc used ≡ 0 = f refl in absurd (omega arith)
 
-signal_again : (s : SceneParts) (names : Declared) (m : MsgId) → IsScene s → Stands s names → m.0 < length s.messages → has_signal names (Some (message_text s m)) ≡ (message_of s m).signal
+signal_again : (s : SceneParts) (names : Declared) (m : MsgId) → IsScene s → AreDeclared s names → m.0 < length s.messages → has_signal names (Some (message_text s m)) ≡ (message_of s m).signal
 signal_again s names m h n l = rw (message_number s names m h n l, n.signals) (get_map (λ (x : MessageDef). x.signal) s.messages m.0 no_message false l)
 
 send_known : (s : SceneParts) (names : Declared) (scope : Scope) (x y : List ℕ) (i j : ℕ) (args : Args) → is_utf8 x ≡ true → is_utf8 y ≡ true → number_in (names_in space.Mboxes names) x ≡ Some i → number_in names.messages y ≡ Some j
@@ -308,7 +308,7 @@ knows_at names a = record { names = names; scope = scope_for a }
 pub is_there : (names : List (List ℕ)) (name : List ℕ) (k : ℕ) → number_in names name ≡ Some k → absent_from names (Some name) ≡ None
 is_there names name k e = rw e
 
-pub act_known : (s : SceneParts) (a : AgentDef) (names : Declared) (allowed : Allowed) (rest : ℕ) (i : Instr) → Told s a → Stands s names → IsTold s a allowed rest i → act_unknown (knows_at names a) (act_data s a i) ≡ None
+pub act_known : (s : SceneParts) (a : AgentDef) (names : Declared) (allowed : Allowed) (rest : ℕ) (i : Instr) → Told s a → AreDeclared s names → IsTold s a allowed rest i → act_unknown (knows_at names a) (act_data s a i) ≡ None
 act_known s a names allowed rest (instr.Set to x) c n t = refl
 act_known s a names allowed rest (instr.Add to x y) c n t = refl
 act_known s a names allowed rest (instr.Sub to x y) c n t = refl
@@ -425,7 +425,7 @@ send_at_again names allowed rest w x y i j args e f p q k l h g =
 switch_with : (o : Option ℕ) (w : CodeBuilder) (to : StateId) → o ≡ Some to.0 → narrow to.0 ≡ to.0 → with_instr (or_idle instr.Switch (option_map state_id o)) w ≡ with_instr (instr.Switch to) w
 switch_with o w to e f = rw (e, f)
 
-pub act_again : (s : SceneParts) (a : AgentDef) (names : Declared) (allowed : Allowed) (rest : ℕ) (n : ℕ) (code : List Instr) (i : Instr) → Told s a → Stands s names → IsTold s a allowed rest i → rest < 2 ^ 32 → IsNumbered n i → n ≤ length s.texts
+pub act_again : (s : SceneParts) (a : AgentDef) (names : Declared) (allowed : Allowed) (rest : ℕ) (n : ℕ) (code : List Instr) (i : Instr) → Told s a → AreDeclared s names → IsTold s a allowed rest i → rest < 2 ^ 32 → IsNumbered n i → n ≤ length s.texts
     → act_written names allowed rest (at s a n code) (act_data s a i) ≡ at s a (next_text n i) (code ++ i ∷ [])
 act_again s a names allowed rest n code (instr.Set to x) c st t r m k = let p = t.before.parts in rw (may allowed word.Set (item (dest_data to) (item (operand_data x) no_items)) refl (λ r. temporary_again to (item (operand_data x) no_items) p.0 ∙ t.safe r), dest_again to p.0, operand_again x p.1 t.written)
 act_again s a names allowed rest n code (instr.Add to x y) c st t r m k = let p = t.before.parts in rw (may allowed word.Add (item (dest_data to) (item (operand_data x) (item (operand_data y) no_items))) refl (λ r. temporary_again to (item (operand_data x) (item (operand_data y) no_items)) p.0 ∙ t.safe r), dest_again to p.0, operand_again x p.1 t.written.0, operand_again y p.2 t.written.1)

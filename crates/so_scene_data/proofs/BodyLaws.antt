@@ -40,7 +40,7 @@ use Rattle.so_scene_data.proofs.Found.{agent_plain, got}
 use Rattle.so_scene_data.proofs.Writable.{IsWrittenInstr, next_text, texts_behind, AreNumbered}
 use Rattle.so_scene_data.proofs.Named.{and_true, each_of}
 use Rattle.so_scene_data.proofs.Walks.{shown_len}
-use Rattle.so_scene_data.proofs.ActLaws.{Stands, Told, IsTold, at, act_again, narrow_small}
+use Rattle.so_scene_data.proofs.ActLaws.{AreDeclared, Told, IsTold, at, act_again, narrow_small}
 
 -- ---- a code is its bodies
 
@@ -230,7 +230,7 @@ behind_few : (s : SceneParts) (a : AgentDef) (allowed : Allowed) (n : ℕ) (acts
 behind_few s a allowed n [] t h = h
 behind_few s a allowed n (i ∷ acts) t h = behind_few s a allowed (next_text n i) acts t.1 (next_few s a allowed (length acts) n i t.0 h)
 
-acts_again : (s : SceneParts) (a : AgentDef) (names : Declared) (allowed : Allowed) (n : ℕ) (done acts : List Instr) → Told s a → Stands s names → AreTold s a allowed acts → AreNumbered n acts → n ≤ length s.texts → length acts < 2 ^ 32
+acts_again : (s : SceneParts) (a : AgentDef) (names : Declared) (allowed : Allowed) (n : ℕ) (done acts : List Instr) → Told s a → AreDeclared s names → AreTold s a allowed acts → AreNumbered n acts → n ≤ length s.texts → length acts < 2 ^ 32
     → acts_written names allowed (at s a n done) (items_of (map (act_data s a) acts)) ≡ at s a (texts_behind n acts) (done ++ acts)
 unfolding acts_written
 acts_again s a names allowed n done [] c st t m h l = ap (at s a n) (sym (append-nil done))
@@ -248,7 +248,7 @@ texts_front : (n : ℕ) (acts rest : List Instr) (b : Body) → texts_behind n (
 texts_front n [] rest b = refl
 texts_front n (i ∷ acts) rest b = texts_front (next_text n i) acts rest b
 
-pub body_step : (s : SceneParts) (a : AgentDef) (names : Declared) (last : ℕ) (total left : List Instr) (b : Body) (w : CodeBuilder) → Told s a → Stands s names → IsLaid s a b left → Wrote s a last total left w
+pub body_step : (s : SceneParts) (a : AgentDef) (names : Declared) (last : ℕ) (total left : List Instr) (b : Body) (w : CodeBuilder) → Told s a → AreDeclared s names → IsLaid s a b left → Wrote s a last total left w
     → Wrote s a last total (behind left) (body_written names (allowed_in a b) b w (Some (acts_data s a (acts_in left))))
 body_step s a names last total left b w c st l h =
     let numbered = numbered_front h.texts (acts_in left) (behind left) b (subst (λ (x : List Instr). AreNumbered h.texts x) l.same h.numbered) in
@@ -267,7 +267,7 @@ body_step s a names last total left b w c st l h =
 -- ---- states
 
 -- the bodies of a state
-state_step : (s : SceneParts) (a : AgentDef) (names : Declared) (last : ℕ) (total left : List Instr) (k : ℕ) (bodies : List Body) (name : List ℕ) (state : State) (w : CodeBuilder) → Told s a → Stands s names → k < 2 ^ 32
+state_step : (s : SceneParts) (a : AgentDef) (names : Declared) (last : ℕ) (total left : List Instr) (k : ℕ) (bodies : List Body) (name : List ℕ) (state : State) (w : CodeBuilder) → Told s a → AreDeclared s names → k < 2 ^ 32
     → AreLaid s a (body.Enter (record { 0 = k }) ∷ body.Exit (record { 0 = k }) ∷ bodies) left → Wrote s a last total left w
     → Wrote s a last total (behind (behind left)) (state_written names k w (state_data s a (state_source name state left)))
 state_step s a names last total left k bodies name state w c st l h g =
@@ -279,7 +279,7 @@ pub record WroteStates (s : SceneParts) (a : AgentDef) (last : ℕ) (total left 
   pub wrote : Wrote s a last total left w
   pub laid : AreLaid s a bodies left
 
-states_step : (s : SceneParts) (a : AgentDef) (names : Declared) (last : ℕ) (total : List Instr) (k : ℕ) (ns : List (List ℕ)) (states : List State) (left : List Instr) (bodies : List Body) (w : CodeBuilder) → Told s a → Stands s names → length ns ≡ length states → k + length states < 2 ^ 32
+states_step : (s : SceneParts) (a : AgentDef) (names : Declared) (last : ℕ) (total : List Instr) (k : ℕ) (ns : List (List ℕ)) (states : List State) (left : List Instr) (bodies : List Body) (w : CodeBuilder) → Told s a → AreDeclared s names → length ns ≡ length states → k + length states < 2 ^ 32
     → AreLaid s a (state_bodies (length states) k ++ bodies) left → Wrote s a last total left w
     → WroteStates s a last total (behind_states (length states) left) bodies (states_written names k w (items_of (map (state_data s a) (states_in ns states left))))
 unfolding states_written states_in behind_states
@@ -353,12 +353,12 @@ row_allowed a i row here = ap (λ (o : Option Row). handler_of (is_safe_row o)) 
 handler_found : (s : SceneParts) (a : AgentDef) (x : RowSource) (i : ℕ) → slice_get a.rows i ≡ Some x.row → handler_acts (row_data s a x) ≡ allowed_in a (body.Row (record { 0 = i }))
 handler_found s a x i here = ap handler_of (safe_found s a x) ∙ sym (row_allowed a i x.row here)
 
-handled : (s : SceneParts) (a : AgentDef) (names : Declared) (last : ℕ) (total : List Instr) (i : ℕ) (left : List Instr) (more : List RowId) (w : CodeBuilder) → Told s a → Stands s names
+handled : (s : SceneParts) (a : AgentDef) (names : Declared) (last : ℕ) (total : List Instr) (i : ℕ) (left : List Instr) (more : List RowId) (w : CodeBuilder) → Told s a → AreDeclared s names
     → AreLaid s a (map body.Row (row_number i ∷ more)) left → Wrote s a last total left w
     → WroteStates s a last total (behind left) (map body.Row more) (body_written names (allowed_in a (body.Row (record { 0 = i }))) (body.Row (record { 0 = i })) w (Some (acts_data s a (acts_in left))))
 handled s a names last total i left more w c st h g = record { wrote = body_step s a names last total left (body.Row (record { 0 = i })) w c st h.0 g; laid = h.1 }
 
-row_step_at : (s : SceneParts) (a : AgentDef) (names : Declared) (last : ℕ) (total : List Instr) (i : ℕ) (left : List Instr) (more : List RowId) (kind : RowKind) (w : CodeBuilder) → Told s a → Stands s names → i < 2 ^ 32
+row_step_at : (s : SceneParts) (a : AgentDef) (names : Declared) (last : ℕ) (total : List Instr) (i : ℕ) (left : List Instr) (more : List RowId) (kind : RowKind) (w : CodeBuilder) → Told s a → AreDeclared s names → i < 2 ^ 32
     → AreLaid s a (map body.Row (if has_handler kind then row_number i ∷ more else more)) left → Wrote s a last total left w
     → WroteStates s a last total (if has_handler kind then behind left else left) (map body.Row more) (handler_written names (allowed_in a (body.Row (record { 0 = i }))) (row_body i) w (do_data s a (if has_handler kind then acts_in left else []) kind))
 row_step_at s a names last total i left more Run w c st l h g = rw (narrow_small i l) (handled s a names last total i left more w c st h g)
@@ -368,7 +368,7 @@ row_step_at s a names last total i left more (Transfer to) w c st l h g = record
 row_step_at s a names last total i left more Suppress w c st l h g = record { wrote = g; laid = h }
 
 -- the body of a row, if it has one
-row_step : (s : SceneParts) (a : AgentDef) (names : Declared) (last : ℕ) (total : List Instr) (i : ℕ) (left : List Instr) (more : List RowId) (id : Option (List ℕ)) (row : Row) (w : CodeBuilder) → Told s a → Stands s names → i < 2 ^ 32 → slice_get a.rows i ≡ Some row
+row_step : (s : SceneParts) (a : AgentDef) (names : Declared) (last : ℕ) (total : List Instr) (i : ℕ) (left : List Instr) (more : List RowId) (id : Option (List ℕ)) (row : Row) (w : CodeBuilder) → Told s a → AreDeclared s names → i < 2 ^ 32 → slice_get a.rows i ≡ Some row
     → AreLaid s a (map body.Row (if has_handler row.kind then row_number i ∷ more else more)) left → Wrote s a last total left w
     → WroteStates s a last total (behind_row row left) (map body.Row more) (handler_written names (handler_acts (row_data s a (row_source id row left))) (row_body i) w (get (codes "do") (row_data s a (row_source id row left))))
 row_step s a names last total i left more id row w c st l here h g =
@@ -378,7 +378,7 @@ row_step s a names last total i left more id row w c st l here h g =
     (subst (λ (o : Option Data). WroteStates s a last total (behind_row row left) (map body.Row more) (handler_written names allowed (row_body i) w o)) (sym (do_found s a x))
     (row_step_at s a names last total i left more row.kind w c st l h g))
 
-rows_step : (s : SceneParts) (a : AgentDef) (names : Declared) (last : ℕ) (total : List Instr) (i : ℕ) (ids : List (Option (List ℕ))) (rows : List Row) (left : List Instr) (w : CodeBuilder) → Told s a → Stands s names → length ids ≡ length rows → i + length rows < 2 ^ 32 → AreFrom i rows a.rows
+rows_step : (s : SceneParts) (a : AgentDef) (names : Declared) (last : ℕ) (total : List Instr) (i : ℕ) (ids : List (Option (List ℕ))) (rows : List Row) (left : List Instr) (w : CodeBuilder) → Told s a → AreDeclared s names → length ids ≡ length rows → i + length rows < 2 ^ 32 → AreFrom i rows a.rows
     → AreLaid s a (map body.Row (handlers_from i rows)) left → Wrote s a last total left w
     → Wrote s a last total [] (rows_written names i w (items_of (map (row_data s a) (rows_in ids rows left))))
 unfolding rows_written rows_in
@@ -398,7 +398,7 @@ ap2_at s a m n x y e f = rw (e, f)
 plain_written : (s : SceneParts) (a : AgentDef) (names : Declared) (w : CodeBuilder) → agent_written names w (agent_data s a) ≡ agent_written names w (agent_plain s a)
 plain_written s a names w = rw (got s a (codes "start") (λ x y. refl), got s a (codes "finish") (λ x y. refl), got s a (codes "states") (λ x y. refl), got s a (codes "on") (λ x y. refl)) refl
 
-plain_again : (s : SceneParts) (a : AgentDef) (names : Declared) (texts : ℕ) → Told s a → Stands s names → AreNumbered texts a.code → texts ≤ length s.texts
+plain_again : (s : SceneParts) (a : AgentDef) (names : Declared) (texts : ℕ) → Told s a → AreDeclared s names → AreNumbered texts a.code → texts ≤ length s.texts
     → agent_written names (at s a texts []) (agent_plain s a) ≡ at s a (texts_behind texts a.code) a.code
 plain_again s a names texts c st m l =
     let laid = agent_laid s a c in
@@ -411,6 +411,6 @@ plain_again s a names texts c st m l =
     let last = rows_step s a names _ _ 0 a.row_ids a.rows (behind_states (length a.tree) (behind (behind a.code))) _ c st c.agent.row_ids (omega arith) (from_start a.rows) states.laid states.wrote in
     last.same ∙ ap2_at s a last.texts (texts_behind texts a.code) last.done a.code last.behind (sym (append-nil last.done) ∙ last.joined)
 
-pub agent_again : (s : SceneParts) (a : AgentDef) (names : Declared) (texts : ℕ) → Told s a → Stands s names → AreNumbered texts a.code → texts ≤ length s.texts
+pub agent_again : (s : SceneParts) (a : AgentDef) (names : Declared) (texts : ℕ) → Told s a → AreDeclared s names → AreNumbered texts a.code → texts ≤ length s.texts
     → agent_written names (at s a texts []) (agent_data s a) ≡ at s a (texts_behind texts a.code) a.code
 agent_again s a names texts c st m l = plain_written s a names (at s a texts []) ∙ plain_again s a names texts c st m l

@@ -43,7 +43,7 @@ use Rattle.so_scene_data.specs.ActData.{count_data, disp_text}
 use Rattle.so_scene_data.specs.Canonical.{given, declared, disp_data, disp_kind_word, fifo_word}
 use Rattle.so_scene_data.proofs.Named.{each_of, name_utf8, next_distinct, next_new, number_at}
 use Rattle.so_scene_data.proofs.Walks.{ok, object_run, items_go, items_done, shown_len, first_fine}
-use Rattle.so_scene_data.proofs.ActLaws.{Stands, get_map, map_len}
+use Rattle.so_scene_data.proofs.ActLaws.{AreDeclared, get_map, map_len}
 
 -- ---- what is written
 
@@ -263,11 +263,11 @@ disps_build b (d ∷ ds) place i h =
 pub disp_legal : (s : SceneParts) (d : DispId) → IsScene s → d.0 < length s.dispatchers → is_name (disp_text s d) ≡ true
 disp_legal s d h l = (h.dispatchers d.0 default_disp l).named
 
-pub disp_number_again : (s : SceneParts) (names : Declared) (d : DispId) → IsScene s → Stands s names → d.0 < length s.dispatchers → number_in (names_in space.Dispatchers names) (disp_text s d) ≡ Some d.0
+pub disp_number_again : (s : SceneParts) (names : Declared) (d : DispId) → IsScene s → AreDeclared s names → d.0 < length s.dispatchers → number_in (names_in space.Dispatchers names) (disp_text s d) ≡ Some d.0
 disp_number_again s names d h st l =
     ap (λ (ns : List (List ℕ)). number_in ns (disp_text s d)) st.dispatchers
     ∙ (ap (λ t. number_in (map disp_name s.dispatchers) t) (sym (get_map disp_name s.dispatchers d.0 default_disp [] l))
     ∙ number_at (map disp_name s.dispatchers) d.0 h.dispatcher_names (omega (arith, map_len disp_name s.dispatchers)))
 
-pub disp_kind_again : (s : SceneParts) (names : Declared) (d : DispId) → Stands s names → d.0 < length s.dispatchers → kind_at names d.0 ≡ (disp_of s d).kind
+pub disp_kind_again : (s : SceneParts) (names : Declared) (d : DispId) → AreDeclared s names → d.0 < length s.dispatchers → kind_at names d.0 ≡ (disp_of s d).kind
 disp_kind_again s names d st l = ap (λ (kinds : List DispKind). get_or kinds d.0 OneThread) st.kinds ∙ get_map disp_kind s.dispatchers d.0 default_disp OneThread l

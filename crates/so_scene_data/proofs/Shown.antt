@@ -12,7 +12,7 @@ use Rattle.so_code.specs.declared.instr.Dest.{Dest}
 use Rattle.so_code.specs.declared.instr.Dest.TheVariants as dest
 use Rattle.so_code.specs.declared.instr.Operand.{Operand}
 use Rattle.so_code.specs.declared.instr.Operand.TheVariants as operand
-use Rattle.so_code.specs.Values.{fits}
+use Rattle.so_code.specs.Values.{is_number}
 use Rattle.so_code.specs.Valid.{IsOperand, IsDest, AreArgs}
 use Rattle.so_scene_fields.specs.Values.{integer_of, operand_of, dest_of, cmp_of, count_of, numbered, ok_or}
 use Rattle.so_scene_build.specs.CodeBuilder.{args_from, operand_at}
@@ -20,7 +20,7 @@ use Rattle.so_scene_data.specs.ActData.{operand_data, dest_data, cmp_data, count
 use Rattle.so_scene_data.specs.Canonical.{number_data}
 use Rattle.so_scene.specs.Written.{IsWrittenOperand as Fits, ArePadded, AreOperands, is_zero}
 
-pub number_again : (z : ℤ) → fits z ≡ true → integer_of (number_data z) ≡ Ok z
+pub number_again : (z : ℤ) → is_number z ≡ true → integer_of (number_data z) ≡ Ok z
 number_again (pos n) e = rw e
 number_again (negsuc n) e = refl
 

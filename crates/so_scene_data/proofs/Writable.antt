@@ -6,7 +6,7 @@ use Rattle.std.proofs.lemmas.Bool.{ltb-true, eqb-true, not-true}
 use Rattle.std.proofs.lemmas.Option.{none-some}
 use Rattle.so_code.specs.declared.instr.Instr.{Instr}
 use Rattle.so_code.specs.declared.instr.Instr.TheVariants as instr
-use Rattle.so_code.specs.Values.{fits}
+use Rattle.so_code.specs.Values.{is_number}
 use Rattle.so_lists.specs.Lists.{given_after}
 use Rattle.so_scene.specs.declared.parts.AgentDef.{AgentDef}
 use Rattle.so_scene.specs.declared.parts.FilterDef.{FilterDef}
@@ -70,7 +70,7 @@ AreNumberedIn n (a ∷ agents) = AreNumbered n a.code × AreNumberedIn (texts_be
 
 pub record IsWritableAgent (s : SceneParts) (a : AgentDef) : Type 0 where
   pub name : is_name a.name ≡ true
-  pub vars : AllByRecursion (λ z. fits z ≡ true) a.vars.0
+  pub vars : AllByRecursion (λ z. is_number z ≡ true) a.vars.0
   pub state_names : AllByRecursion IsStateName a.state_names
   pub states : AllByRecursion HasParent a.tree
   pub row_ids : AllByRecursion IsName (given a.row_ids)

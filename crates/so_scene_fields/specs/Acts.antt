@@ -40,11 +40,11 @@ abbrev pub act_parts : Data → Option (Word × Items)
 act_parts d = parts_in (as_array d)
 
 -- not too few items and not too many
-abbrev pub fits : ℕ → List Arg → Items → Bool
-fits needed args ds = nat_le needed (items_len ds) && nat_le (items_len ds) (length args)
+abbrev pub takes_items : ℕ → List Arg → Items → Bool
+takes_items needed args ds = nat_le needed (items_len ds) && nat_le (items_len ds) (length args)
 
 abbrev pub items_trouble : ℕ → ℕ → Items → List Arg → Option Trouble
-items_trouble rest needed ds args = if fits needed args ds then args_trouble args rest ds else Some WrongShape
+items_trouble rest needed ds args = if takes_items needed args ds then args_trouble args rest ds else Some WrongShape
 
 abbrev pub built_trouble : Bool → ℕ → ℕ → Items → Option (List Arg) → Option Trouble
 built_trouble may rest needed ds None = Some NotBuilt

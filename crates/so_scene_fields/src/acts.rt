@@ -3,7 +3,7 @@
 ghost use Rattle.std.specs.Prelude.{◌≡◌, ◌≤◌, Some, length, option_map};
 ghost use Rattle.serde_json.specs.View.{view, items_view};
 ghost use Rattle.so_scene_fields.specs.ActTable.{args_of, needed_of, is_allowed};
-ghost use Rattle.so_scene_fields.specs.Acts.{arg_trouble, args_trouble, act_parts, fits, items_trouble, built_trouble, act_trouble};
+ghost use Rattle.so_scene_fields.specs.Acts.{arg_trouble, args_trouble, act_parts, takes_items, items_trouble, built_trouble, act_trouble};
 
 use crate::act_table::{Allowed, Arg, Word, args, is_allowed, needed, word_by_name};
 use crate::values::{Trouble, comparison, count, dest, name, operand, text};

@@ -61,7 +61,7 @@ use Rattle.so_scene_passes.specs.Twice.{is_signal, twice_step, disp_number, kind
 use Rattle.so_scene_passes.specs.Known.{known_step, knows, kind_at}
 use Rattle.so_scene_build.specs.Groups.{names_for, with_group, group_number}
 use Rattle.so_scene_build.specs.Defs.{var_at, vars_of, message_of, disp_of, disp_in, coop_of, slots_in, threads_in, quote_at, quotes_in, state_named, state_in, state_of, states_of, row_of, rows_of, mbox_in, handler_kind, kind_of, number_named, narrow_or_zero, filter_of, filters_of, field_in}
-use Rattle.so_scene_build.specs.Build.{build_step, no_parts, agent_added, with_message, with_scene, with_disp, with_coop, last_coop, is_long, is_misplaced, unless_broken, with_tree, with_code, with_agent, agent_with, agent_of, agent_written, fresh, written}
+use Rattle.so_scene_build.specs.Build.{build_step, no_parts, agent_added, with_message, with_scene, with_disp, with_coop, last_coop, is_long, is_misplaced, unless_broken, with_tree, with_code, with_agent, agent_with, agent_of, agent_written, new_code, written}
 use Rattle.so_scene_fields.specs.Visits.{fields}
 use Rattle.so_scene_json.specs.Scene.{no_state}
 use Rattle.so_scene_build.specs.Kept.{IsBuiltCoop, IsBuiltRow, IsBuiltFilter, IsBuiltAgent, AreCounted, disp_kind, uses_on, texts_of, named_among, IsBuilt}
@@ -613,12 +613,12 @@ built_with a coop names messages groups d code texts known disps below fine long
       safe = safe;
     }
 
-built_agent : (a : ℕ) (coop : CoopId) (names : Declared) (messages : List MessageDef) (groups : List Group) (texts : List (List ℕ)) (d : Data) → AreMessages names messages → HasFewDisps names → a < length names.agents → IsFineAgent names d → is_long d ≡ false → tree_fault (tree_in d) ≡ None → length (agent_written names (fresh texts d) d).code ≤ 1024
-    → IsBuiltAgent (length names.agents + length names.mboxes) messages (length (agent_written names (fresh texts d) d).texts) (length names.coops) (kinds_in names) (with_group (disp_in names d) (group_in d) groups) (agent_of a coop names groups d (tree_in d) (agent_written names (fresh texts d) d))
+built_agent : (a : ℕ) (coop : CoopId) (names : Declared) (messages : List MessageDef) (groups : List Group) (texts : List (List ℕ)) (d : Data) → AreMessages names messages → HasFewDisps names → a < length names.agents → IsFineAgent names d → is_long d ≡ false → tree_fault (tree_in d) ≡ None → length (agent_written names (new_code texts d) d).code ≤ 1024
+    → IsBuiltAgent (length names.agents + length names.mboxes) messages (length (agent_written names (new_code texts d) d).texts) (length names.coops) (kinds_in names) (with_group (disp_in names d) (group_in d) groups) (agent_of a coop names groups d (tree_in d) (agent_written names (new_code texts d) d))
 built_agent a coop names messages groups texts d known disps below fine long sound l =
-    subst (λ x. IsBuiltAgent (length names.agents + length names.mboxes) messages (length (agent_written names (fresh texts d) d).texts) (length names.coops) (kinds_in names) (with_group (disp_in names d) (group_in d) groups) (agent_with a coop names groups d (tree_in d) x (agent_written names (fresh texts d) d).code)) (sym (agent_scope names (fresh texts d) d))
-    (built_with a coop names messages groups d _ _ known disps below fine long sound (agent_is_written names (fresh texts d) d (is_short d long) refl l) (agent_said names messages known (fresh texts d) d fine refl)
-    (agent_safe names (row_of a names (scope_of d)) (fresh texts d) d (λ row. refl) fine.few_rows refl))
+    subst (λ x. IsBuiltAgent (length names.agents + length names.mboxes) messages (length (agent_written names (new_code texts d) d).texts) (length names.coops) (kinds_in names) (with_group (disp_in names d) (group_in d) groups) (agent_with a coop names groups d (tree_in d) x (agent_written names (new_code texts d) d).code)) (sym (agent_scope names (new_code texts d) d))
+    (built_with a coop names messages groups d _ _ known disps below fine long sound (agent_is_written names (new_code texts d) d (is_short d long) refl l) (agent_said names messages known (new_code texts d) d fine refl)
+    (agent_safe names (row_of a names (scope_of d)) (new_code texts d) d (λ row. refl) fine.few_rows refl))
 
 grown : (mboxes : ℕ) (messages : List MessageDef) (t u coops : ℕ) (kinds : List DispKind) (groups : List Group) (e : DispId) (o : Option (List ℕ)) (a : AgentDef) → t ≤ u → IsBuiltAgent mboxes messages t coops kinds groups a → IsBuiltAgent mboxes messages u coops kinds (with_group e o groups) a
 grown mboxes messages t u coops kinds groups e o a l h = record {
@@ -671,19 +671,19 @@ unfolding agent_after agent_made
 agents_kept names messages s t d known disps fine k q few =
     let one_less : length s.agents < length names.agents = omega (arith, few, length-append s.agents (agent_made s d ∷ [])) in
     let new : IsBuiltAgent (length names.agents + length names.mboxes) messages (length (written s d).texts) (length names.coops) (kinds_in names) (with_group (disp_in s.names d) (group_in d) s.groups) (agent_made s d) =
-    subst (λ n. IsBuiltAgent (length names.agents + length names.mboxes) messages (length (agent_written n (fresh s.texts d) d).texts) (length names.coops) (kinds_in names) (with_group (disp_in n d) (group_in d) s.groups) (agent_of (length s.agents) (last_coop s.coops) n s.groups d (tree_in d) (agent_written n (fresh s.texts d) d))) (sym k.known)
-    (built_agent (length s.agents) (last_coop s.coops) names messages s.groups s.texts d known disps one_less fine q.short q.sound (subst (λ n. length (agent_written n (fresh s.texts d) d).code ≤ 1024) k.known q.few)) in
+    subst (λ n. IsBuiltAgent (length names.agents + length names.mboxes) messages (length (agent_written n (new_code s.texts d) d).texts) (length names.coops) (kinds_in names) (with_group (disp_in n d) (group_in d) s.groups) (agent_of (length s.agents) (last_coop s.coops) n s.groups d (tree_in d) (agent_written n (new_code s.texts d) d))) (sym k.known)
+    (built_agent (length s.agents) (last_coop s.coops) names messages s.groups s.texts d known disps one_less fine q.short q.sound (subst (λ n. length (agent_written n (new_code s.texts d) d).code ≤ 1024) k.known q.few)) in
     each-append (IsBuiltAgent (length names.agents + length names.mboxes) messages (length (written s d).texts) (length names.coops) (kinds_in names) (with_group (disp_in s.names d) (group_in d) s.groups)) s.agents (agent_made s d ∷ [])
-    (each-weaker (IsBuiltAgent (length names.agents + length names.mboxes) messages (length s.texts) (length names.coops) (kinds_in names) s.groups) (IsBuiltAgent (length names.agents + length names.mboxes) messages (length (written s d).texts) (length names.coops) (kinds_in names) (with_group (disp_in s.names d) (group_in d) s.groups)) (λ a h. grown _ _ _ _ _ _ _ (disp_in s.names d) (group_in d) a (agent_grows s.names (fresh s.texts d) d) h) s.agents (k.agents (omega (arith, one_less))))
+    (each-weaker (IsBuiltAgent (length names.agents + length names.mboxes) messages (length s.texts) (length names.coops) (kinds_in names) s.groups) (IsBuiltAgent (length names.agents + length names.mboxes) messages (length (written s d).texts) (length names.coops) (kinds_in names) (with_group (disp_in s.names d) (group_in d) s.groups)) (λ a h. grown _ _ _ _ _ _ _ (disp_in s.names d) (group_in d) a (agent_grows s.names (new_code s.texts d) d) h) s.agents (k.agents (omega (arith, one_less))))
     (new, tt)
 
 -- the texts of one more agent
 texts_kept : (s : Build) (d : Data) → (length s.texts ≤ 4096 → AreNumbered (texts_of s.agents) (length s.texts)) → length (agent_after s d).texts ≤ 4096 → AreNumbered (texts_of (agent_after s d).agents) (length (agent_after s d).texts)
 unfolding agent_after agent_made
 texts_kept s d old few =
-    let before : length s.texts ≤ 4096 = omega (arith, few, agent_grows s.names (fresh s.texts d) d) in
+    let before : length s.texts ≤ 4096 = omega (arith, few, agent_grows s.names (new_code s.texts d) d) in
     ap (given_after 0) (texts-push s.agents (agent_made s d))
-    ∙ (given-append 0 (length s.texts) (texts_of s.agents) (text_uses (written s d).code) (old before) ∙ agent_numbers s.names (fresh s.texts d) d refl few)
+    ∙ (given-append 0 (length s.texts) (texts_of s.agents) (text_uses (written s d).code) (old before) ∙ agent_numbers s.names (new_code s.texts d) d refl few)
 
 named_given : (b : Bool) (name : List ℕ) → is_name name ≡ b → NamedIfGiven (if b then Some name else None)
 named_given true name e = e
@@ -704,7 +704,7 @@ unfolding agent_after agent_made
 agent_kept names messages s t d known disps fine k q = record {
   known = k.known;
   agents = agents_kept names messages s t d known disps fine k q;
-  texts = agent_texts s.names (fresh s.texts d) d k.texts;
+  texts = agent_texts s.names (new_code s.texts d) d k.texts;
   texts_numbered = texts_kept s d k.texts_numbered;
   few_groups = omega (arith, k.few_groups, few_more (disp_in s.names d) (group_in d) s.groups, length-append s.agents (agent_made s d ∷ []));
   group_names = λ e. group_names_more e (disp_in s.names d) (group_in d) s.groups (group_named d) (k.group_names e);

@@ -13,7 +13,7 @@ ghost use Rattle.so_scene_json.specs.Scene.{exceeds, parts_of, checked, finished
 use so_fault::{SceneFault, ScenePlace, SceneRefusal};
 use so_ids::NoMemory;
 use so_ids::limits::{MOST_AGENTS, MOST_LANES, MOST_TEXTS};
-use so_scene::{Items, Name, Names, Scene, SceneParts, Text};
+use so_scene::{Items, Name, Strings, Scene, SceneParts, Text};
 use so_scene_build::build::Build;
 use so_scene_build::groups::group_lists;
 use std::alloc::Global;
@@ -33,7 +33,7 @@ fn text_list(alloc: Global, names: &[String]) -> Result<Items<Text>, SceneRefusa
 }
 
 /// The texts as texts of a scene.
-fn texts_of(alloc: Global, names: &Names) -> Result<Items<Text>, SceneRefusal>
+fn texts_of(alloc: Global, names: &Strings) -> Result<Items<Text>, SceneRefusal>
     requires { All (λ t. is_text t ≡ true) names.now }
     ensures texts { Returns names.now result }
     ensures distinct { IsDistinct bytes_eq names.now }
@@ -56,7 +56,7 @@ fn mbox_list(alloc: Global, names: &[String]) -> Result<Items<Name>, SceneRefusa
 }
 
 /// The names of mboxes as names of a scene.
-fn mboxes_of(alloc: Global, names: &Names) -> Result<Items<Name>, SceneRefusal>
+fn mboxes_of(alloc: Global, names: &Strings) -> Result<Items<Name>, SceneRefusal>
     requires { All (λ name. is_name name ≡ true) names.now }
     ensures { Returns names.now result }
 {

@@ -10,7 +10,7 @@ ghost use Rattle.so_scene_fields.specs.Visits.{Leaves};
 
 use serde_json::Value;
 use so_fault::{PlaceStep, SceneFault, ScenePlace, SceneRefusal};
-use so_scene::{DispKind, Items, Names, is_name};
+use so_scene::{DispKind, Items, Strings, is_name};
 use so_scene_fields::table::{Form, ObjectKind, Rule, Space, declares, key};
 use so_scene_fields::values::{disp_kind_in, name, name_in, string_in};
 use so_scene_fields::walk::{Pass, list};
@@ -65,27 +65,27 @@ fn name_for(space: Space, value: &Value) -> Option<&str>
 /// The names so far, by number in each name space.
 #[derive(Drop)]
 pub struct Declared {
-    pub messages: Names,
+    pub messages: Strings,
     /// Those that are declared. Their numbers follow that of `default`.
-    pub dispatchers: Names,
+    pub dispatchers: Strings,
     /// Of each of these its kind.
     pub kinds: Items<DispKind>,
-    pub coops: Names,
-    pub agents: Names,
+    pub coops: Strings,
+    pub agents: Strings,
     /// The named mboxes. Their numbers follow those of the agents.
-    pub mboxes: Names,
+    pub mboxes: Strings,
     /// The states of the agent that is visited.
-    pub states: Names,
+    pub states: Strings,
     /// The ids of its rows.
-    pub rows: Names,
+    pub rows: Strings,
     /// The ids of its filters.
-    pub filters: Names,
+    pub filters: Strings,
     /// Whether each message is a signal.
     pub signals: Items<bool>,
 }
 
 /// The number of the second names' name `k` where their numbers follow those of the first.
-fn number_behind(first: &Names, second: &Names, k: usize) -> usize
+fn number_behind(first: &Strings, second: &Strings, k: usize) -> usize
     requires { k < length second.now }
     ensures { result ≡ length first.now + k }
 {
@@ -94,7 +94,7 @@ fn number_behind(first: &Names, second: &Names, k: usize) -> usize
 }
 
 /// The number of the declared dispatcher `k`.
-fn number_of_disp(dispatchers: &Names, k: usize) -> usize
+fn number_of_disp(dispatchers: &Strings, k: usize) -> usize
     requires { k < length dispatchers.now }
     ensures { result ≡ 1 + k }
 {
@@ -107,15 +107,15 @@ impl Declared {
         ensures { result ≡ no_names }
     {
         Declared {
-            messages: Names::new(alloc),
-            dispatchers: Names::new(alloc),
+            messages: Strings::new(alloc),
+            dispatchers: Strings::new(alloc),
             kinds: Items::new(alloc),
-            coops: Names::new(alloc),
-            agents: Names::new(alloc),
-            mboxes: Names::new(alloc),
-            states: Names::new(alloc),
-            rows: Names::new(alloc),
-            filters: Names::new(alloc),
+            coops: Strings::new(alloc),
+            agents: Strings::new(alloc),
+            mboxes: Strings::new(alloc),
+            states: Strings::new(alloc),
+            rows: Strings::new(alloc),
+            filters: Strings::new(alloc),
             signals: Items::new(alloc),
         }
     }
@@ -234,9 +234,9 @@ impl Declared {
             ObjectKind::Dispatcher => self.kinds.push(disp_kind_in(value))?,
             ObjectKind::Agent => {
                 let alloc = self.rows.alloc();
-                self.states = Names::new(alloc);
-                self.rows = Names::new(alloc);
-                self.filters = Names::new(alloc);
+                self.states = Strings::new(alloc);
+                self.rows = Strings::new(alloc);
+                self.filters = Strings::new(alloc);
             }
             _ => {}
         }

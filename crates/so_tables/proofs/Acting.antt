@@ -15,11 +15,11 @@ use Rattle.so_history.specs.declared.entry.EventSource.{EventSource}
 use Rattle.so_history.specs.Places.{entry_at, beginner_at}
 use Rattle.so_history.specs.Steps.{NamesEffect, yes_where, answer_of, IsMove, Legal}
 use Rattle.so_history.specs.Turns.{Started, Course, course, move_of}
-use Rattle.so_history.proofs.CourseLaws.{has_course}
-use Rattle.so_history.proofs.MoveLaws.{acts_so}
-use Rattle.so_history.proofs.SoundLaws.{course_sound, names_parts}
-use Rattle.so_history.proofs.TextLaws.{beginner_of}
-use Rattle.so_history.proofs.TurnLaws.{turn_found, turn_of, turn_looked_up, turn_agent}
+use Rattle.so_legal.proofs.CourseLaws.{has_course}
+use Rattle.so_legal.proofs.MoveLaws.{acts_so}
+use Rattle.so_legal.proofs.SoundLaws.{course_sound, names_parts}
+use Rattle.so_legal.proofs.RangeLaws.{beginner_of}
+use Rattle.so_legal.proofs.TurnLaws.{turn_found, turn_of, turn_looked_up, turn_agent}
 use Rattle.so_tables.specs.declared.found.FoundTurn.{FoundTurn}
 use Rattle.so_tables.specs.Found.{IsTurnFound}
 use Rattle.so_tables.proofs.AdmittedLaws.{KeepsRules, running_keeps}

@@ -34,12 +34,12 @@ use Rattle.so_history.specs.Demands.{Asked, asked_by, demands_from, queued_by, d
 use Rattle.so_history.specs.Order.{opening_of, skipped, may_take}
 use Rattle.so_history.specs.Turns.{Started, started_by, turns, running, turn_at}
 use Rattle.so_history.specs.Steps.{IsTaking, MayFollow, Legal}
-use Rattle.so_history.proofs.AskedLaws.{delivered_of, asked_of_each}
+use Rattle.so_legal.proofs.AskedLaws.{delivered_of, asked_of_each}
 use Rattle.so_history_laws.proofs.CoopLaws.{AsksSo, of_none, to_handle, to_start, to_finish, asks_so}
-use Rattle.so_history.proofs.DemandLaws.{picked}
+use Rattle.so_legal.proofs.DemandLaws.{picked}
 use Rattle.so_history_laws.proofs.PresenceLaws.{leaves_present}
-use Rattle.so_history.proofs.RosterLaws.{joins, joins_admitted, there_too, each_registered}
-use Rattle.so_history.proofs.TakingLaws.{begins_as}
+use Rattle.so_legal.proofs.RosterLaws.{joins, joins_admitted, there_too, each_registered}
+use Rattle.so_legal.proofs.TakingLaws.{begins_as}
 
 abbrev pub KeepsRules : SceneParts → AgentId → Type 0
 KeepsRules s a = definition_fault s a ≡ None

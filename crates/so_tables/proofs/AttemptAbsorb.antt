@@ -11,7 +11,7 @@ use Rattle.so_history.specs.declared.entry.EntryKind.{EntryKind}
 use Rattle.so_history.specs.declared.entry.EntryKind.TheVariants.{Register, Refuse}
 use Rattle.so_history.specs.Coops.{is_same, tried, tried_by}
 use Rattle.so_history.specs.Steps.{Legal}
-use Rattle.so_history.proofs.TextLaws.{next_within}
+use Rattle.so_legal.proofs.RangeLaws.{next_within}
 use Rattle.so_tables.specs.Tables.{tried_at, attempts_of}
 use Rattle.so_tables.specs.Attempts.{after_attempt}
 use Rattle.so_tables.specs.AfterAttempts.{after_entry, MayAbsorb}

@@ -19,8 +19,8 @@ use Rattle.so_history.specs.Steps.{MayFollow, Legal}
 use Rattle.so_history.specs.Finishing.{unfinished}
 use Rattle.so_history_laws.proofs.CoopLaws.{may_leave_parts}
 use Rattle.so_history_laws.proofs.PresenceLaws.{leaves_present}
-use Rattle.so_history.proofs.RosterLaws.{present_within, leaving_present}
-use Rattle.so_history.proofs.TurnLaws.{turn_agent}
+use Rattle.so_legal.proofs.RosterLaws.{present_within, leaving_present}
+use Rattle.so_legal.proofs.TurnLaws.{turn_agent}
 use Rattle.so_history_laws.proofs.UnfinishedLaws.{Spares, unfinished-same, unfinished-begun, unfinished-skipped}
 use Rattle.so_coop.specs.declared.coops.Coop.{Coop}
 use Rattle.so_tables.specs.declared.found.Found.{Found}

@@ -25,7 +25,7 @@ use Rattle.so_history.specs.Turns.{Started, turn_at}
 use Rattle.so_history_laws.proofs.CoopLaws.{may_leave_parts}
 use Rattle.so_history_laws.proofs.LeavingLaws.{none_unfinished}
 use Rattle.so_history_laws.proofs.PresenceLaws.{present_now, leaves_present}
-use Rattle.so_history.proofs.RosterLaws.{present_within, leaving_present, absent_leaving, absent_mark}
+use Rattle.so_legal.proofs.RosterLaws.{present_within, leaving_present, absent_leaving, absent_mark}
 use Rattle.so_tables.proofs.Entering.{Enters, as_main, as_act, it_joins, was_open, entered_known}
 use Rattle.so_history_laws.proofs.UnfinishedLaws.{Spares, unfinished-same, unfinished-leaving, unfinished-leaving_other, unfinished-finished, unfinished-ended, unfinished-absent}
 use Rattle.so_coop.specs.declared.coops.Coop.{Coop}

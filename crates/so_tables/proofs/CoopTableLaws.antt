@@ -21,7 +21,7 @@ use Rattle.so_history.specs.Demands.{demands, waiting}
 use Rattle.so_history.specs.Finishing.{unfinished}
 use Rattle.so_history.specs.Steps.{may_leave, left_at, left_next, Legal}
 use Rattle.so_history.specs.Turns.{turns, running}
-use Rattle.so_history.proofs.RosterLaws.{present_within, absent_leaving, absent_mark}
+use Rattle.so_legal.proofs.RosterLaws.{present_within, absent_leaving, absent_mark}
 use Rattle.so_history_laws.proofs.UnfinishedLaws.{may_leave-unfinished}
 use Rattle.so_coop.specs.declared.coops.Coop.{Coop}
 use Rattle.so_coop.specs.Coops.{absent, nobody, standing_at, standing as table_standing, is_present, present as how_many, with_coop, may_mark as table_may_mark, has_ended, ended_at, left_next as table_left_next}

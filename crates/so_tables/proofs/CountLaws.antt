@@ -18,7 +18,7 @@ use Rattle.so_history.specs.declared.entry.EntryKind.TheVariants.{End}
 use Rattle.so_history.specs.Order.{runs_safe}
 use Rattle.so_history.specs.Turns.{Started, started_by, ends, ended, turns, running, running_at, running_with, key_number, turn_at}
 use Rattle.so_history.specs.Steps.{Legal}
-use Rattle.so_history.proofs.TurnLaws.{few_started, running_at-begun, running_at-same, running_at-ended, running_at-other}
+use Rattle.so_legal.proofs.TurnLaws.{few_started, running_at-begun, running_at-same, running_at-ended, running_at-other}
 use Rattle.so_history_laws.proofs.UnfinishedLaws.{one_there}
 use Rattle.so_events.specs.Events.{EventTable, one_more, one_less, turns_with, turns_of, after_start, after_end}
 use Rattle.so_tables.specs.Tables.{is_other, counts, events_of}

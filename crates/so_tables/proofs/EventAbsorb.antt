@@ -37,11 +37,11 @@ use Rattle.so_history.specs.Order.{runs_safe, pick, opening_of, skipped, taking_
 use Rattle.so_history.specs.Safety.{is_safe}
 use Rattle.so_history.specs.Steps.{IsTaking, MayFollow, Legal}
 use Rattle.so_history.specs.Turns.{Started, started_by, ends}
-use Rattle.so_history.proofs.DemandLaws.{demands_early, waiting-queued, waiting-same, waiting-taken, picked_of, length-asked}
+use Rattle.so_legal.proofs.DemandLaws.{demands_early, waiting-queued, waiting-same, waiting-taken, picked_of, length-asked}
 use Rattle.so_history.proofs.NameLaws.{length-demands_from}
 use Rattle.so_history_laws.proofs.PresenceLaws.{leaves_present}
-use Rattle.so_history.proofs.RosterLaws.{present_within}
-use Rattle.so_history.proofs.TurnLaws.{turn_agent}
+use Rattle.so_legal.proofs.RosterLaws.{present_within}
+use Rattle.so_legal.proofs.TurnLaws.{turn_agent}
 use Rattle.so_events.specs.Tied.{overlaps}
 use Rattle.so_events.specs.Events.{after_demands, after_taking, after_start, after_end as turn_ended, turns_of}
 use Rattle.so_tables.specs.declared.found.Found.{Found}

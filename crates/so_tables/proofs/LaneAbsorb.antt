@@ -18,8 +18,8 @@ use Rattle.so_history.specs.declared.entry.EntryKind.{EntryKind}
 use Rattle.so_history.specs.declared.entry.EntryKind.TheVariants.{Begin, End}
 use Rattle.so_history.specs.Steps.{IsTaking, Legal}
 use Rattle.so_history.specs.Turns.{Started, started_by, ends, running_at, running_on, lane_number, turn_at}
-use Rattle.so_history.proofs.DemandLaws.{picked}
-use Rattle.so_history.proofs.TurnLaws.{Frees, running_at-begun, running_at-same, running_at-ended, running_at-other, alone, turn_found, turn_in_range, lanes_free}
+use Rattle.so_legal.proofs.DemandLaws.{picked}
+use Rattle.so_legal.proofs.TurnLaws.{Frees, running_at-begun, running_at-same, running_at-ended, running_at-other, alone, turn_found, turn_in_range, lanes_free}
 use Rattle.so_tables.specs.declared.found.Found.{Found}
 use Rattle.so_tables.specs.declared.found.Found.TheVariants as what
 use Rattle.so_tables.specs.Found.{IsFound, HasTurn}

@@ -21,7 +21,7 @@ use Rattle.so_history.specs.declared.entry.EntryKind.TheVariants.{Register, Act,
 use Rattle.so_history.specs.Delivery.{active_rows, active_filters}
 use Rattle.so_history.specs.Steps.{may_subscribe, MayFollow, Legal}
 use Rattle.so_history_laws.proofs.CoopLaws.{may_leave_parts}
-use Rattle.so_history.proofs.RosterLaws.{present_within, leaving_present}
+use Rattle.so_legal.proofs.RosterLaws.{present_within, leaving_present}
 use Rattle.so_tables.specs.declared.found.Found.{Found}
 use Rattle.so_tables.specs.declared.found.Found.TheVariants as what
 use Rattle.so_tables.specs.Found.{IsFound, HasTurn}

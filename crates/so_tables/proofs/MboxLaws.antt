@@ -40,9 +40,9 @@ use Rattle.so_history.specs.Leaves.{is_of, is_turn_of}
 use Rattle.so_history.specs.Delivery.{agents_of_each, registered, rows_by, rows_by_effect, active_rows, filters_by, filters_by_effect, active_filters, receivers, is_leaving, delivered}
 use Rattle.so_history.specs.Demands.{ask, demands_from}
 use Rattle.so_history.specs.Steps.{is_active}
-use Rattle.so_history.proofs.AskedLaws.{delivered_of}
-use Rattle.so_history.proofs.DemandLaws.{registered_of}
-use Rattle.so_history.proofs.RosterLaws.{registered_is}
+use Rattle.so_legal.proofs.AskedLaws.{delivered_of}
+use Rattle.so_legal.proofs.DemandLaws.{registered_of}
+use Rattle.so_legal.proofs.RosterLaws.{registered_is}
 use Rattle.so_coop.specs.declared.coops.Coop.{Coop}
 use Rattle.so_coop.specs.Coops.{absent, is_leaving as table_leaving}
 use Rattle.so_mbox.specs.Table.{active_rows as table_rows, active_filters as table_filters, receivers as table_receivers, passes as table_passes, Subscriptions, nobody, none_active, same_agent, is_entered, after_enter, after_leave, entered, departed}

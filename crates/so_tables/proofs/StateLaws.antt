@@ -28,7 +28,7 @@ use Rattle.so_history.specs.Steps.{Legal}
 use Rattle.so_history.specs.Leaves.{is_of, leaves}
 use Rattle.so_tables.proofs.Entering.{as_main, as_act, entered_known}
 use Rattle.so_tables.specs.declared.states.AgentState.{AgentState}
-use Rattle.so_tables.specs.States.{nowhere, Stands, AreNew, AllStand, none_entered, is_between, with_none}
+use Rattle.so_tables.specs.States.{nowhere, HasEntered, AreNew, AllHaveEntered, none_entered, is_between, with_none}
 use Rattle.so_tables.specs.AfterStates.{set_none, after_act, after_entry, MayAct, MayAbsorb}
 use Rattle.so_tables.specs.declared.found.Found.{Found}
 use Rattle.so_tables.specs.declared.found.Found.TheVariants as what
@@ -40,22 +40,22 @@ use Rattle.so_tables.proofs.Acting.{acting}
 pub none_new : (xs : List AgentState) → AreNew 0 xs
 none_new xs = record { each = λ k l states. absurd (omega (arith, l)) }
 
-pub new_pushed : (n : ℕ) (xs : List AgentState) (x : AgentState) → length xs ≡ n → ((states : List State) → Stands states [] x) → AreNew n xs → AreNew (n + 1) (xs ++ x ∷ [])
+pub new_pushed : (n : ℕ) (xs : List AgentState) (x : AgentState) → length xs ≡ n → ((states : List State) → HasEntered states [] x) → AreNew n xs → AreNew (n + 1) (xs ++ x ∷ [])
 new_pushed n xs x size new all = record {
   each = λ k l states.
       elim (cases_lt k n) [
-        | inl early ↦ subst (Stands states []) (sym (get_or_append_left xs (x ∷ []) nowhere k (omega (arith, early, size)))) (all.each k early states)
-        | inr last ↦ subst (Stands states []) (sym (get_or_push xs x nowhere k (omega (arith, l, last, size)))) (new states)
+        | inl early ↦ subst (HasEntered states []) (sym (get_or_append_left xs (x ∷ []) nowhere k (omega (arith, early, size)))) (all.each k early states)
+        | inr last ↦ subst (HasEntered states []) (sym (get_or_push xs x nowhere k (omega (arith, l, last, size)))) (new states)
       ];
 }
 
-pub all_new : (s : SceneParts) (xs : List AgentState) → length xs ≡ length s.agents → AreNew (length s.agents) xs → AllStand s none_entered xs
+pub all_new : (s : SceneParts) (xs : List AgentState) → length xs ≡ length s.agents → AreNew (length s.agents) xs → AllHaveEntered s none_entered xs
 all_new s xs size new = record { size = size; each = λ a known. new.each a.0 known (states_of s a) }
 
 -- ---- after an entry
 
-stands_as : (s : SceneParts) (f g : AgentId → List StateId) (xs : List AgentState) → ((a : AgentId) → a.0 < length s.agents → g a ≡ f a) → AllStand s f xs → AllStand s g xs
-stands_as s f g xs same all = record { size = all.size; each = λ a known. subst (λ l. Stands (states_of s a) l (get_or xs a.0 nowhere)) (sym (same a known)) (all.each a known) }
+stands_as : (s : SceneParts) (f g : AgentId → List StateId) (xs : List AgentState) → ((a : AgentId) → a.0 < length s.agents → g a ≡ f a) → AllHaveEntered s f xs → AllHaveEntered s g xs
+stands_as s f g xs same all = record { size = all.size; each = λ a known. subst (λ l. HasEntered (states_of s a) l (get_or xs a.0 nowhere)) (sym (same a known)) (all.each a known) }
 
 -- ---- agents that have entered none, again
 
@@ -83,21 +83,21 @@ more_between from k i other =
           rw (le-ltb i (from + k) later, le-ltb i (from + (k + 1)) (omega arith)) refl)
     ]
 
-pub stands_none : (s : SceneParts) (from : ℕ) (leaves : AgentId → List StateId) (xs : List AgentState) → AllStand s leaves xs → AllStand s (with_none from (from + 0) leaves) xs
+pub stands_none : (s : SceneParts) (from : ℕ) (leaves : AgentId → List StateId) (xs : List AgentState) → AllHaveEntered s leaves xs → AllHaveEntered s (with_none from (from + 0) leaves) xs
 stands_none s from leaves xs all = stands_as s leaves (with_none from (from + 0) leaves) xs (λ a known. rw (none_between from a.0) refl) all
 
-pub stands_more : (s : SceneParts) (from k : ℕ) (leaves : AgentId → List StateId) (xs : List AgentState) (x : AgentState) → from + k < length xs → ((states : List State) → Stands states [] x) → AllStand s (with_none from (from + k) leaves) xs →
-    AllStand s (with_none from (from + (k + 1)) leaves) (slice_set xs (from + k) x)
+pub stands_more : (s : SceneParts) (from k : ℕ) (leaves : AgentId → List StateId) (xs : List AgentState) (x : AgentState) → from + k < length xs → ((states : List State) → HasEntered states [] x) → AllHaveEntered s (with_none from (from + k) leaves) xs →
+    AllHaveEntered s (with_none from (from + (k + 1)) leaves) (slice_set xs (from + k) x)
 stands_more s from k leaves xs x within new all = record {
   size = length-set xs (from + k) x ∙ all.size;
   each = λ a known.
       elim (cases_eq a.0 (from + k)) [
         | inl same ↦
             rw (last_between from k a.0 same)
-            (subst (Stands (states_of s a) []) (sym (ap (λ i. get_or (slice_set xs (from + k) x) i nowhere) same ∙ get_or-set_same xs (from + k) x nowhere within)) (new (states_of s a)))
+            (subst (HasEntered (states_of s a) []) (sym (ap (λ i. get_or (slice_set xs (from + k) x) i nowhere) same ∙ get_or-set_same xs (from + k) x nowhere within)) (new (states_of s a)))
         | inr other ↦
             rw (more_between from k a.0 other)
-            (subst (Stands (states_of s a) (with_none from (from + k) leaves a)) (sym (get_or-set_other xs (from + k) a.0 x nowhere other)) (all.each a known))
+            (subst (HasEntered (states_of s a) (with_none from (from + k) leaves a)) (sym (get_or-set_other xs (from + k) a.0 x nowhere other)) (all.each a known))
       ];
 }
 
@@ -152,14 +152,14 @@ module _ (s : SceneParts) (h : List Entry) (by : PartyId) (scene : IsScene s) wh
   may_kind other found legal its = tt
 
 -- the two laws
-pub states-absorbed : (s : SceneParts) (h : List Entry) (e : Entry) (found : Found) (xs : List AgentState) → IsScene s → Legal s (e ∷ h) → IsFound s h e.kind found → AllStand s (after_entry s found e.kind (leaves s h)) xs → AllStand s (leaves s (e ∷ h)) xs
+pub states-absorbed : (s : SceneParts) (h : List Entry) (e : Entry) (found : Found) (xs : List AgentState) → IsScene s → Legal s (e ∷ h) → IsFound s h e.kind found → AllHaveEntered s (after_entry s found e.kind (leaves s h)) xs → AllHaveEntered s (leaves s (e ∷ h)) xs
 states-absorbed s h e found xs scene legal its all = stands_as s (after_entry s found e.kind (leaves s h)) (leaves s (e ∷ h)) xs (λ a known. by_kind s h e.by scene e.kind found a legal its known) all
 
 pub states-may : (s : SceneParts) (h : List Entry) (e : Entry) (found : Found) → IsScene s → Legal s (e ∷ h) → IsFound s h e.kind found → MayAbsorb s found e.kind
 states-may s h e found scene legal its = may_kind s h e.by scene e.kind found legal its
 
 -- at the start
-pub stands_fresh : (s : SceneParts) (xs : List AgentState) → AllStand s none_entered xs → AllStand s (leaves s []) xs
+pub stands_fresh : (s : SceneParts) (xs : List AgentState) → AllHaveEntered s none_entered xs → AllHaveEntered s (leaves s []) xs
 unfolding leaves
 stands_fresh s xs all = stands_as s none_entered (leaves s []) xs (λ a known. refl) all
 

@@ -18,12 +18,12 @@ use Rattle.so_history.specs.Coops.{stop_asked, some_left, stopped, aborted}
 use Rattle.so_history.specs.Heads.{round}
 use Rattle.so_history.specs.Order.{runs_safe}
 use Rattle.so_history.specs.Steps.{Legal}
-use Rattle.so_history.proofs.TurnLaws.{running_nowhere, running_at-nil}
-use Rattle.so_tables.specs.Tables.{round_at, tables_of, places, first_place, fresh}
+use Rattle.so_legal.proofs.TurnLaws.{running_nowhere, running_at-nil}
+use Rattle.so_tables.specs.Tables.{round_at, tables_of, places, first_place, first_tables}
 use Rattle.so_tables.proofs.CoopTableLaws.{coops-fresh, attempts-fresh}
 use Rattle.so_tables.proofs.MboxLaws.{mboxes-fresh}
 
-pub tables-fresh : (s : SceneParts) (room : ℕ) → tables_of s room [] ≡ fresh s room
+pub tables-fresh : (s : SceneParts) (room : ℕ) → tables_of s room [] ≡ first_tables s room
 unfolding waiting demands taken units some_left stop_asked stopped aborted running turns vars round
 tables-fresh s room =
     rw (

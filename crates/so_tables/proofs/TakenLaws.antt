@@ -27,8 +27,8 @@ use Rattle.so_history.specs.Demands.{waiting}
 use Rattle.so_history.specs.Heads.{has_rounds, takes_on, round}
 use Rattle.so_history.specs.Order.{pick, taking}
 use Rattle.so_history.specs.Safety.{kind_of, lets_overlap, is_safe}
-use Rattle.so_history.proofs.DemandLaws.{picked_of}
-use Rattle.so_history.proofs.HeadLaws.{is_ranked_with, picked_first}
+use Rattle.so_legal.proofs.DemandLaws.{picked_of}
+use Rattle.so_legal.proofs.HeadLaws.{is_ranked_with, picked_first}
 use Rattle.so_history_laws.proofs.RoundLaws.{takes_on-taking, picked_lane, round-kept, round-taken}
 use Rattle.so_events.specs.Events.{place_of, is_beside}
 use Rattle.so_events.specs.Tied.{overlaps}

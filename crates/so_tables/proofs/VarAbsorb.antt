@@ -21,7 +21,7 @@ use Rattle.so_history.specs.declared.entry.EntryKind.TheVariants.{Register, Act,
 use Rattle.so_history.specs.Leaves.{is_of}
 use Rattle.so_history.specs.Steps.{Legal}
 use Rattle.so_history.specs.Turns.{Course, move_of, vars_after, vars, course}
-use Rattle.so_history.proofs.TurnLaws.{turn_agent}
+use Rattle.so_legal.proofs.TurnLaws.{turn_agent}
 use Rattle.so_tables.specs.declared.found.Found.{Found}
 use Rattle.so_tables.specs.declared.found.Found.TheVariants as what
 use Rattle.so_tables.specs.Found.{IsFound, HasTurn}

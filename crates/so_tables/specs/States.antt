@@ -15,7 +15,7 @@ abbrev pub newest : List StateId → StateId
 newest leaves = unwrap_or (head leaves) default_state
 
 -- the agent is in the newest leaf, and the memory knows of all that it has entered
-pub record Stands (states : List State) (leaves : List StateId) (x : AgentState) : Type 0 where
+pub record HasEntered (states : List State) (leaves : List StateId) (x : AgentState) : Type 0 where
   pub leaf : x.leaf ≡ newest leaves
   pub remembers : StandsFor states x.memory leaves
 
@@ -23,9 +23,9 @@ abbrev pub nowhere : AgentState
 nowhere = record { leaf = default_state; memory = replicate 64 None }
 
 -- each agent of the scene stands so, by the leaves that it has entered
-pub record AllStand (s : SceneParts) (leaves : AgentId → List StateId) (xs : List AgentState) : Type 0 where
+pub record AllHaveEntered (s : SceneParts) (leaves : AgentId → List StateId) (xs : List AgentState) : Type 0 where
   pub size : length xs ≡ length s.agents
-  pub each : (a : AgentId) → a.0 < length s.agents → Stands (states_of s a) (leaves a) (slice_index_or xs a.0 nowhere)
+  pub each : (a : AgentId) → a.0 < length s.agents → HasEntered (states_of s a) (leaves a) (slice_index_or xs a.0 nowhere)
 
 -- no agent has entered any
 abbrev pub none_entered : AgentId → List StateId
@@ -40,7 +40,7 @@ with_none from to leaves a = if is_between from to a.0 then [] else leaves a
 
 -- the first of these agents have entered none
 pub record AreNew (n : ℕ) (xs : List AgentState) : Type 0 where
-  pub each : (k : ℕ) → k < n → (states : List State) → Stands states [] (slice_index_or xs k nowhere)
+  pub each : (k : ℕ) → k < n → (states : List State) → HasEntered states [] (slice_index_or xs k nowhere)
 
 -- one agent has entered one more
 abbrev pub with_entered : AgentId → StateId → (AgentId → List StateId) → AgentId → List StateId

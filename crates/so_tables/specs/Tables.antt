@@ -128,8 +128,8 @@ tables_of s room h =
     }
 
 -- those of the empty history
-abbrev pub fresh : SceneParts → ℕ → Tables
-fresh s room =
+abbrev pub first_tables : SceneParts → ℕ → Tables
+first_tables s room =
     record {
       events = no_events s room;
       lanes = replicate (lanes s) None;

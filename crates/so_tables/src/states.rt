@@ -7,7 +7,7 @@ ghost use Rattle.so_state.specs.declared.states.State.{State as AnyState};
 ghost use Rattle.so_state.specs.Plan.{plan};
 ghost use Rattle.so_scene.specs.declared.parts.SceneParts.{SceneParts as AnyScene};
 ghost use Rattle.so_scene.specs.Parts.{states_of};
-ghost use Rattle.so_tables.specs.States.{newest, Stands, AllStand, none_entered, with_none, with_entered};
+ghost use Rattle.so_tables.specs.States.{newest, HasEntered, AllHaveEntered, none_entered, with_none, with_entered};
 
 use so_ids::{AgentId, NoMemory, Plan, StateId};
 use so_scene::Scene;
@@ -25,7 +25,7 @@ pub struct AgentState {
 impl AgentState {
     /// An agent that has entered no state is in the default one.
     fn new() -> AgentState
-        ensures { (states : List AnyState) → Stands states [] result }
+        ensures { (states : List AnyState) → HasEntered states [] result }
     {
         AgentState {
             leaf: StateId(0),
@@ -35,7 +35,7 @@ impl AgentState {
 
     /// The agent has entered a leaf.
     fn enter(&mut self, tree: &Tree, leaf: StateId)
-        ensures { (leaves : List StateNumber) → Stands tree.now leaves self.old → Stands tree.now (leaf ∷ leaves) self.new }
+        ensures { (leaves : List StateNumber) → HasEntered tree.now leaves self.old → HasEntered tree.now (leaf ∷ leaves) self.new }
     {
         self.leaf = leaf;
         remember(tree, &mut self.memory, leaf);
@@ -43,7 +43,7 @@ impl AgentState {
 
     /// Its switch to a state, `None` where the state stands for the leaf that it is in.
     fn plan(&self, tree: &Tree, to: StateId) -> Option<Plan>
-        ensures { (leaves : List StateNumber) → Stands tree.now leaves self.now → result ≡ plan tree.now leaves (newest leaves) to }
+        ensures { (leaves : List StateNumber) → HasEntered tree.now leaves self.now → result ≡ plan tree.now leaves (newest leaves) to }
     {
         switch_plan(tree, &self.memory, self.leaf, to)
     }
@@ -67,7 +67,7 @@ impl Model for States {
 impl States {
     /// Those of agents that have entered none.
     pub fn with(alloc: Global, scene: &Scene) -> Result<States, NoMemory>
-        ensures { IfOk result (AllStand scene.now none_entered) }
+        ensures { IfOk result (AllHaveEntered scene.now none_entered) }
     {
         let _parts = scene.parts();
         let mut list = Vec::new(alloc);
@@ -84,7 +84,7 @@ impl States {
         requires size { length self.old ≡ length scene.now.agents }
         requires range { first.0 + count ≤ length scene.now.agents }
         requires numbers { first.0 + count < 2 ^ 32 }
-        ensures { (leaves : AgentNumber → List StateNumber) → AllStand scene.now leaves self.old → AllStand scene.now (with_none first.0 (first.0 + count) leaves) self.new }
+        ensures { (leaves : AgentNumber → List StateNumber) → AllHaveEntered scene.now leaves self.old → AllHaveEntered scene.now (with_none first.0 (first.0 + count) leaves) self.new }
     {
         for k in 0..count {
             self.set(first.0 + k, AgentState::new());
@@ -103,7 +103,7 @@ impl States {
     pub fn enter(&mut self, scene: &Scene, agent: AgentId, leaf: StateId)
         requires agent { agent.0 < length scene.now.agents }
         requires size { length self.old ≡ length scene.now.agents }
-        ensures { (leaves : AgentNumber → List StateNumber) → AllStand scene.now leaves self.old → AllStand scene.now (with_entered agent leaf leaves) self.new }
+        ensures { (leaves : AgentNumber → List StateNumber) → AllHaveEntered scene.now leaves self.old → AllHaveEntered scene.now (with_entered agent leaf leaves) self.new }
     {
         let tree = &scene.agent(agent).tree;
         self.list[agent.0 as usize].enter(tree, leaf);
@@ -112,7 +112,7 @@ impl States {
     /// The leaf that an agent is in.
     pub fn leaf(&self, agent: AgentId) -> StateId
         requires { agent.0 < length self.now }
-        ensures { (s : AnyScene) (leaves : AgentNumber → List StateNumber) → agent.0 < length s.agents → AllStand s leaves self.now → result ≡ newest (leaves agent) }
+        ensures { (s : AnyScene) (leaves : AgentNumber → List StateNumber) → agent.0 < length s.agents → AllHaveEntered s leaves self.now → result ≡ newest (leaves agent) }
     {
         self.list[agent.0 as usize].leaf
     }
@@ -121,7 +121,7 @@ impl States {
     pub fn plan(&self, scene: &Scene, agent: AgentId, to: StateId) -> Option<Plan>
         requires agent { agent.0 < length scene.now.agents }
         requires size { length self.now ≡ length scene.now.agents }
-        ensures { (leaves : AgentNumber → List StateNumber) → AllStand scene.now leaves self.now → result ≡ plan (states_of scene.now agent) (leaves agent) (newest (leaves agent)) to }
+        ensures { (leaves : AgentNumber → List StateNumber) → AllHaveEntered scene.now leaves self.now → result ≡ plan (states_of scene.now agent) (leaves agent) (newest (leaves agent)) to }
     {
         let tree = &scene.agent(agent).tree;
         self.list[agent.0 as usize].plan(tree, to)

@@ -52,12 +52,12 @@ pub struct Tables<'a> {
 }
 
 impl<'a> Tables<'a> {
-    ghost use Rattle.so_tables.specs.Tables.{fresh};
+    ghost use Rattle.so_tables.specs.Tables.{first_tables};
     ghost use Rattle.so_tables.specs.AfterEntry.{MayAbsorb, after_entry};
 
     /// The tables of the empty history.
     pub fn with(alloc: Global, scene: &'a Scene, room: u32) -> Result<Tables<'a>, NoMemory>
-        ensures { IfOk result (λ t. t ≡ fresh scene.now room) }
+        ensures { IfOk result (λ t. t ≡ first_tables scene.now room) }
     {
         Ok(Tables {
             events: Events::with(alloc, scene, room)?,

@@ -27,7 +27,7 @@ use Rattle.so_history.specs.declared.entry.EntryKind.TheVariants as entry
 use Rattle.so_history.specs.declared.entry.SkipWhy.TheVariants as skip_why
 use Rattle.so_history.specs.declared.entry.StopCause.TheVariants as stop_cause
 use Rattle.so_history.specs.declared.entry.AbortCause.TheVariants as abort_cause
-use Rattle.so_history.specs.Trace.{effect_words, answer_words, kind_words, trace_line}
+use Rattle.so_text.specs.Trace.{effect_words, answer_words, kind_words, trace_line}
 
 -- the decimal text of each digit
 zero_is : decimal 0 ≡ codes "0"

@@ -6,7 +6,7 @@ use Rattle.std.proofs.lemmas.List.{append-nil, take_at, take-append-drop, take-t
 use Rattle.std.proofs.Math.Seq.{take-append-add}
 use Rattle.std.proofs.lemmas.Slice.Eq.{bytes_eq-Decides}
 use Rattle.sorun.specs.Words.{is_file}
-use Rattle.so_history.specs.declared.lines.Mode.{Mode}
+use Rattle.so_text.specs.declared.lines.Mode.{Mode}
 use Rattle.sorun.specs.Options.{no_options, options_of, count_of, units_of, size_of}
 use Rattle.sorun.specs.Commands.{Command, load, check_of, sim_of, size_then, sized, load_of, command_of, plain, optioned, after_options, file_at, file_then}
 use Rattle.sorun.specs.Sentences.{AreOptions, IsSentence, Begins, IsFaultAt, AreRead}

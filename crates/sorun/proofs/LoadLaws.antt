@@ -8,7 +8,7 @@ use Rattle.std.proofs.lemmas.Option.{none-some, same_Some}
 use Rattle.so_io.specs.Count.{HasCause}
 use Rattle.so_scene.specs.declared.parts.SceneParts.{SceneParts}
 use Rattle.so_history.specs.declared.entry.Entry.{Entry}
-use Rattle.so_history.specs.declared.lines.Mode.TheVariants.{Plain}
+use Rattle.so_text.specs.declared.lines.Mode.TheVariants.{Plain}
 use Rattle.so_history.specs.Places.{entry_at}
 use Rattle.so_history.proofs.PlaceLaws.{inside}
 use Rattle.so_history.specs.Demands.{demands, queued_by}

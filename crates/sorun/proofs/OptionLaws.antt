@@ -7,8 +7,8 @@ use Rattle.std.proofs.lemmas.Option.{none-some, same_Some}
 use Rattle.std.proofs.lemmas.Slice.Eq.{bytes_eq-Decides}
 use Rattle.so_ids.specs.Limits.{most_units}
 use Rattle.sorun.specs.Words.{is_file}
-use Rattle.so_history.specs.declared.lines.Mode.{Mode}
-use Rattle.so_history.specs.declared.lines.Mode.TheVariants.{Plain, Trace}
+use Rattle.so_text.specs.declared.lines.Mode.{Mode}
+use Rattle.so_text.specs.declared.lines.Mode.TheVariants.{Plain, Trace}
 use Rattle.sorun.specs.Options.{with_option, options_of, no_options, with_trace, with_limit, count_of, limit_of}
 use Rattle.sorun.specs.Sentences.{SetsLimit, AreLimitWords, AreOptions, mode_words}
 use Rattle.sorun.specs.declared.options.Options.{Options}

@@ -2,7 +2,7 @@
 use Rattle.std.specs.Prelude.{ℕ, ◌+◌, ◌≤◌, List, [], ◌∷◌, Option, Some, None, Result, Ok, Err, if◌then◌else◌, codes}
 use Rattle.std.specs.Str.{bytes_eq}
 use Rattle.so_ids.specs.Limits.{most_units}
-use Rattle.so_history.specs.declared.lines.Mode.{Mode}
+use Rattle.so_text.specs.declared.lines.Mode.{Mode}
 use Rattle.sorun.specs.Words.{is_file}
 use Rattle.sorun.specs.Options.{no_options, options_of, count_of, units_of, size_of}
 use Rattle.so_ring.specs.Ring.{most_in_ring}

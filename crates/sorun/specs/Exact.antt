@@ -4,13 +4,13 @@ use Rattle.std.specs.Io.KnownBytes.{Appends}
 use Rattle.so_io.specs.Count.{Rose}
 use Rattle.so_scene.specs.declared.parts.SceneParts.{SceneParts}
 use Rattle.so_fault.specs.declared.fault.SceneFault.{SceneFault}
-use Rattle.so_history.specs.declared.lines.Mode.{Mode}
+use Rattle.so_text.specs.declared.lines.Mode.{Mode}
 use Rattle.so_history.specs.Kept.{Kept}
 use Rattle.so_history.specs.Steps.{finished, is_over, Legal}
 use Rattle.so_history.specs.Coops.{aborted}
 use Rattle.so_history.specs.Chain.{IsChain}
 use Rattle.so_facts.specs.All.{HasAllFacts}
-use Rattle.so_history.specs.Text.{text}
+use Rattle.so_text.specs.Text.{text}
 use Rattle.so_env.specs.declared.outcome.Cause.TheVariants.{Done, Usage, Limit, Aborted, Scene, Read, Long, Write, Memory}
 use Rattle.so_history.specs.Chain.{StopsAtLimit}
 use Rattle.sorun.specs.Commands.{Command, of_file, load}

@@ -3,7 +3,7 @@ use Rattle.std.specs.Prelude.{ℕ, ◌+◌, List, [], ◌∷◌, length, drop, �
 use Rattle.std.specs.Str.{all_ascii_digits, bytes_eq}
 use Rattle.std.specs.Str.Parse.{digits_value}
 use Rattle.so_ids.specs.Limits.{most_units}
-use Rattle.so_history.specs.declared.lines.Mode.TheVariants.{Plain, Trace}
+use Rattle.so_text.specs.declared.lines.Mode.TheVariants.{Plain, Trace}
 use Rattle.so_ring.specs.Ring.{most_in_ring}
 use Rattle.sorun.specs.declared.options.Options.{Options}
 

@@ -2,8 +2,8 @@
 use Rattle.std.specs.Prelude.{◌≡◌, ◌⊎◌, ◌↔◌, ℕ, ◌+◌, ◌<◌, ◌≤◌, List, [], ◌∷◌, ◌++◌, length, take, true, Option, Some, None, unwrap_or, Ok, Err, codes, IfSome}
 use Rattle.std.specs.Str.Parse.{IsNumeral, digits_value}
 use Rattle.so_ids.specs.Limits.{most_units}
-use Rattle.so_history.specs.declared.lines.Mode.{Mode}
-use Rattle.so_history.specs.declared.lines.Mode.TheVariants.{Plain, Trace}
+use Rattle.so_text.specs.declared.lines.Mode.{Mode}
+use Rattle.so_text.specs.declared.lines.Mode.TheVariants.{Plain, Trace}
 use Rattle.sorun.specs.Words.{is_file}
 use Rattle.sorun.specs.Options.{usual_units, most_digits, most_size_digits}
 use Rattle.so_ring.specs.Ring.{most_in_ring}

@@ -13,11 +13,11 @@ use crate::report::{Report, refused, status_of};
 use crate::summary::put_summary;
 use so_env::{Cause, Outcome, simulate};
 use so_fault::SceneRefusal;
-use so_history::Mode;
 use so_io::{Files, ReadFail, Sink, put_all};
 use so_lines::LineBuf;
 use so_scene::Scene;
 use so_scene_json::read_scene;
+use so_text::Mode;
 use std::alloc::Global;
 
 /// The greatest length of a scene file, in bytes.

@@ -7,7 +7,7 @@ ghost use Rattle.sorun.specs.Sentences.{AreRead};
 ghost use Rattle.sorun.specs.Commands.{IsPossible, meant, check_of, sim_of, load_of, plain, file_at, after_options, command_of};
 
 use crate::options::{Options, options_of, size_of};
-use so_history::Mode;
+use so_text::Mode;
 
 /// What is to be done with a scene.
 #[derive(Clone, Copy)]

@@ -9,7 +9,7 @@ ghost use Rattle.sorun.specs.Answers.{status_of, IsRingRun, LoadAnswers};
 use crate::report::{Report, refused, status_of};
 use so_env::{Cause, Outcome, simulate};
 use so_fault::SceneRefusal;
-use so_history::{EntryKind, History, Mode};
+use so_history::{EntryKind, History};
 use so_ids::{NoMemory, Place};
 use so_io::{NeverFails, Sink, put_all};
 use so_lines::{LineBuf, put, put_word};
@@ -17,6 +17,7 @@ use so_ring::ring;
 use so_scene::Scene;
 use so_scene_json::read_scene;
 use so_scene_writer::write_scene;
+use so_text::Mode;
 use std::alloc::Global;
 
 /// The units that a ring's run may spend: so many for each agent, and as many more.

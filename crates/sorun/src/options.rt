@@ -6,8 +6,8 @@ ghost use Rattle.sorun.specs.Words.{texts};
 ghost use Rattle.sorun.specs.Sentences.{IsWritten, SetsLimit};
 ghost use Rattle.sorun.specs.Options.{with_trace, with_limit, with_option, options_of, count_of, units_of, size_of};
 
-use so_history::Mode;
 use so_ring::MOST_IN_RING;
+use so_text::Mode;
 
 /// The greatest limit that may be given, in units.
 const MOST_UNITS: u32 = 1_000_000;

@@ -1,4 +1,4 @@
-use Rattle.so_history.proofs.OrderLaws.{in_order as law}
+use Rattle.so_legal.proofs.OrderLaws.{in_order as law}
 use Rattle.so_history_laws.proofs.in_order.Goals as goal
 
 pub returns : goal.returns

@@ -3,7 +3,7 @@
 ghost use Rattle.std.specs.Prelude.{◌≡◌, ◌<◌, length, List};
 ghost use Rattle.so_ids.specs.declared.StateId.{StateId as StateNumber};
 ghost use Rattle.so_ids.specs.declared.AgentId.{AgentId as AgentNumber};
-ghost use Rattle.so_tables.specs.States.{AllStand};
+ghost use Rattle.so_tables.specs.States.{AllHaveEntered};
 ghost use Rattle.so_tables.specs.AfterStates.{MayAbsorb, MayAct, MayState, set_none, after_state, after_act, after_entry};
 
 use crate::found::Found;
@@ -17,7 +17,7 @@ use so_scene::Scene;
 pub fn absorb_states(states: &mut States, scene: &Scene, found: Found, kind: EntryKind)
     requires size { length states.old ≡ length scene.now.agents }
     requires may { MayAbsorb scene.now found kind }
-    ensures { (leaves : AgentNumber → List StateNumber) → AllStand scene.now leaves states.old → AllStand scene.now (after_entry scene.now found kind leaves) states.new }
+    ensures { (leaves : AgentNumber → List StateNumber) → AllHaveEntered scene.now leaves states.old → AllHaveEntered scene.now (after_entry scene.now found kind leaves) states.new }
 {
     match kind {
         EntryKind::Register { coop } => enter(states, scene, coop),
@@ -33,7 +33,7 @@ pub fn absorb_states(states: &mut States, scene: &Scene, found: Found, kind: Ent
 fn acted(states: &mut States, scene: &Scene, found: Found, effect: Effect, answer: Answer)
     requires size { length states.old ≡ length scene.now.agents }
     requires may { MayAct scene.now found effect answer }
-    ensures { (leaves : AgentNumber → List StateNumber) → AllStand scene.now leaves states.old → AllStand scene.now (after_act scene.now found effect answer leaves) states.new }
+    ensures { (leaves : AgentNumber → List StateNumber) → AllHaveEntered scene.now leaves states.old → AllHaveEntered scene.now (after_act scene.now found effect answer leaves) states.new }
 {
     match effect {
         Effect::Register { coop } => match answer {
@@ -48,7 +48,7 @@ fn acted(states: &mut States, scene: &Scene, found: Found, effect: Effect, answe
 fn entered(states: &mut States, scene: &Scene, found: Found, leaf: StateId)
     requires size { length states.old ≡ length scene.now.agents }
     requires may { MayState scene.now found }
-    ensures { (leaves : AgentNumber → List StateNumber) → AllStand scene.now leaves states.old → AllStand scene.now (after_state found leaf leaves) states.new }
+    ensures { (leaves : AgentNumber → List StateNumber) → AllHaveEntered scene.now leaves states.old → AllHaveEntered scene.now (after_state found leaf leaves) states.new }
 {
     match found {
         Found::Turn(turn) => states.enter(scene, turn.agent, leaf),
@@ -60,7 +60,7 @@ fn entered(states: &mut States, scene: &Scene, found: Found, leaf: StateId)
 fn enter(states: &mut States, scene: &Scene, coop: CoopId)
     requires size { length states.old ≡ length scene.now.agents }
     requires coop { coop.0 < length scene.now.coops }
-    ensures { (leaves : AgentNumber → List StateNumber) → AllStand scene.now leaves states.old → AllStand scene.now (set_none scene.now coop leaves) states.new }
+    ensures { (leaves : AgentNumber → List StateNumber) → AllHaveEntered scene.now leaves states.old → AllHaveEntered scene.now (set_none scene.now coop leaves) states.new }
 {
     let _parts = scene.parts();
     let def = scene.coop(coop);

@@ -1,6 +1,6 @@
 use Rattle.std.proofs.Common.{◌≡◌, ◌∷◌, length, ◌∙◌, ap, subst, arith, List, false}
 use Rattle.so_history.specs.declared.entry.Entry.{Entry}
-use Rattle.so_history.specs.Text.{text}
+use Rattle.so_text.specs.Text.{text}
 use Rattle.so_printer.specs.Printing.{IsPrinting}
 use Rattle.so_env.proofs.RunLaws.{adds, adds_none, way_on, way_shorter, way_end, added_entry, same_after}
 use Rattle.so_env.proofs.PrintLaws.{printing_none, print_on, risen_on}

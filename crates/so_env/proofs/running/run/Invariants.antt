@@ -1,5 +1,5 @@
 use Rattle.std.proofs.Common.{◌-◌, ◌≤◌, length}
-use Rattle.so_history.specs.Text.{text}
+use Rattle.so_text.specs.Text.{text}
 use Rattle.so_printer.specs.Printing.{IsPrinting}
 use Rattle.so_env.specs.Runs.{IsOnTheWay}
 use Rattle.so_env.specs.Prints.{HasRisen}

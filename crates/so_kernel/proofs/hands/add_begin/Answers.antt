@@ -2,8 +2,8 @@ use Rattle.std.proofs.Common.{◌≡◌, length, sym, ◌∙◌, ap, subst}
 use Rattle.so_history.specs.declared.entry.EntryKind.{EntryKind}
 use Rattle.so_history.specs.Order.{opening_of, taking}
 use Rattle.so_history.specs.Safety.{is_safe}
-use Rattle.so_history.proofs.OrderLaws.{message_picked, event_picked}
-use Rattle.so_history.proofs.DemandLaws.{picked_of}
+use Rattle.so_legal.proofs.OrderLaws.{message_picked, event_picked}
+use Rattle.so_legal.proofs.DemandLaws.{picked_of}
 use Rattle.so_tables.specs.declared.found.Found.TheVariants as what
 use Rattle.so_tables.specs.declared.found.FoundDemand.{FoundDemand}
 use Rattle.so_tables.specs.Found.{IsFound}

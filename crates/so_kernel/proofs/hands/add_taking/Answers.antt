@@ -1,4 +1,4 @@
-use Rattle.so_history.proofs.DemandLaws.{picked_of}
+use Rattle.so_legal.proofs.DemandLaws.{picked_of}
 use Rattle.so_kernel.proofs.HandLaws.{found_taken, sent_taken}
 use Rattle.so_kernel.proofs.hands.add_taking.Goals as goal
 

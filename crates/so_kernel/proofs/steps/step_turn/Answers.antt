@@ -1,4 +1,4 @@
-use Rattle.so_history.proofs.SoundLaws.{course_sound}
+use Rattle.so_legal.proofs.SoundLaws.{course_sound}
 use Rattle.so_kernel.proofs.HandLaws.{held_agent}
 use Rattle.so_kernel.proofs.steps.step_turn.Goals as goal
 

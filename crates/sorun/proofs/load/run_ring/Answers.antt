@@ -1,7 +1,7 @@
 use Rattle.std.proofs.Common.{◌≡◌, ◌-◌, Some, None, ap, refl}
 use Rattle.so_history.specs.Kept.{Kept}
 use Rattle.so_history.specs.Units.{units}
-use Rattle.so_history.specs.declared.lines.Mode.TheVariants.{Plain}
+use Rattle.so_text.specs.declared.lines.Mode.TheVariants.{Plain}
 use Rattle.so_env.specs.Prints.{IsSimulated}
 use Rattle.sorun.specs.Loads.{ring_units}
 use Rattle.sorun.proofs.LoadLaws.{is_ring_run, few_entries, from_ok, held}

@@ -2,7 +2,7 @@ use Rattle.std.proofs.Common.{sym, ◌∙◌, ap, subst}
 use Rattle.so_scene.specs.Cooperations.{admission}
 use Rattle.so_history.specs.declared.entry.Entry.{Entry}
 use Rattle.so_history.specs.Coops.{standing}
-use Rattle.so_history_laws.proofs.ChainLaws.{registered}
+use Rattle.so_history_laws.proofs.ChainLaws.{registers_of}
 use Rattle.so_tables.specs.declared.found.Found.TheVariants as what
 use Rattle.so_tables.specs.AfterEvents.{IsSent}
 use Rattle.so_tables.specs.Found.{IsFound}
@@ -26,7 +26,7 @@ add-requires-clause-sent c =
 pub returns-in-Ok-clause-answer : goal.returns-in-Ok-clause-answer
 returns-in-Ok-clause-answer c =
     let k = c.self.inside.ledger in
-    let it = registered k.scene k.history c.in-Ok.entry (sym c.registration-next.ensures.value ∙ c.in-Ok.ensures.same) in
+    let it = registers_of k.scene k.history c.in-Ok.entry (sym c.registration-next.ensures.value ∙ c.in-Ok.ensures.same) in
     rw (← c.self.view_is)
     (added_registered it.coop (admission k.scene (standing k.history) it.coop)
     ∙ (ap (λ (e : Entry). added e.kind) (sym it.is)

@@ -1,7 +1,7 @@
 use Rattle.std.proofs.Common.{◌≡◌, ◌<◌, length, refl, sym, ◌∙◌, subst}
 use Rattle.so_lists.proofs.EachBelow.{length-each_below, get_or-each_below}
 use Rattle.so_history.specs.Turns.{vars}
-use Rattle.so_history.proofs.OpeningLaws.{opening_fits}
+use Rattle.so_legal.proofs.OpeningLaws.{opening_fits}
 use Rattle.so_ledger.specs.Shapes.{Core}
 use Rattle.so_ledger.proofs.ledger.Ledger.begin_frame.Goals as goal
 

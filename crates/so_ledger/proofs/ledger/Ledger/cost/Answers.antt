@@ -1,13 +1,13 @@
 use Rattle.std.proofs.Common.{◌≤◌, sym, arith, subst}
 use Rattle.so_history.specs.declared.entry.DemandKind.TheVariants.{Start, Finish}
 use Rattle.so_history.specs.declared.entry.EntryKind.TheVariants.{Register, Leaving}
-use Rattle.so_history.proofs.DemandLaws.{cost-asked}
+use Rattle.so_legal.proofs.DemandLaws.{cost-asked}
 use Rattle.so_history_laws.proofs.PresenceLaws.{leaves_present}
-use Rattle.so_history.proofs.RosterLaws.{present_within}
+use Rattle.so_legal.proofs.RosterLaws.{present_within}
 use Rattle.so_history.specs.Steps.{MayFollow}
 use Rattle.so_ledger.specs.Shapes.{Core}
 use Rattle.so_ledger.specs.Gates.{NamesCoop, queued_by_act}
-use Rattle.so_history.proofs.TextLaws.{next_within}
+use Rattle.so_legal.proofs.RangeLaws.{next_within}
 use Rattle.so_ledger.proofs.CostLaws.{cost_told, act_coop}
 use Rattle.so_ledger.proofs.ledger.Ledger.cost.Goals as goal
 

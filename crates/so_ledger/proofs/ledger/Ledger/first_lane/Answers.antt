@@ -7,7 +7,7 @@ use Rattle.so_scene.specs.Checked.{IsScene}
 use Rattle.so_history.specs.declared.entry.Entry.{Entry}
 use Rattle.so_history.specs.Demands.{waiting}
 use Rattle.so_history.specs.Order.{pick, is_free}
-use Rattle.so_history.proofs.DemandLaws.{pick-free, pick-busy}
+use Rattle.so_legal.proofs.DemandLaws.{pick-free, pick-busy}
 use Rattle.so_events.specs.Events.{may_take_by}
 use Rattle.so_tables.specs.Tables.{events_of}
 use Rattle.so_ledger.specs.Classes.{class_named}

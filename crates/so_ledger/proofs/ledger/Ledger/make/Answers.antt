@@ -1,6 +1,6 @@
 use Rattle.std.proofs.Common.{sym, ◌∙◌, arith}
 use Rattle.std.proofs.lemmas.Bool.{false≢true}
-use Rattle.so_history.proofs.DemandLaws.{units-nil}
+use Rattle.so_legal.proofs.DemandLaws.{units-nil}
 use Rattle.so_tables.proofs.TableLaws.{tables-fresh}
 use Rattle.so_tables.proofs.StateLaws.{stands_fresh}
 use Rattle.so_ledger.proofs.ledger.Ledger.make.Goals as goal

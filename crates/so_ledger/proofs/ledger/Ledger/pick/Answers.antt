@@ -6,7 +6,7 @@ use Rattle.so_scene.specs.Lanes.{lanes}
 use Rattle.so_history.specs.Demands.{waiting}
 use Rattle.so_history.specs.Turns.{lane_number}
 use Rattle.so_history.specs.Order.{may_take}
-use Rattle.so_history.proofs.DemandLaws.{pick-free, pick-busy}
+use Rattle.so_legal.proofs.DemandLaws.{pick-free, pick-busy}
 use Rattle.so_events.specs.Events.{may_take_by}
 use Rattle.so_ledger.specs.Classes.{class_named}
 use Rattle.so_tables.specs.Tables.{places}

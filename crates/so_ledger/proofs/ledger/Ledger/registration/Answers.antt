@@ -1,5 +1,5 @@
 use Rattle.std.proofs.Common.{sym, ◌∙◌}
-use Rattle.so_history.proofs.TextLaws.{next_within}
+use Rattle.so_legal.proofs.RangeLaws.{next_within}
 use Rattle.so_ledger.proofs.DecideLaws.{registration_made, registration_over, registering_row}
 use Rattle.so_ledger.proofs.ledger.Ledger.registration.Goals as goal
 

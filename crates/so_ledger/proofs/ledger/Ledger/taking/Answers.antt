@@ -1,5 +1,5 @@
 use Rattle.std.proofs.Common.{sym, ◌∙◌}
-use Rattle.so_history.proofs.DemandLaws.{picked_of}
+use Rattle.so_legal.proofs.DemandLaws.{picked_of}
 use Rattle.so_ledger.proofs.CostLaws.{taking_row}
 use Rattle.so_ledger.proofs.ledger.Ledger.taking.Goals as goal
 

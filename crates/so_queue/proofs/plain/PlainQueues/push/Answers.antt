@@ -22,8 +22,8 @@ invariant_of-self c =
     let room : 0 < c.self.inside.room = (let P : QueueTable → Type 0 = λ v. 0 < v.room in subst P (sym c.self.view_is) c.requires.room) in
     let last : IsAfterAll lists c.args.demand = (let P : QueueTable → Type 0 = λ v. IsAfterAll v.lists c.args.demand in subst P (sym c.self.view_is) c.requires.last) in
     let long : s < length lists = omega (arith, length-lists_on n c.self.inside.waiting.items) in
-    let apart : IsApart (lists_on n c.push_reserved.new.self.items) = rw (c.push_reserved.ensures.items, lists_pushed n c.self.inside.waiting.items w within) (apart_push lists s c.args.demand c.self.invariant.0 last (search rules) long) in
-    let more : length c.push_reserved.new.self.items ≡ length c.self.inside.waiting.items + 1 = rw c.push_reserved.ensures.items (length_push c.self.inside.waiting.items w) in
+    let apart : IsApart (lists_on n c.push_reserved.new.self.items) = rw (c.push_reserved.ensures.items, c.slot_of-slot.ensures, lists_pushed n c.self.inside.waiting.items w within) (apart_push lists s c.args.demand c.self.invariant.0 last (search rules) long) in
+    let more : length c.push_reserved.new.self.items ≡ length c.self.inside.waiting.items + 1 = rw (c.push_reserved.ensures.items, c.slot_of-slot.ensures) (length_push c.self.inside.waiting.items w) in
     (apart, c.self.invariant.1, grind arith, omega arith)
 
 pub returns : goal.returns
@@ -35,5 +35,5 @@ returns c =
     let level : c.args.priority.level ≤ 7 = search rules in
     let within : s < n = omega arith in
     let w : Waiting = record { slot = s; demand = c.args.demand } in
-    let new : lists_on n c.push_reserved.new.self.items ≡ slice_set lists s (list_at lists s ++ c.args.demand ∷ []) = rw c.push_reserved.ensures.items (lists_pushed n c.self.inside.waiting.items w within) in
+    let new : lists_on n c.push_reserved.new.self.items ≡ slice_set lists s (list_at lists s ++ c.args.demand ∷ []) = rw (c.push_reserved.ensures.items, c.slot_of-slot.ensures) (lists_pushed n c.self.inside.waiting.items w within) in
     rw (← c.self.view_is, new) refl

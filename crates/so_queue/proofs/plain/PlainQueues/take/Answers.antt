@@ -18,7 +18,7 @@ unreachable-requires c =
     let key : c.args.key.0 < length c.self.inside.safe.items = (let P : QueueTable → Type 0 = λ v. c.args.key.0 < keys_of v in subst P (sym c.self.view_is) c.requires.key) in
     let level : c.args.priority.level ≤ 7 = search rules in
     let within : s < n = omega arith in
-    let none : IsPlaceOf c.self.inside.waiting.items s None = (let P : List Waiting → Type 0 = λ ws. IsPlaceOf ws s None in subst P c.deref.ensures.value c.in_default.ensures) in
+    let none : IsPlaceOf c.self.inside.waiting.items s None = (let P : List Waiting → Type 0 = λ ws. IsPlaceOf ws s None in subst P c.deref.ensures.value (rw c.slot_of-slot.ensures at c.in_default.ensures)) in
     let empty : list_at lists s ≡ [] = list_on n c.self.inside.waiting.items s within ∙ none_on c.self.inside.waiting.items s none in
     let waits : IsSome (head_of (list_at lists s)) = (let P : QueueTable → Type 0 = λ v. IsSome (head_of (queue_of v c.args.key c.args.priority)) in subst P (sym c.self.view_is) c.requires.waits) in
     let Q : List DemandId → Type 0 = λ ds. IsSome (head_of ds) in
@@ -33,7 +33,7 @@ invariant_of-self c =
     let key : c.args.key.0 < length c.self.inside.safe.items = (let P : QueueTable → Type 0 = λ v. c.args.key.0 < keys_of v in subst P (sym c.self.view_is) c.requires.key) in
     let level : c.args.priority.level ≤ 7 = search rules in
     let within : s < n = omega arith in
-    let f : IsFirstOn c.self.inside.waiting.items s c.in-Some.at = (let P : List Waiting → Type 0 = λ ws. IsFirstOn ws s c.in-Some.at in subst P c.deref.ensures.value c.in-Some.ensures) in
+    let f : IsFirstOn c.self.inside.waiting.items s c.in-Some.at = (let P : List Waiting → Type 0 = λ ws. IsFirstOn ws s c.in-Some.at in subst P c.deref.ensures.value (rw c.slot_of-slot.ensures at c.in-Some.ensures)) in
     let is : c.remove-taken.result ≡ waiting_at c.self.inside.waiting.items c.in-Some.at = get_or_read c.self.inside.waiting.items c.in-Some.at c.remove-taken.result f.within c.remove-taken.ensures.value no_waiting in
     let head : head_of (list_at lists s) ≡ Some c.remove-taken.result.demand = head_taken n c.self.inside.waiting.items s c.in-Some.at f within ∙ ap (λ (w : Waiting). Some w.demand) (sym is) in
     let new : lists_on n c.remove-taken.new.self.items ≡ slice_set lists s (behind_head (list_at lists s)) = rw c.remove-taken.ensures.items (lists_taken n c.self.inside.waiting.items s c.in-Some.at f within) in
@@ -49,7 +49,7 @@ returns-clause-first c =
     let key : c.args.key.0 < length c.self.inside.safe.items = (let P : QueueTable → Type 0 = λ v. c.args.key.0 < keys_of v in subst P (sym c.self.view_is) c.requires.key) in
     let level : c.args.priority.level ≤ 7 = search rules in
     let within : s < n = omega arith in
-    let f : IsFirstOn c.self.inside.waiting.items s c.in-Some.at = (let P : List Waiting → Type 0 = λ ws. IsFirstOn ws s c.in-Some.at in subst P c.deref.ensures.value c.in-Some.ensures) in
+    let f : IsFirstOn c.self.inside.waiting.items s c.in-Some.at = (let P : List Waiting → Type 0 = λ ws. IsFirstOn ws s c.in-Some.at in subst P c.deref.ensures.value (rw c.slot_of-slot.ensures at c.in-Some.ensures)) in
     let is : c.remove-taken.result ≡ waiting_at c.self.inside.waiting.items c.in-Some.at = get_or_read c.self.inside.waiting.items c.in-Some.at c.remove-taken.result f.within c.remove-taken.ensures.value no_waiting in
     let head : head_of (list_at lists s) ≡ Some c.remove-taken.result.demand = head_taken n c.self.inside.waiting.items s c.in-Some.at f within ∙ ap (λ (w : Waiting). Some w.demand) (sym is) in
     let new : lists_on n c.remove-taken.new.self.items ≡ slice_set lists s (behind_head (list_at lists s)) = rw c.remove-taken.ensures.items (lists_taken n c.self.inside.waiting.items s c.in-Some.at f within) in
@@ -64,7 +64,7 @@ returns-clause-after c =
     let key : c.args.key.0 < length c.self.inside.safe.items = (let P : QueueTable → Type 0 = λ v. c.args.key.0 < keys_of v in subst P (sym c.self.view_is) c.requires.key) in
     let level : c.args.priority.level ≤ 7 = search rules in
     let within : s < n = omega arith in
-    let f : IsFirstOn c.self.inside.waiting.items s c.in-Some.at = (let P : List Waiting → Type 0 = λ ws. IsFirstOn ws s c.in-Some.at in subst P c.deref.ensures.value c.in-Some.ensures) in
+    let f : IsFirstOn c.self.inside.waiting.items s c.in-Some.at = (let P : List Waiting → Type 0 = λ ws. IsFirstOn ws s c.in-Some.at in subst P c.deref.ensures.value (rw c.slot_of-slot.ensures at c.in-Some.ensures)) in
     let is : c.remove-taken.result ≡ waiting_at c.self.inside.waiting.items c.in-Some.at = get_or_read c.self.inside.waiting.items c.in-Some.at c.remove-taken.result f.within c.remove-taken.ensures.value no_waiting in
     let head : head_of (list_at lists s) ≡ Some c.remove-taken.result.demand = head_taken n c.self.inside.waiting.items s c.in-Some.at f within ∙ ap (λ (w : Waiting). Some w.demand) (sym is) in
     let new : lists_on n c.remove-taken.new.self.items ≡ slice_set lists s (behind_head (list_at lists s)) = rw c.remove-taken.ensures.items (lists_taken n c.self.inside.waiting.items s c.in-Some.at f within) in

@@ -1,6 +1,6 @@
 use Rattle.std.proofs.Common.{◌≡◌, ◌+◌, arith, ◌∙◌, subst}
 use Rattle.std.proofs.lemmas.List.{length-set}
-use Rattle.so_tables.specs.States.{AllStand, with_none}
+use Rattle.so_tables.specs.States.{AllHaveEntered, with_none}
 use Rattle.so_tables.proofs.StateLaws.{stands_none, stands_more}
 use Rattle.so_tables.proofs.states.States.set_back.Goals as goal
 
@@ -17,4 +17,4 @@ loop-k-preserved c =
 pub returns : goal.returns
 returns c =
     let last : c.loop-k.k ≡ c.args.count = omega (arith, c.loop-k-test.false, c.loop-k.auto.k-end) in
-    λ leaves all. subst (λ n. AllStand c.args.scene.now (with_none c.args.first.0 (c.args.first.0 + n) leaves) c.loop-k.self) last (c.loop-k.invariant.1 leaves all)
+    λ leaves all. subst (λ n. AllHaveEntered c.args.scene.now (with_none c.args.first.0 (c.args.first.0 + n) leaves) c.loop-k.self) last (c.loop-k.invariant.1 leaves all)

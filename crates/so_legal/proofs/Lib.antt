@@ -1,0 +1,12 @@
+pub mod TakingLaws
+pub mod MoveLaws
+pub mod RosterLaws
+pub mod AskedLaws
+pub mod DemandLaws
+pub mod HeadLaws
+pub mod TurnLaws
+pub mod OpeningLaws
+pub mod CourseLaws
+pub mod SoundLaws
+pub mod OrderLaws
+pub mod RangeLaws

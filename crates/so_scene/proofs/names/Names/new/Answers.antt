@@ -1,5 +1,0 @@
-use Rattle.so_scene.proofs.Positions.{no_names}
-use Rattle.so_scene.proofs.names.Names.new.Goals as goal
-
-pub invariant_of-result : goal.invariant_of-result
-invariant_of-result c = rw c.new.ensures.empty no_names

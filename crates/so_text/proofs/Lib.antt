@@ -1,0 +1,4 @@
+pub mod RefusalLaws
+pub mod TextLaws
+pub mod CauseLaws
+pub mod LineLaws
