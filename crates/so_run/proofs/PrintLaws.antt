@@ -1,16 +1,18 @@
 -- The text that main has printed.
-use Rattle.std.proofs.Common.{◌≡◌, ℕ, ◌+◌, ◌<◌, List, [], ◌∷◌, ◌++◌, length, Bool, true, false, Option, Some, arith, refl, sym, ◌∙◌, ap, subst, length-append, ◌≤◌}
-use Rattle.std.proofs.lemmas.List.{append_assoc}
+use Rattle.std.proofs.Common.{◌≡◌, ℕ, zero, suc, ◌+◌, ◌-◌, ◌<◌, List, [], ◌∷◌, ◌++◌, length, take, drop, Bool, true, false, Option, Some, arith, refl, sym, ◌∙◌, ap, subst, length-append, ◌≤◌}
+use Rattle.std.proofs.lemmas.List.{append_assoc, append-nil}
+use Rattle.std.proofs.Math.Seq.{take-add}
+use Rattle.so_io.proofs.Rising.{Rose-within}
 use Rattle.so_scene.specs.declared.parts.SceneParts.{SceneParts}
 use Rattle.so_history.specs.declared.entry.Entry.{Entry}
 use Rattle.so_history.specs.Places.{entry_at, before}
 use Rattle.so_history.proofs.PlaceLaws.{entry_at-last, entry_at-early, before-last, before-early}
 use Rattle.so_history.specs.declared.lines.Mode.{Mode}
 use Rattle.so_history.specs.Text.{text, line_at, line_of, line_after}
-use Rattle.so_printer.specs.Printing.{PrinterView, IsPrinting, IsPrinted, RisesAnew, IsOneAtMost}
+use Rattle.so_printer.specs.Printing.{PrinterView, IsPrinting, IsPrinted, RisesAnew}
 use Rattle.so_env.specs.Prints.{HasRisen}
 use Rattle.so_env.proofs.PrintLaws.{printing_none, printed_of, risen_on}
-use Rattle.so_run.specs.Printing.{IsOut, HasPrinted}
+use Rattle.so_run.specs.Printing.{IsOut, IsPage, lines_from, HasPrinted}
 
 -- the line of an entry is the same in each longer history
 entry_there : (more : List Entry) (e : Entry) (h : List Entry) → entry_at (more ++ e ∷ h) (length h) ≡ Some e
@@ -37,6 +39,23 @@ pub record Oldest (xs : List Entry) : Type 0 where
 pub oldest_of : (x : Entry) (xs : List Entry) → Oldest (x ∷ xs)
 oldest_of x [] = record { newer = []; oldest = x; is = refl }
 oldest_of x (y ∷ xs) = let it = oldest_of y xs in record { newer = x ∷ it.newer; oldest = it.oldest; is = ap (λ l. x ∷ l) it.is }
+
+-- a part more of a page
+pub part_more : (text page : List ℕ) (n m : ℕ) → (text ++ take n page) ++ take ((n + m) - n) (drop n page) ≡ text ++ take (n + m) page
+part_more text page n m =
+    let part : (n + m) - n ≡ m = omega arith in
+    append_assoc text (take n page) (take ((n + m) - n) (drop n page)) ∙ ap (λ l. text ++ l) (ap (λ (k : ℕ). take n page ++ take k (drop n page)) part ∙ sym (take-add n m page))
+
+-- two pieces one after the other
+pub risen_more : (was between is : Bool) (x y z : ℕ) → RisesAnew was between x y → RisesAnew between is y z → RisesAnew was is x z
+risen_more was true is x y z one two = record {
+  later = omega (arith, one.later, two.later);
+  rose = λ w i. Rose-within x x y z (omega arith) (one.rose w refl) two.later;
+}
+risen_more was false is x y z one two = record {
+  later = omega (arith, one.later, two.later);
+  rose = λ w i. Rose-within x y z z one.later (two.rose refl i) (omega arith);
+}
 
 -- nothing is printed yet
 abbrev pub nothing_printed : PrinterView
@@ -66,27 +85,74 @@ module _ (s : SceneParts) (mode : Mode) where
     risen = it.risen;
   }
 
-  module _ (p q : PrinterView) (a b c : Option (List ℕ)) (x y z : ℕ) (line : List ℕ) (adds : (t : List ℕ) → IsPrinting p.failed a b p t → IsPrinting q.failed a c q (t ++ line)) (one : IsOneAtMost p.pieces q.pieces) (rises : RisesAnew p.failed q.failed y z) where
-    line_case : (h rest done : List Entry) (n : ℕ) → h ≡ rest ++ done → length done ≡ n → IsPrinting p.failed a b p (text s mode done) → p.pieces ≤ n → HasRisen p.failed x y → n < length h → line ≡ line_at s mode h n → HasPrinted s mode h (n + 1) q a c x z
-    line_case h [] done n all counted printed few risen less is = absurd (omega (arith, ap length all, counted))
-    line_case h (w ∷ rest) done n all counted printed few risen less is =
-        let it = oldest_of w rest in
-        let parts : h ≡ it.newer ++ it.oldest ∷ done = all ∙ (ap (λ l. l ++ done) it.is ∙ append_assoc it.newer (it.oldest ∷ []) done) in
-        let here : line ≡ line_after s mode done it.oldest = is ∙ (ap (λ l. line_at s mode l n) parts ∙ (ap (line_at s mode (it.newer ++ it.oldest ∷ done)) (sym counted) ∙ line_there s mode it.newer it.oldest done)) in
-        let more : text s mode done ++ line ≡ text s mode (it.oldest ∷ done) = ap (λ l. text s mode done ++ l) here ∙ sym (text_more s mode it.oldest done) in
-        record {
-          done = it.oldest ∷ done;
-          rest = it.newer;
-          all = parts;
-          counted = omega (arith, counted);
-          text_is = subst (IsPrinting q.failed a c q) more (adds (text s mode done) printed);
-          few = omega (arith, few, one.1);
-          risen = risen_on p.failed q.failed x y z risen rises;
-        }
+  pub lines_none : (h : List Entry) (place : ℕ) → lines_from s mode h place 0 ≡ []
+  unfolding lines_from
+  lines_none h place = refl
 
-    -- one line more
-    pub printed_line : (h : List Entry) (n : ℕ) → HasPrinted s mode h n p a b x y → n < length h → line ≡ line_at s mode h n → HasPrinted s mode h (n + 1) q a c x z
-    printed_line h n it less is = line_case h it.rest it.done n it.all it.counted it.text_is it.few it.risen less is
+  lines_more : (h : List Entry) (place n : ℕ) → lines_from s mode h place (suc n) ≡ lines_from s mode h place n ++ line_at s mode h (place + n)
+  unfolding lines_from
+  lines_more h place n = refl
+
+  -- the lines of one entry more
+  pub lines_next : (h : List Entry) (place n : ℕ) (old line new : List ℕ) → new ≡ old ++ line → old ≡ lines_from s mode h place n → line ≡ line_at s mode h (place + n) → new ≡ lines_from s mode h place (n + 1)
+  lines_next h place n old line new is so_far last =
+      let next : suc n ≡ n + 1 = omega arith in
+      is ∙ (ap (λ l. l ++ line) so_far ∙ (ap (λ l. lines_from s mode h place n ++ l) last ∙ (sym (lines_more h place n) ∙ ap (λ (k : ℕ). lines_from s mode h place k) next)))
+
+  -- a page that isn't empty has a line
+  pub some_lines : (h : List Entry) (place n : ℕ) (page : List ℕ) → page ≡ lines_from s mode h place n → 0 < length page → 0 < n
+  some_lines h place zero page is some = absurd (omega (arith, ap length (is ∙ lines_none h place), some))
+  some_lines h place (suc n) page is some = omega arith
+
+  -- the first entries of a history, n more than these, and their text
+  record Reached (h done : List Entry) (n : ℕ) : Type 0 where
+    now : List Entry
+    rest : List Entry
+    all : h ≡ rest ++ now
+    counted : length now ≡ length done + n
+    is : text s mode now ≡ text s mode done ++ lines_from s mode h (length done) n
+
+  here : (h done rest : List Entry) → h ≡ rest ++ done → Reached h done 0
+  unfolding lines_from
+  here h done rest all = record { now = done; rest = rest; all = all; counted = omega arith; is = sym (append-nil (text s mode done)) }
+
+  further : (h done : List Entry) (n : ℕ) (now rest : List Entry) → h ≡ rest ++ now → length now ≡ length done + n → text s mode now ≡ text s mode done ++ lines_from s mode h (length done) n → length done + suc n ≤ length h → Reached h done (suc n)
+  further h done n now [] all counted is fits = absurd (omega (arith, ap length all, counted, fits))
+  further h done n now (w ∷ rest) all counted is fits =
+      let it = oldest_of w rest in
+      let place = length done + n in
+      let parts : h ≡ it.newer ++ it.oldest ∷ now = all ∙ (ap (λ l. l ++ now) it.is ∙ append_assoc it.newer (it.oldest ∷ []) now) in
+      let line : line_after s mode now it.oldest ≡ line_at s mode h place =
+      sym (ap (λ l. line_at s mode l place) parts ∙ (ap (line_at s mode (it.newer ++ it.oldest ∷ now)) (sym counted) ∙ line_there s mode it.newer it.oldest now)) in
+      record {
+        now = it.oldest ∷ now;
+        rest = it.newer;
+        all = parts;
+        counted = omega (arith, counted);
+        is =
+            text_more s mode it.oldest now ∙ (ap (λ l. l ++ line_after s mode now it.oldest) is ∙ (append_assoc (text s mode done) (lines_from s mode h (length done) n) (line_after s mode now it.oldest)
+            ∙ ap (λ l. text s mode done ++ l) (ap (λ l. lines_from s mode h (length done) n ++ l) line ∙ sym (lines_more h (length done) n))));
+      }
+
+  reached : (h done rest : List Entry) → h ≡ rest ++ done → (n : ℕ) → length done + n ≤ length h → Reached h done n
+  reached h done rest all zero fits = here h done rest all
+  reached h done rest all (suc n) fits = let it = reached h done rest all n (omega (arith, fits)) in further h done n it.now it.rest it.all it.counted it.is fits
+
+  module _ (p q : PrinterView) (a b c : Option (List ℕ)) (x y z : ℕ) (page : List ℕ) (adds : (t : List ℕ) → IsPrinting p.failed a b p t → IsPrinting q.failed a c q (t ++ page)) (more : q.pieces ≤ p.pieces + 4096) (rises : RisesAnew p.failed q.failed y z) where
+    -- a page more
+    pub printed_page : (h : List Entry) (count n : ℕ) → HasPrinted s mode h count p a b x y → IsPage s mode h count n page → HasPrinted s mode h (count + n) q a c x z
+    printed_page h count n it is =
+        let to = reached h it.done it.rest it.all n (omega (arith, it.counted, is.there)) in
+        let on : text s mode to.now ≡ text s mode it.done ++ page = to.is ∙ ap (λ l. text s mode it.done ++ l) (ap (λ (k : ℕ). lines_from s mode h k n) it.counted ∙ sym is.lines) in
+        record {
+          done = to.now;
+          rest = to.rest;
+          all = to.all;
+          counted = omega (arith, to.counted, it.counted);
+          text_is = subst (IsPrinting q.failed a c q) (sym on) (adds (text s mode it.done) it.text_is);
+          few = omega (arith, it.few, more, is.some);
+          risen = risen_on p.failed q.failed x y z it.risen rises;
+        }
 
   -- all is printed
   all_case : (h rest done : List Entry) (n : ℕ) → h ≡ rest ++ done → length done ≡ n → n ≡ length h → done ≡ h

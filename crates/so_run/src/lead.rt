@@ -1,29 +1,26 @@
-//! Main's part of a run: it registers, tidies, and prints each entry's line, one step and one line under each holding.
-//! The line is made under the lock and written outside it. In each round the lanes that main drives make a step each.
+//! Main's part of a run: it registers, tidies, and prints. Under each holding it makes one step, and a page of the lines that
+//! aren't printed yet, which it writes outside the lock. In each round the lanes that main drives make a step each.
 
-ghost use Rattle.std.specs.Prelude.{All, ◌≡◌, ◌<◌, ◌≤◌, ◌-◌, ◌^◌, ℕ, List, Option, [], length};
+ghost use Rattle.std.specs.Prelude.{All, ◌≡◌, ◌≤◌, ℕ, [], length};
 ghost use Rattle.so_ids.specs.Ids.{main_party};
 ghost use Rattle.so_ids.specs.Limits.{most_units};
 ghost use Rattle.so_history.specs.Steps.{Legal};
-ghost use Rattle.so_history.specs.Text.{line_at};
 ghost use Rattle.so_book.specs.History.{Began};
 ghost use Rattle.so_book.specs.Passes.{IsPassOf, party_of, seen_by};
 ghost use Rattle.so_run.specs.Lines.{made_in, opened_in};
 ghost use Rattle.so_run.specs.Knowing.{Knows};
 ghost use Rattle.so_run.specs.Stepping.{HasStopped};
-ghost use Rattle.so_printer.specs.Printing.{IsPrinting, IsPrinted, RisesAnew};
-ghost use Rattle.so_run.specs.Printing.{IsOut, HasEnded};
+ghost use Rattle.so_run.specs.Printing.{IsOut, HasEnded, IsPage};
 ghost use Rattle.so_run.specs.Workers.{IsLane};
 
 use crate::crew::{Worker, drive_all};
+use crate::print::{Page, Printing, end_text, print_page, put_lines};
 use crate::shared::Run;
 use crate::worker::close;
 use so_book::{Book, Pass};
 use so_history::Mode;
-use so_ids::Place;
 use so_io::{Gate, Sink};
 use so_kernel::Stepped;
-use so_lines::LineBuf;
 use so_printer::Printer;
 use so_scene::Scene;
 use std::sync::Wait;
@@ -31,8 +28,8 @@ use std::sync::Wait;
 /// What main found in a round.
 #[derive(Clone, Copy, Debug, PartialEq, Eq)]
 enum Round {
-    /// A line is to be written.
-    Line,
+    /// A page of so many lines is to be written.
+    Lines(u32),
     /// All is written, and main has tried all its registrations.
     AllTried,
     /// All is written, and main has nothing to do now.
@@ -64,18 +61,18 @@ pub(crate) fn lead_run<'b, 'a, R: Wait, G: Gate, K: Sink>(
     ensures printed { IsOut scene.now mode (made_in (seen_by result.0)) result.1.failed result.1.pieces (K.content out.old) (K.content out.new) (K.faults out.old) (K.faults out.new) }
 {
     let mut pass = pass;
-    let mut line = LineBuf::new();
+    let mut page = Page::new();
     let mut registering = true;
     let mut count = 0;
     let mut printer = Printer::new();
     for _ in rt.forever() {
-        let (after, round) = make_round(rt, book, pass, scene, mode, registering, count, &mut line);
+        let (after, round) = make_round(rt, book, pass, scene, mode, registering, count, &mut page);
         pass = after;
         let has_driven = drive_all(rt, book, scene, driven);
         match round {
-            Round::Line => {
-                printer.add(out, line.as_slice());
-                count += 1;
+            Round::Lines(more) => {
+                print_page(out, page.as_slice(), &mut printer);
+                count += more;
             }
             Round::AllTried => registering = false,
             Round::Nothing => pass = rest_unless(rt, book, pass, has_driven),
@@ -104,7 +101,7 @@ fn rest_unless<'a, R: Wait>(
     }
 }
 
-/// Makes main's next step, and the line of the entry that is to be printed.
+/// Makes main's next step, and the lines of entries that are to be printed.
 fn make_round<'a, R: Wait>(
     rt: &R,
     book: &Book<Run<'a>>,
@@ -113,7 +110,7 @@ fn make_round<'a, R: Wait>(
     mode: Mode,
     registering: bool,
     count: u32,
-    line: &mut LineBuf,
+    page: &mut Page,
 ) -> (Pass<Run<'a>>, Round)
     requires pass { IsPassOf book.now pass × (party_of pass ≡ main_party) }
     requires knows { Knows scene.now (seen_by pass) }
@@ -123,13 +120,13 @@ fn make_round<'a, R: Wait>(
     ensures opened { opened_in (seen_by result.0) ≡ opened_in (seen_by pass.entry) }
     ensures later { Began (made_in (seen_by pass.entry)) (made_in (seen_by result.0)) }
     ensures few { length (made_in (seen_by result.0)) ≤ most_units }
-    ensures line { result.1 ≡ Round.Line → (count < length (made_in (seen_by result.0))) × (line.new.items ≡ line_at scene.now mode (made_in (seen_by result.0)) count) }
+    ensures lines { (n : ℕ) → result.1 ≡ Round.Lines n → IsPage scene.now mode (made_in (seen_by result.0)) count n page.new.items }
     ensures ended { result.1 ≡ Round.Ended → HasEnded scene.now (seen_by result.0) × (count ≡ length (made_in (seen_by result.0))) }
 {
     let mut held = book.hold(rt, pass);
     let stepped = held.value_mut().lead(registering);
     let has_tried = registering && stepped == Stepped::Nothing;
-    let round = look(held.value(), scene, mode, has_tried, count, line);
+    let round = look(held.value(), scene, mode, has_tried, count, page);
     (close(held), round)
 }
 
@@ -140,11 +137,11 @@ fn look<'a>(
     mode: Mode,
     has_tried: bool,
     count: u32,
-    line: &mut LineBuf,
+    page: &mut Page,
 ) -> Round
     requires scene { run.now.kernel.scene ≡ scene.now }
     requires count { count ≤ length run.now.kernel.history }
-    ensures line { result ≡ Round.Line → (count < length run.now.kernel.history) × (line.new.items ≡ line_at scene.now mode run.now.kernel.history count) }
+    ensures lines { (n : ℕ) → result ≡ Round.Lines n → IsPage scene.now mode run.now.kernel.history count n page.new.items }
     ensures ended { result ≡ Round.Ended → HasStopped run.now × (count ≡ length run.now.kernel.history) }
     ensures few { length run.now.kernel.history ≤ most_units }
     ensures legal { Legal run.now.kernel.scene run.now.kernel.history }
@@ -152,8 +149,7 @@ fn look<'a>(
     let _scene = run.kernel.scene();
     let history = run.kernel.history();
     if count < history.len() {
-        history.line(scene, mode, Place(count), line);
-        return Round::Line;
+        return Round::Lines(put_lines(history, scene, mode, count, page));
     }
     if !run.goes_on() {
         return Round::Ended;
@@ -162,27 +158,5 @@ fn look<'a>(
         Round::AllTried
     } else {
         Round::Nothing
-    }
-}
-
-/// How the printing has ended: whether a write failed, and how many pieces were handed out.
-#[derive(Clone, Copy, PartialEq, Eq)]
-pub(crate) struct Printing {
-    pub(crate) failed: bool,
-    pub(crate) pieces: u64,
-}
-
-/// Ends the text.
-fn end_text<K: Sink>(out: &mut K, printer: &mut Printer) -> Printing
-    requires few { printer.old.pieces < 2 ^ 64 - 1 }
-    ensures text { (first : Option (List ℕ)) (text : List ℕ)
-        → IsPrinting printer.old.failed first (K.content out.old) printer.old text
-        → IsPrinted result.failed first (K.content out.new) result.pieces text }
-    ensures cause { RisesAnew printer.old.failed result.failed (K.faults out.old) (K.faults out.new) }
-{
-    printer.finish(out);
-    Printing {
-        failed: printer.failed(),
-        pieces: printer.pieces(),
     }
 }

@@ -3,6 +3,7 @@
 
 mod crew;
 mod lead;
+mod print;
 mod run;
 mod shared;
 mod steps;

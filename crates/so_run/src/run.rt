@@ -11,7 +11,7 @@ ghost use Rattle.so_env.specs.Prints.{cause_of};
 ghost use Rattle.so_run.specs.Runs.{HasRun, HasOpened, IsLed, IsSound};
 
 use crate::crew::Worker;
-use crate::lead::Printing;
+use crate::print::Printing;
 use crate::shared::Run;
 use crate::threads::{Leader, Output, run_all};
 use so_book::{Book, Pass};

@@ -4,7 +4,8 @@ ghost use Rattle.std.specs.Prelude.{All, IsTrue, IsFalse, ◌≡◌, ◌+◌, le
 ghost use Rattle.so_run.specs.Workers.{IsLane, IsMember, IsBack, IsFresh, HasLed};
 
 use crate::crew::Worker;
-use crate::lead::{Printing, lead_run};
+use crate::lead::lead_run;
+use crate::print::Printing;
 use crate::shared::Run;
 use so_book::{Book, Pass};
 use so_history::Mode;

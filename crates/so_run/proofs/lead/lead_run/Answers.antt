@@ -1,11 +1,11 @@
-use Rattle.std.proofs.Common.{rules, ◌≡◌, ◌≤◌, ◌<◌, ℕ, List, length, length-append, arith, sym, refl, ◌∙◌, ap, subst}
+use Rattle.std.proofs.Common.{rules, ◌≡◌, ◌≤◌, List, length, length-append, arith, sym, refl, ◌∙◌, ap, subst}
 use Rattle.so_ids.specs.Limits.{most_units}
 use Rattle.so_book.specs.Passes.{seen_by}
 use Rattle.so_run.specs.declared.shared.Line.{Line}
 use Rattle.so_run.specs.Lines.{made_in, opened_in}
 use Rattle.so_run.specs.Knowing.{Knows}
-use Rattle.so_run.specs.Printing.{HasPrinted}
-use Rattle.so_run.proofs.PrintLaws.{printed_none, printed_longer, printed_line, printed_all}
+use Rattle.so_run.specs.Printing.{IsPage, HasPrinted}
+use Rattle.so_run.proofs.PrintLaws.{printed_none, printed_longer, printed_page, printed_all}
 use Rattle.so_run.proofs.lead.lead_run.Goals as goal
 
 pub loop-init : goal.loop-init
@@ -20,13 +20,16 @@ loop-init g c = record {
   lanes = refl;
 }
 
-pub add-requires-clause-few : goal.add-requires-clause-few
-add-requires-clause-few g c = omega (arith, c.loop.invariant.printed.few, c.loop.invariant.count, c.loop.invariant.few)
+pub print_page-requires-clause-few : goal.print_page-requires-clause-few
+print_page-requires-clause-few g c = omega (arith, c.loop.invariant.printed.few, c.loop.invariant.count, c.loop.invariant.few)
 
-pub loop-preserved-in-Line : goal.loop-preserved-in-Line
-loop-preserved-in-Line g c =
+pub overflow_add-count : goal.overflow_add-count
+overflow_add-count g c = omega (arith, (c.make_round-after.ensures.lines c.in-Lines.more c.in-Lines.is).there, c.make_round-after.ensures.few)
+
+pub loop-preserved-in-Lines : goal.loop-preserved-in-Lines
+loop-preserved-in-Lines g c =
     let later = c.make_round-after.ensures.later in
-    let line = c.make_round-after.ensures.line c.in-Line.is in
+    let page = c.make_round-after.ensures.lines c.in-Lines.more c.in-Lines.is in
     let now = made_in (seen_by c.make_round-after.result.0) in
     let longer = printed_longer c.args.scene.now c.args.mode _ later.0 now c.loop.count c.loop.printer (g.K.Sink.content c.args.out.now) (g.K.Sink.content c.loop.out) (g.K.Sink.faults c.args.out.now) (g.K.Sink.faults c.loop.out) later.1 c.loop.invariant.printed in
     record {
@@ -34,10 +37,10 @@ loop-preserved-in-Line g c =
       knows = c.make_round-after.ensures.knows;
       opened = c.make_round-after.ensures.opened ∙ c.loop.invariant.opened;
       few = c.make_round-after.ensures.few;
-      count = let less : c.loop.count < length now = line.0 in omega arith;
+      count = page.there;
       printed =
-          printed_line c.args.scene.now c.args.mode c.loop.printer c.add.new.self (g.K.Sink.content c.args.out.now) (g.K.Sink.content c.loop.out) (g.K.Sink.content c.add.new.out) (g.K.Sink.faults c.args.out.now) (g.K.Sink.faults c.loop.out) (g.K.Sink.faults c.add.new.out) c.as_slice.result.now
-          (c.add.ensures.text (g.K.Sink.content c.args.out.now)) c.add.ensures.pieces c.add.ensures.cause now c.loop.count longer line.0 (c.as_slice.ensures.value ∙ line.1);
+          printed_page c.args.scene.now c.args.mode c.loop.printer c.print_page.new.printer (g.K.Sink.content c.args.out.now) (g.K.Sink.content c.loop.out) (g.K.Sink.content c.print_page.new.out) (g.K.Sink.faults c.args.out.now) (g.K.Sink.faults c.loop.out) (g.K.Sink.faults c.print_page.new.out) c.as_slice.result.now
+          (c.print_page.ensures.text (g.K.Sink.content c.args.out.now)) c.print_page.ensures.pieces c.print_page.ensures.cause now c.loop.count c.in-Lines.more longer (subst (IsPage c.args.scene.now c.args.mode now c.loop.count c.in-Lines.more) (sym c.as_slice.ensures.value) page);
       driven = c.drive_all-has_driven.ensures.lanes;
       lanes = c.drive_all-has_driven.ensures.count ∙ c.loop.invariant.lanes;
     }
@@ -75,3 +78,11 @@ loop-preserved g c =
 
 pub end_text-requires : goal.end_text-requires
 end_text-requires g c = omega (arith, c.loop.invariant.printed.few, c.loop.invariant.count, c.loop.invariant.few)
+
+pub returns-in-Ended-clause-printed : goal.returns-in-Ended-clause-printed
+returns-in-Ended-clause-printed g c =
+    let later = c.make_round-after.ensures.later in
+    let now = made_in (seen_by c.make_round-after.result.0) in
+    let longer = printed_longer c.args.scene.now c.args.mode _ later.0 now c.loop.count c.loop.printer (g.K.Sink.content c.args.out.now) (g.K.Sink.content c.loop.out) (g.K.Sink.faults c.args.out.now) (g.K.Sink.faults c.loop.out) later.1 c.loop.invariant.printed in
+    printed_all c.args.scene.now c.args.mode now c.loop.count c.end_text.result.pieces c.end_text.result.failed c.loop.printer (g.K.Sink.content c.args.out.now) (g.K.Sink.content c.loop.out) (g.K.Sink.content c.end_text.new.out) (g.K.Sink.faults c.args.out.now) (g.K.Sink.faults c.loop.out) (g.K.Sink.faults c.end_text.new.out) longer
+    (c.make_round-after.ensures.ended c.in-Ended.is).1 (c.end_text.ensures.text (g.K.Sink.content c.args.out.now)) c.end_text.ensures.cause
